@@ -1,0 +1,6 @@
+-- The laws of the definitions, for the crates above.
+pub mod FieldsLaws
+pub mod SpanLaws
+pub mod SizedLaws
+pub mod BytesLaws
+pub mod EncodeLaws

@@ -1,0 +1,19 @@
+use Rattle.record.specs.Fields.{byte1}
+use borrow.Author.Needs.{needs}
+use Rattle.record.proofs.byte1.Statement.{statement}
+use Rattle.record.proofs.byte1.Tie as tie
+use Rattle.record.proofs.byte1.Reads as reads
+use Rattle.record.proofs.byte1.Lts as lts
+
+sub-result : tie.Need-sub-result
+sub-result c = search needs
+
+shared-slice-read-result : tie.Need-shared-slice-read-result
+shared-slice-read-result c = search needs
+
+returns : tie.Need-returns
+unfolding byte1
+returns c = search needs
+
+pub byte1-spec : {M : Type 1} → statement M
+byte1-spec = tie.close (tie.spec sub-result shared-slice-read-result returns)

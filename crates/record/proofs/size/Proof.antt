@@ -1,0 +1,20 @@
+use Rattle.record.specs.Fields.{size}
+use borrow.Author.Needs.{needs}
+use Rattle.record.proofs.size.Statement.{statement}
+use Rattle.record.proofs.size.Tie as tie
+use Rattle.record.proofs.size.Reads as reads
+use Rattle.record.proofs.size.Lts as lts
+use Rattle.record.proofs.read_u16.Reads as read-u16-reads
+
+sub-read-u16 : tie.Need-sub-read-u16
+sub-read-u16 c = search needs
+
+read-u16-requires : tie.Need-read-u16-requires
+read-u16-requires c κs = search needs
+
+returns : tie.Need-returns
+unfolding size
+returns c = c .read-u16 .ensures
+
+pub size-spec : {M : Type 1} → statement M
+size-spec = tie.close (tie.spec sub-read-u16 read-u16-requires returns)

@@ -1,0 +1,19 @@
+use Rattle.record.specs.Fields.{width}
+use borrow.Author.Needs.{needs}
+use Rattle.record.proofs.width.Statement.{statement}
+use Rattle.record.proofs.width.Tie as tie
+use Rattle.record.proofs.width.Reads as reads
+use Rattle.record.proofs.width.Lts as lts
+
+sub-result : tie.Need-sub-result
+sub-result c = search needs
+
+shared-slice-read-result : tie.Need-shared-slice-read-result
+shared-slice-read-result c = search needs
+
+returns : tie.Need-returns
+unfolding width
+returns c = search needs
+
+pub width-spec : {M : Type 1} → statement M
+width-spec = tie.close (tie.spec sub-result shared-slice-read-result returns)

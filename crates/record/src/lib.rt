@@ -1,0 +1,176 @@
+// Readers of 16-byte records: numbers, the fields of a span's root, and the spans of its children.
+ghost use mathlib.Core.Path.{_≡_};
+ghost use Prim.Native.Nat.{ℕ, _+_, _-_, _*_, _^_, _<_, _≤_};
+ghost use lib.ListN.{length};
+ghost use Rattle.record.specs.Fields.{u16, u32, u64, kind, byte1, varIndex, amount, size, width, spare, literal, arity};
+ghost use Rattle.record.specs.Span.{cut, body, left, right};
+
+fn wide(x: u8) -> u64
+    ensures { λ r. ⌜ (r ≡ x) × (r < 2 ^ 8) ⌝ }
+{
+    x as u64
+}
+
+// The two bytes at i, little-endian.
+pub fn read_u16(t: &[u8], i: usize) -> u64
+    requires { ⌜ i + 1 < length (now t) ⌝ }
+    ensures { λ r. ⌜ (r ≡ u16 (now (t .entry)) i) × (r < 2 ^ 16) ⌝ }
+{
+    wide(t[i]) + wide(t[i + 1]) * 0x100
+}
+
+// The four bytes at i, little-endian.
+pub fn read_u32(t: &[u8], i: usize) -> u64
+    requires { ⌜ i + 3 < length (now t) ⌝ }
+    ensures { λ r. ⌜ (r ≡ u32 (now (t .entry)) i) × (r < 2 ^ 32) ⌝ }
+{
+    read_u16(t, i) + read_u16(t, i + 2) * 0x1_0000
+}
+
+// The eight bytes at i, little-endian.
+pub fn read_u64(t: &[u8], i: usize) -> u64
+    requires { ⌜ i + 7 < length (now t) ⌝ }
+    ensures { λ r. ⌜ r ≡ u64 (now (t .entry)) i ⌝ }
+{
+    read_u32(t, i) + read_u32(t, i + 4) * 0x1_0000_0000
+}
+
+// The kind of the root.
+pub fn kind(t: &[u8]) -> u8
+    requires { ⌜ 16 ≤ length (now t) ⌝ }
+    ensures { λ r. ⌜ r ≡ kind (now (t .entry)) ⌝ }
+{
+    let n = t.len();
+    t[n - 16]
+}
+
+// Byte 1 of the root, as it stands.
+pub fn byte1(t: &[u8]) -> u8
+    requires { ⌜ 16 ≤ length (now t) ⌝ }
+    ensures { λ r. ⌜ r ≡ byte1 (now (t .entry)) ⌝ }
+{
+    let n = t.len();
+    t[n - 15]
+}
+
+// The variable number of a root of kind Variable.
+pub fn var_index(t: &[u8]) -> u64
+    requires { ⌜ 16 ≤ length (now t) ⌝ }
+    ensures { λ r. ⌜ (r ≡ varIndex (now (t .entry))) × (r < 256) ⌝ }
+{
+    wide(byte1(t))
+}
+
+// The shift count of a root of kind Shr, 0 for Not and Neg.
+pub fn amount(t: &[u8]) -> u64
+    requires { ⌜ 16 ≤ length (now t) ⌝ }
+    ensures { λ r. ⌜ (r ≡ amount (now (t .entry))) × (r < 256) ⌝ }
+{
+    wide(byte1(t))
+}
+
+// The size field of the root.
+pub fn size(t: &[u8]) -> u64
+    requires { ⌜ 16 ≤ length (now t) ⌝ }
+    ensures { λ r. ⌜ (r ≡ size (now (t .entry))) × (r < 2 ^ 16) ⌝ }
+{
+    read_u16(t, t.len() - 14)
+}
+
+// The width of the root.
+pub fn width(t: &[u8]) -> u8
+    requires { ⌜ 16 ≤ length (now t) ⌝ }
+    ensures { λ r. ⌜ r ≡ width (now (t .entry)) ⌝ }
+{
+    let n = t.len();
+    t[n - 12]
+}
+
+// The sum of the root's bytes 5 to 7.
+pub fn spare(t: &[u8]) -> u64
+    requires { ⌜ 16 ≤ length (now t) ⌝ }
+    ensures { λ r. ⌜ r ≡ spare (now (t .entry)) ⌝ }
+{
+    let n = t.len();
+    wide(t[n - 11]) + wide(t[n - 10]) + wide(t[n - 9])
+}
+
+// The literal of the root.
+pub fn literal(t: &[u8]) -> u64
+    requires { ⌜ 16 ≤ length (now t) ⌝ }
+    ensures { λ r. ⌜ r ≡ literal (now (t .entry)) ⌝ }
+{
+    read_u64(t, t.len() - 8)
+}
+
+// How many children a kind has.
+pub fn arity(k: u8) -> u8
+    ensures { λ r. ⌜ r ≡ arity k ⌝ }
+{
+    if k < 2 {
+        return 0;
+    }
+    if k < 7 {
+        return 2;
+    }
+    if k < 13 {
+        return 1;
+    }
+    2
+}
+
+// How many children the root has.
+pub fn root_arity(t: &[u8]) -> u8
+    requires { ⌜ 16 ≤ length (now t) ⌝ }
+    ensures { λ r. ⌜ r ≡ arity (kind (now (t .entry))) ⌝ }
+{
+    arity(kind(t))
+}
+
+// Where the right child's span begins, of a root with two children.
+pub fn cut(t: &[u8]) -> usize
+    ensures { λ r. ⌜ (r ≡ cut (now (t .entry))) × (r ≤ length (now (t .entry)) - 16) ⌝ }
+{
+    let n = t.len();
+    if n < 32 {
+        return 0;
+    }
+    let size = read_u16(t, n - 30) as usize;
+    if size * 16 <= n - 16 {
+        return n - 16 - size * 16;
+    }
+    0
+}
+
+// The span of the only child.
+pub fn body(t: &[u8]) -> &[u8]
+    ensures { λ r. ⌜ now r ≡ body (now (t .entry)) ⌝ }
+{
+    let n = t.len();
+    if n < 16 {
+        return &t[..0];
+    }
+    let m = n - 16;
+    &t[..m]
+}
+
+// The span of the left child.
+pub fn left(t: &[u8]) -> &[u8]
+    ensures { λ r. ⌜ now r ≡ left (now (t .entry)) ⌝ }
+{
+    let c = cut(t);
+    &t[..c]
+}
+
+// The span of the right child.
+pub fn right(t: &[u8]) -> &[u8]
+    ensures { λ r. ⌜ now r ≡ right (now (t .entry)) ⌝ }
+{
+    let n = t.len();
+    if n < 16 {
+        return &t[..0];
+    }
+    let c = cut(t);
+    let m = n - 16;
+    &t[c..m]
+}
