@@ -4,3 +4,5 @@ pub mod SpanLaws
 pub mod SizedLaws
 pub mod BytesLaws
 pub mod EncodeLaws
+pub mod DecodeLaws
+pub mod ListsLaws

@@ -1,5 +1,4 @@
--- Laws of `sized` (specs/Span.antt): a span whose size fields are right has a record, and its children's spans are
--- such spans of a smaller size. They are what a walk that falls by the size field cites.
+-- Laws of `sized` (specs/Span.antt): a span whose size fields are right has a record, and so have its children's spans.
 use mathlib.Core.Path.{_≡_, refl, ap, sym, _∙_}
 use Prim.Native.Nat.{ℕ, _+_, _-_, _*_, _≤_, _<_}
 use native.Mathlib.Omega.{arith}
@@ -11,7 +10,7 @@ use lib.Dec.{eqb}
 use borrow.Author.Tests.{eqb-true}
 use Rattle.record.specs.Fields.{kind, size, arity}
 use Rattle.record.specs.Span.{cut, body, left, right, fold, sized}
-use Rattle.record.proofs.SpanLaws.{cut-le, length-body, length-left, length-right, fold-none, fold-leaf, fold-one, fold-two}
+use Rattle.record.proofs.SpanLaws.{fold-none, fold-leaf, fold-one, fold-two}
 
 pub false-true : {A : Type 0} → false ≡ true → A
 false-true e = let z : _≡_ {A = ℕ} 0 1 = cc in absurd (omega arith)
@@ -62,27 +61,3 @@ module _ (s : List ℕ) (ok : sized s ≡ true) where
 
   pub sized-right : (arity (kind s) ≡ 0 → ⊥) → (arity (kind s) ≡ 1 → ⊥) → sized (right s) ≡ true
   sized-right p q = and-true (sized (left s)) (sized (right s)) (two-parts p q .1) .1
-
--- what a walk knows of a child's span r: its size falls, and its size fields are right
-pub record Child (s r : List ℕ) : Type 0 where
-  pub falls : size r < size s
-  pub ok : sized r ≡ true
-
-module _ (s : List ℕ) (ok : sized s ≡ true) where
-  pub body-child : (r : List ℕ) → r ≡ body s → arity (kind s) ≡ 1 → Child s r
-  body-child r e a =
-      let sb = sized-body s ok a in
-      let lb : size (body s) * 16 ≡ length s - 16 = sized-length (body s) sb ∙ length-body s in
-      rw e (record { falls = omega (arith, sized-length s ok, sized-big s ok); ok = sb })
-
-  pub left-child : (r : List ℕ) → r ≡ left s → (arity (kind s) ≡ 0 → ⊥) → (arity (kind s) ≡ 1 → ⊥) → Child s r
-  left-child r e p q =
-      let sl = sized-left s ok p q in
-      let ll : size (left s) * 16 ≡ cut s = sized-length (left s) sl ∙ length-left s in
-      rw e (record { falls = omega (arith, sized-length s ok, sized-big s ok, cut-le s); ok = sl })
-
-  pub right-child : (r : List ℕ) → r ≡ right s → (arity (kind s) ≡ 0 → ⊥) → (arity (kind s) ≡ 1 → ⊥) → Child s r
-  right-child r e p q =
-      let sr = sized-right s ok p q in
-      let lr : size (right s) * 16 ≡ length s - 16 - cut s = sized-length (right s) sr ∙ length-right s in
-      rw e (record { falls = omega (arith, sized-length s ok, sized-big s ok); ok = sr })

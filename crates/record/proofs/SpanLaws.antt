@@ -132,7 +132,7 @@ module _ (P : List ℕ → Type 0) (none : (s : List ℕ) → length s < 16 → 
     (leaf : (s : List ℕ) → 16 ≤ length s → arity (kind s) ≡ 0 → P s)
     (one : (s : List ℕ) → 16 ≤ length s → arity (kind s) ≡ 1 → P (body s) → P s)
     (two : (s : List ℕ) → 16 ≤ length s → (arity (kind s) ≡ 0 → ⊥) → (arity (kind s) ≡ 1 → ⊥)
-        → P (left s) → P (right s) → P s) where
+    → P (left s) → P (right s) → P s) where
   ind-at : (n : ℕ) → ((r : List ℕ) → length r ≤ n → P r) → (s : List ℕ) → length s ≤ suc n
       → Dec (length s < 16) → Dec (arity (kind s) ≡ 0) → Dec (arity (kind s) ≡ 1) → P s
   ind-at n below s h (yes a) b d = none s a

@@ -2,6 +2,7 @@
 ghost use mathlib.Core.Path.{_≡_};
 ghost use Prim.Native.Nat.{ℕ, _+_, _-_, _*_, _^_, _<_, _≤_};
 ghost use lib.ListN.{length};
+ghost use Rattle.record.specs.Lists.{eqList};
 ghost use Rattle.record.specs.Fields.{u16, u32, u64, kind, byte1, varIndex, amount, size, width, spare, literal, arity};
 ghost use Rattle.record.specs.Span.{cut, body, left, right};
 
@@ -173,4 +174,21 @@ pub fn right(t: &[u8]) -> &[u8]
     let c = cut(t);
     let m = n - 16;
     &t[c..m]
+}
+
+// Whether a and b hold the same bytes. Trees are equal when their bytes are.
+pub fn same_bytes(a: &[u8], b: &[u8]) -> bool
+    ensures { λ r. ⌜ r ≡ eqList (now (a .entry)) (now (b .entry)) ⌝ }
+{
+    if a.len() != b.len() {
+        return false;
+    }
+    let mut i = 0;
+    while i < a.len() {
+        if a[i] != b[i] {
+            return false;
+        }
+        i += 1;
+    }
+    true
 }

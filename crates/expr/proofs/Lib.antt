@@ -1,0 +1,7 @@
+-- The laws of the definitions, for the crates above.
+pub mod ValueLaws
+pub mod HashLaws
+pub mod UtilsLaws
+pub mod RefusalLaws
+pub mod ExprValueLaws
+pub mod VarsLaws

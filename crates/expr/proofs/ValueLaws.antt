@@ -1,0 +1,49 @@
+-- Laws of specs/Value.antt: a value has w bits.
+use Prim.Native.Nat.{ℕ, _+_, _-_, _*_, _/_, _%_, _^_, _<_}
+use native.Mathlib.Nat.{mod-lt, lt-of-le-of-lt}
+use lib.Pow.{pow-pos, ones-sub-lt, shr-le}
+use mathlib.Core.List.{List}
+use mathlib.Core.Bool.{Bool, true, false}
+use lib.ListN.{getD}
+use lib.Dec.{eqb}
+use lib.Bits.{bitAnd, bitOr, bitXor, and-le-l, or-lt, xor-lt}
+use Rattle.record.specs.Choice.{when}
+use Rattle.record.specs.Tree.{Tree}
+use Rattle.record.specs.Tree.Tree.{Constant, Variable, Unary, Binary}
+use Rattle.expr.specs.Value.{unary, binary, value}
+
+unary-lt : (w k a x : ℕ) → x < 2 ^ w → unary w k a x < 2 ^ w
+unfolding unary
+unary-lt w k a x h = go (eqb k 7) (eqb k 8) (eqb k 9)
+  where
+    go : (p q r : Bool)
+        → when p (λ _. 2 ^ w - 1 - x)
+        (λ _. when q (λ _. (2 ^ w - x) % 2 ^ w) (λ _. when r (λ _. x / 2 ^ a) (λ _. 0))) < 2 ^ w
+    go true q r = ones-sub-lt w x
+    go false true r = mod-lt (2 ^ w - x) (pow-pos w)
+    go false false true = lt-of-le-of-lt (shr-le x a) h
+    go false false false = pow-pos w
+
+binary-lt : (w k x y : ℕ) → x < 2 ^ w → y < 2 ^ w → binary w k x y < 2 ^ w
+unfolding binary
+binary-lt w k x y h i = go (eqb k 2) (eqb k 3) (eqb k 4) (eqb k 5) (eqb k 6)
+  where
+    go : (a m b c d : Bool)
+        → when a (λ _. (x + y) % 2 ^ w)
+        (λ _. when m (λ _. x * y % 2 ^ w)
+        (λ _. when b (λ _. bitAnd x y)
+        (λ _. when c (λ _. bitOr x y) (λ _. when d (λ _. bitXor x y) (λ _. 0))))) < 2 ^ w
+    go true m b c d = mod-lt (x + y) (pow-pos w)
+    go false true b c d = mod-lt (x * y) (pow-pos w)
+    go false false true c d = lt-of-le-of-lt (and-le-l x y) h
+    go false false false true d = or-lt w x y h i
+    go false false false false true = xor-lt w x y h i
+    go false false false false false = pow-pos w
+
+pub value-lt : (w : ℕ) (vars : List ℕ) (t : Tree) → value w vars t < 2 ^ w
+unfolding value
+value-lt w vars (Constant v) = mod-lt v (pow-pos w)
+value-lt w vars (Variable i) = mod-lt (getD vars i 0) (pow-pos w)
+value-lt w vars (Unary k a t) = unary-lt w k a (value w vars t) (value-lt w vars t)
+value-lt w vars (Binary k l r) =
+    binary-lt w k (value w vars l) (value w vars r) (value-lt w vars l) (value-lt w vars r)

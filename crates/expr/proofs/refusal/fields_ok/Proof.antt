@@ -1,0 +1,31 @@
+use Rattle.expr.specs.Refusal.{fieldsOk, usesByte1}
+use borrow.Author.Tests.{eq-eqb, ne-eqb}
+use mathlib.Core.Path.{sym, _∙_}
+use borrow.Author.Needs.{needs}
+use Rattle.expr.proofs.refusal.fields_ok.Statement.{statement}
+use Rattle.expr.proofs.refusal.fields_ok.Tie as tie
+use Rattle.expr.proofs.refusal.fields_ok.Reads as reads
+use Rattle.expr.proofs.refusal.fields_ok.Lts as lts
+use Rattle.expr.proofs.refusal.uses_byte1.Reads as uses-byte1-reads
+
+returns : tie.Need-returns
+unfolding fieldsOk usesByte1
+returns c = simp (c .if1 .taken)
+
+returns-2 : tie.Need-returns-2
+unfolding fieldsOk
+returns-2 c = simp (ne-eqb _ _ (c .before .if1 .left), ne-eqb _ _ (c .if2 .taken))
+
+uses-byte1-requires : tie.Need-uses-byte1-requires
+uses-byte1-requires c κs = search needs
+
+returns-3 : tie.Need-returns-3
+unfolding fieldsOk
+returns-3 c = simp (ne-eqb _ _ (c .before .before .before .if1 .left), eq-eqb _ _ (c .before .before .if2 .left), sym (c .before .uses-byte1 .ensures) ∙ c .if3 .taken)
+
+returns-4 : tie.Need-returns-4
+unfolding fieldsOk
+returns-4 c = simp (ne-eqb _ _ (c .before .before .before .if1 .left), eq-eqb _ _ (c .before .before .if2 .left), sym (c .before .uses-byte1 .ensures) ∙ c .if3 .left)
+
+pub fields-ok-spec : {M : Type 1} → statement M
+fields-ok-spec = tie.close (tie.spec returns returns-2 uses-byte1-requires returns-3 returns-4)

@@ -1,0 +1,17 @@
+use Rattle.expr.specs.Utils.{isBitwise}
+use borrow.Author.Tests.{lt-ltb, le-ltb}
+use Rattle.expr.proofs.utils.is_bitwise.Statement.{statement}
+use Rattle.expr.proofs.utils.is_bitwise.Tie as tie
+use Rattle.expr.proofs.utils.is_bitwise.Reads as reads
+use Rattle.expr.proofs.utils.is_bitwise.Lts as lts
+
+returns : tie.Need-returns
+unfolding isBitwise
+returns c = simp (lt-ltb _ _ (c .if1 .taken))
+
+returns-2 : tie.Need-returns-2
+unfolding isBitwise
+returns-2 c = simp (le-ltb _ _ (c .if1 .left))
+
+pub is-bitwise-spec : {M : Type 1} → statement M
+is-bitwise-spec = tie.close (tie.spec returns returns-2)
