@@ -1,0 +1,46 @@
+// What users link: every entry point, exported for C. include/hogzelt.h declares them.
+ghost use mathlib.Core.Path.{_≡_};
+ghost use Rattle.arith.specs.Effective.{reduceMask, canChangeMaskTo, canChangeCoefficientTo};
+ghost use Rattle.expr.specs.ExprValue.{IsExprValue};
+
+// The value of an expression under an assignment; returns the refusal, 0 where it is accepted.
+#[no_mangle]
+pub extern "C" fn hogzelt_expr_value(expr: &[u8], vars: &[u64], value: &mut u64) -> u64
+    ensures { λ r. ⌜ IsExprValue (now (expr .entry)) (now (vars .entry)) r (now (value .exit)) ⌝ }
+{
+    expr::expr_value(expr, vars, value)
+}
+
+// The bits of a mask that count beside a coefficient, at w bits.
+#[no_mangle]
+pub extern "C" fn hogzelt_reduce_mask(coeff: u64, mask: u64, w: u32) -> u64
+    ensures { λ r. ⌜ r ≡ reduceMask coeff mask w ⌝ }
+{
+    arith::reduce_mask(coeff, mask, w)
+}
+
+// Whether one mask may stand for another beside a coefficient, at w bits.
+#[no_mangle]
+pub extern "C" fn hogzelt_can_change_mask_to(
+    coeff: u64,
+    old_mask: u64,
+    new_mask: u64,
+    w: u32,
+) -> bool
+    ensures { λ r. ⌜ r ≡ canChangeMaskTo coeff «old_mask» «new_mask» w ⌝ }
+{
+    arith::can_change_mask_to(coeff, old_mask, new_mask, w)
+}
+
+// Whether one coefficient may stand for another before a masked number, at w bits.
+#[no_mangle]
+pub extern "C" fn hogzelt_can_change_coefficient_to(
+    old_coeff: u64,
+    new_coeff: u64,
+    mask: u64,
+    w: u32,
+) -> bool
+    ensures { λ r. ⌜ r ≡ canChangeCoefficientTo «old_coeff» «new_coeff» mask w ⌝ }
+{
+    arith::can_change_coefficient_to(old_coeff, new_coeff, mask, w)
+}
