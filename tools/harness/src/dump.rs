@@ -4,54 +4,62 @@ use crate::entry::{Entry, HASH, REDUCE_MASK, TYPE_NAMES, VALUE};
 use crate::record::{split, RECORD_BYTES};
 use crate::{model, published};
 
-pub fn print(entries: &[Entry], first: usize, last: usize) {
-    for (number, entry) in entries.iter().enumerate() {
-        if (first..=last).contains(&number) {
-            print_entry(number, entry);
-        }
-    }
+/// The entries `first` to `last`.
+pub fn text(entries: &[Entry], first: usize, last: usize) -> String {
+    entries
+        .iter()
+        .enumerate()
+        .filter(|(number, _)| (first..=last).contains(number))
+        .map(|(number, entry)| entry_text(number, entry))
+        .collect()
 }
 
-fn print_entry(number: usize, entry: &Entry) {
+fn entry_text(number: usize, entry: &Entry) -> String {
     let name = TYPE_NAMES
         .get(usize::from(entry.kind))
         .unwrap_or(&"unknown type");
     let (refusal, expected) = (entry.refusal, entry.expected);
-    println!("{number}: {name}, refusal {refusal}, expected {expected:016x}");
     let words: Vec<String> = entry.words.iter().map(|word| format!("{word:x}")).collect();
-    println!("    words: {}", words.join(" "));
-    if entry.kind == VALUE || entry.kind == HASH {
-        print_expression(&entry.expr);
-    }
+    let expression = if entry.kind == VALUE || entry.kind == HASH {
+        expression_text(&entry.expr)
+    } else {
+        String::new()
+    };
+    format!(
+        "{number}: {name}, refusal {refusal}, expected {expected:016x}\n\
+         \x20   words: {}\n{expression}",
+        words.join(" ")
+    )
 }
 
 /// Infix text where the file is well formed, else its bytes, a record to a line.
-fn print_expression(file: &[u8]) {
-    println!("    expression: {} bytes", file.len());
+fn expression_text(file: &[u8]) -> String {
+    let mut text = format!("    expression: {} bytes\n", file.len());
     let whole = !file.is_empty() && file.len().is_multiple_of(RECORD_BYTES);
     if whole && model::well_formed(&split(file)) {
-        println!("    width {}: {}", file[4], published::text(&split(file)));
-        return;
+        let infix = published::text(&split(file));
+        return text + &format!("    width {}: {infix}\n", file[4]);
     }
     for line in file.chunks(RECORD_BYTES) {
         let digits: Vec<String> = line.iter().map(|byte| format!("{byte:02x}")).collect();
-        println!("    {}", digits.join(" "));
+        text += &format!("    {}\n", digits.join(" "));
     }
+    text
 }
 
-/// The rows of the table in docs/VECTORS.md: entries by type and outcome.
-pub fn print_counts(entries: &[Entry]) {
-    println!("| type | outcome | entries |");
-    println!("|---|---|---|");
+/// The table in docs/VECTORS.md: entries by type and outcome.
+pub fn counts(entries: &[Entry]) -> String {
+    let mut text = "| type | outcome | entries |\n|---|---|---|\n".to_string();
     for (kind, name) in (0u8..).zip(TYPE_NAMES).skip(1) {
         for wanted in outcomes(kind) {
             let count = entries
                 .iter()
                 .filter(|entry| entry.kind == kind && outcome(entry) == wanted)
                 .count();
-            println!("| {kind} {name} | {wanted} | {count} |");
+            text += &format!("| {kind} {name} | {wanted} | {count} |\n");
         }
     }
+    text
 }
 
 fn outcomes(kind: u8) -> Vec<&'static str> {

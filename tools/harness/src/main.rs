@@ -22,6 +22,7 @@ mod stack;
 #[cfg(test)]
 mod tests;
 
+use std::io::{ErrorKind, Write};
 use std::process::ExitCode;
 
 fn main() -> ExitCode {
@@ -52,16 +53,26 @@ fn write_vectors(out: &str) -> Result<(), String> {
     let entries = cases::entries();
     let file = entry::write(&entries);
     std::fs::write(out, &file).map_err(|e| format!("{out}: {e}"))?;
-    println!("{} entries, {} bytes", entries.len(), file.len());
-    dump::print_counts(&entries);
-    Ok(())
+    let counts = dump::counts(&entries);
+    show(&format!(
+        "{} entries, {} bytes\n{counts}",
+        entries.len(),
+        file.len()
+    ))
 }
 
 fn dump_vectors(path: &str, first: usize, last: usize) -> Result<(), String> {
     let file = std::fs::read(path).map_err(|e| format!("{path}: {e}"))?;
     let entries = entry::read(&file)?;
-    dump::print(&entries, first, last);
-    Ok(())
+    show(&dump::text(&entries, first, last))
+}
+
+/// Writes to standard output; a reader that stops early is no failure.
+fn show(text: &str) -> Result<(), String> {
+    match std::io::stdout().write_all(text.as_bytes()) {
+        Err(e) if e.kind() != ErrorKind::BrokenPipe => Err(format!("standard output: {e}")),
+        _ => Ok(()),
+    }
 }
 
 fn number_of(word: &str) -> Result<usize, String> {
