@@ -1,0 +1,59 @@
+/*
+ * Hogzelt: the functions of the static library libhogzelt.a.
+ *
+ * Every pointer must be valid for its length: expr for expr_len bytes, vars for vars_len words,
+ * value for one word. A pointer with length 0 must not be null and must be aligned. `value` must
+ * not overlap the inputs.
+ */
+#ifndef HOGZELT_H
+#define HOGZELT_H
+
+#include <stdbool.h>
+#include <stddef.h>
+#include <stdint.h>
+
+#ifdef __cplusplus
+extern "C" {
+#endif
+
+/*
+ * The value of an expression file (document 01: tangle file) under an assignment. Returns 0 for
+ * accepted, else the lowest refusal that applies:
+ *   1  length 0, not a multiple of 16 or above 16,384
+ *   3  a kind above 13, a wrong size or a non-zero byte that must be 0
+ *   4  a width that is 0, above 64 or not the same in all records
+ *   5  a cast or Concat
+ *   6  a shift count above 63
+ * *value is the value, below 2^w, and 0 beside a refusal. The assignment is vars_len words:
+ * variable i is word i modulo 2^w, and 0 beyond the end.
+ */
+uint64_t hogzelt_expr_value(const uint8_t *expr, size_t expr_len, const uint64_t *vars,
+                            size_t vars_len, uint64_t *value);
+
+/*
+ * The bits of mask that can reach coeff * (mask & x) modulo 2^w: those below w less the trailing
+ * zeros of coeff, none where the trailing zeros reach w. A coefficient of 0 has 64 of them. Every
+ * width is accepted.
+ */
+uint64_t hogzelt_reduce_mask(uint64_t coeff, uint64_t mask, uint32_t w);
+
+/*
+ * Whether old_mask and new_mask agree on every bit that hogzelt_reduce_mask keeps for coeff; up to
+ * width 64: whether coeff * (old_mask & x) = coeff * (new_mask & x) modulo 2^w for all x. Every
+ * width is accepted.
+ */
+bool hogzelt_can_change_mask_to(uint64_t coeff, uint64_t old_mask, uint64_t new_mask, uint32_t w);
+
+/*
+ * Whether no bit of mask is kept by hogzelt_reduce_mask for old_coeff - new_coeff, taken modulo
+ * 2^w and modulo 2^64; up to width 64: whether old_coeff * (mask & x) = new_coeff * (mask & x)
+ * modulo 2^w for all x. Every width is accepted.
+ */
+bool hogzelt_can_change_coefficient_to(uint64_t old_coeff, uint64_t new_coeff, uint64_t mask,
+                                       uint32_t w);
+
+#ifdef __cplusplus
+}
+#endif
+
+#endif

@@ -1,0 +1,59 @@
+#!/usr/bin/env bash
+# The Rust harness. It compiles the published Rust sources below the directory COBRA_SRC.
+#   run.sh vectors OUT       write the vector file OUT (docs/VECTORS.md) and print its counts
+#   run.sh dump FILE [N]     print a vector file, or its entry N, as text
+#   run.sh test              check the model against document 01's examples and the published Rust
+#   run.sh compare           compare the static library with the model and the published Rust
+#   run.sh stack             measure the stack and the time of hogzelt_expr_value
+# compare and stack build target/staticlib/libhogzelt.a with rt. Where HOGZELT_LIB names an archive
+# libhogzelt.a, that one is taken and nothing is built.
+# Status: 0 done, 1 a difference or a failure, 2 something that the harness needs is missing.
+set -u
+
+stop() {
+    printf 'harness: %s\n' "$*" >&2
+    exit 2
+}
+
+here=$(cd "$(dirname "$0")" && pwd)
+root=$(cd "$here/../.." && pwd)
+command=${1:-}
+
+case "$command" in
+vectors) [ $# -eq 2 ] || stop "usage: run.sh vectors OUT" ;;
+dump) [ $# -eq 2 ] || [ $# -eq 3 ] || stop "usage: run.sh dump FILE [N]" ;;
+test | compare | stack) [ $# -eq 1 ] || stop "usage: run.sh $command" ;;
+*) stop "usage: run.sh vectors OUT | dump FILE [N] | test | compare | stack" ;;
+esac
+
+command -v cargo >/dev/null 2>&1 || stop "cargo is missing"
+[ -n "${COBRA_SRC:-}" ] || stop "COBRA_SRC, the directory of the published sources, is not set"
+for file in core/src/{arith,expr,expr_utils,result} passes/src/bit_partitioner \
+    ir/src/{semilinear,semilinear_normalizer,structure_recovery,term_refiner}; do
+    [ -f "$COBRA_SRC/crates/cobra-$file.rs" ] || stop "COBRA_SRC has no crates/cobra-$file.rs"
+done
+COBRA_SRC=$(cd "$COBRA_SRC" && pwd)
+export COBRA_SRC
+
+features=()
+case "$command" in
+compare | stack)
+    if [ -z "${HOGZELT_LIB:-}" ]; then
+        command -v rt >/dev/null 2>&1 || stop "rt is missing, and HOGZELT_LIB is not set"
+        (cd "$root" && rt staticlib hogzelt) || exit 1
+        HOGZELT_LIB=$root/target/staticlib/libhogzelt.a
+    fi
+    [ -f "$HOGZELT_LIB" ] || stop "there is no archive $HOGZELT_LIB"
+    HOGZELT_LIB=$(cd "$(dirname "$HOGZELT_LIB")" && pwd)/libhogzelt.a
+    export HOGZELT_LIB
+    features=(--features library)
+    ;;
+esac
+
+cargo=(--quiet --release --offline --locked --manifest-path "$here/Cargo.toml")
+if [ "$command" = test ]; then
+    cargo test "${cargo[@]}" || exit 1
+    exit 0
+fi
+cargo build "${cargo[@]}" "${features[@]}" || exit 1
+exec "$here/target/release/harness" "$@"

@@ -1,0 +1,113 @@
+//! All cases of the vector file: the hand-chosen expression files, random and damaged ones, hashes
+//! and calls of the mask functions.
+
+use crate::entry::{self, Entry, CHANGE_COEFFICIENT, CHANGE_MASK, REDUCE_MASK};
+use crate::prng::Prng;
+use crate::random::{self, Kinds};
+use crate::record::{
+    self, balanced, binary, literal, nested, smallest, unary, variable, ADD, MAX_RECORDS, NEG, SHR,
+    XOR,
+};
+use crate::{edges, masks};
+
+/// The seed of the vector file: the letters of "hogzelt".
+pub const SEED: u64 = 0x0068_6F67_7A65_6C74;
+
+const RANDOM_TREES: usize = 700;
+const RANDOM_ALL_KINDS: usize = 200;
+const DAMAGED_TREES: usize = 400;
+const RANDOM_HASHES: usize = 300;
+const RANDOM_MASKS: usize = 300;
+
+/// All entries of the vector file, in order.
+pub fn entries() -> Vec<Entry> {
+    let mut all = edges::entries();
+    let rng = &mut Prng::new(SEED);
+    all.extend((0..RANDOM_TREES).map(|_| random_value(rng, Kinds::Accepted)));
+    all.extend((0..RANDOM_ALL_KINDS).map(|_| random_value(rng, Kinds::All)));
+    all.extend((0..DAMAGED_TREES).map(|_| damaged_value(rng)));
+    all.extend(whole_files(rng));
+    all.extend(hashes(rng));
+    for call in masks::edges() {
+        all.push(entry::mask(call.kind, call.numbers, call.w));
+    }
+    for kind in [REDUCE_MASK, CHANGE_MASK, CHANGE_COEFFICIENT] {
+        for _ in 0..RANDOM_MASKS {
+            let call = masks::random(rng, kind);
+            all.push(entry::mask(kind, call.numbers, call.w));
+        }
+    }
+    all
+}
+
+/// A random expression of 1 to 40 records under a random assignment.
+pub fn random_value(rng: &mut Prng, kinds: Kinds) -> Entry {
+    let w = random::width(rng);
+    let count = 1 + rng.below(40);
+    let file = record::bytes(&random::expression(rng, count, w, kinds));
+    entry::value(file, random::assignment(rng, w))
+}
+
+/// A damaged copy of a random accepted expression.
+pub fn damaged_value(rng: &mut Prng) -> Entry {
+    let w = random::width(rng);
+    let count = 1 + rng.below(24);
+    let file = record::bytes(&random::expression(rng, count, w, Kinds::Accepted));
+    entry::value(random::damaged(rng, &file), random::assignment(rng, w))
+}
+
+/// Random expressions of the greatest length, whole and damaged.
+fn whole_files(rng: &mut Prng) -> Vec<Entry> {
+    let mut all = Vec::new();
+    for w in [8, 64] {
+        let file = record::bytes(&random::expression(rng, MAX_RECORDS, w, Kinds::Accepted));
+        all.push(entry::value(file.clone(), random::assignment(rng, w)));
+        let words = random::assignment(rng, w);
+        all.push(entry::value(random::damaged(rng, &file), words));
+    }
+    all
+}
+
+fn hashes(rng: &mut Prng) -> Vec<Entry> {
+    let mut all = hash_edges();
+    for _ in 0..RANDOM_HASHES {
+        let w = random::width(rng);
+        let count = 1 + rng.below(40);
+        all.push(entry::hash(&random::expression(
+            rng,
+            count,
+            w,
+            Kinds::Accepted,
+        )));
+    }
+    let whole = random::expression(rng, MAX_RECORDS, 64, Kinds::Accepted);
+    all.push(entry::hash(&whole));
+    all
+}
+
+/// Hashes of leaves, of each kind over leaves, of mirrored children and of the longest files.
+fn hash_edges() -> Vec<Entry> {
+    let mut all = Vec::new();
+    for number in [0, 1, 2, 3, 127, 128, 254, 255] {
+        all.push(entry::hash(&variable(8, number)));
+    }
+    for value in [0, 1, 2, 255, 256, 1 << 32, 1 << 63, u64::MAX] {
+        // literals are hashed uncut: the width does not matter
+        for w in [1, 8, 64] {
+            all.push(entry::hash(&literal(w, value)));
+        }
+    }
+    for count in [0, 1, 31, 32, 62, 63] {
+        all.push(entry::hash(&unary(SHR, count, variable(8, 0))));
+    }
+    for kind in ADD..=NEG {
+        all.push(entry::hash(&smallest(kind, 0, 8)));
+    }
+    for kind in ADD..=XOR {
+        all.push(entry::hash(&binary(kind, variable(8, 1), variable(8, 0))));
+    }
+    let sum = balanced(ADD, 0, 512, &|i| variable(8, i as u8));
+    all.push(entry::hash(&sum));
+    all.push(entry::hash(&nested(&[NEG], 1023, variable(8, 0))));
+    all
+}

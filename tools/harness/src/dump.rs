@@ -1,0 +1,95 @@
+//! A vector file as text, one block of lines for each entry.
+
+use crate::entry::{Entry, HASH, REDUCE_MASK, TYPE_NAMES, VALUE};
+use crate::record::{split, RECORD_BYTES};
+use crate::{model, published};
+
+/// The entries `first` to `last`.
+pub fn text(entries: &[Entry], first: usize, last: usize) -> String {
+    entries
+        .iter()
+        .enumerate()
+        .filter(|(number, _)| (first..=last).contains(number))
+        .map(|(number, entry)| entry_text(number, entry))
+        .collect()
+}
+
+fn entry_text(number: usize, entry: &Entry) -> String {
+    let name = TYPE_NAMES
+        .get(usize::from(entry.kind))
+        .unwrap_or(&"unknown type");
+    let (refusal, expected) = (entry.refusal, entry.expected);
+    let words: Vec<String> = entry.words.iter().map(|word| format!("{word:x}")).collect();
+    let expression = if entry.kind == VALUE || entry.kind == HASH {
+        expression_text(&entry.expr)
+    } else {
+        String::new()
+    };
+    format!(
+        "{number}: {name}, refusal {refusal}, expected {expected:016x}\n\
+         \x20   words: {}\n{expression}",
+        words.join(" ")
+    )
+}
+
+/// Infix text where the file is well formed, else its bytes, a record to a line.
+fn expression_text(file: &[u8]) -> String {
+    let mut text = format!("    expression: {} bytes\n", file.len());
+    let whole = !file.is_empty() && file.len().is_multiple_of(RECORD_BYTES);
+    if whole && model::well_formed(&split(file)) {
+        let infix = published::text(&split(file));
+        return text + &format!("    width {}: {infix}\n", file[4]);
+    }
+    for line in file.chunks(RECORD_BYTES) {
+        let digits: Vec<String> = line.iter().map(|byte| format!("{byte:02x}")).collect();
+        text += &format!("    {}\n", digits.join(" "));
+    }
+    text
+}
+
+/// The table in docs/VECTORS.md: entries by type and outcome.
+pub fn counts(entries: &[Entry]) -> String {
+    let mut text = "| type | outcome | entries |\n|---|---|---|\n".to_string();
+    for (kind, name) in (0u8..).zip(TYPE_NAMES).skip(1) {
+        for wanted in outcomes(kind) {
+            let count = entries
+                .iter()
+                .filter(|entry| entry.kind == kind && outcome(entry) == wanted)
+                .count();
+            text += &format!("| {kind} {name} | {wanted} | {count} |\n");
+        }
+    }
+    text
+}
+
+fn outcomes(kind: u8) -> Vec<&'static str> {
+    match kind {
+        VALUE => [0, 1, 3, 4, 5, 6].map(refusal_name).to_vec(),
+        HASH => vec!["hash"],
+        REDUCE_MASK => vec!["mask 0", "another mask"],
+        _ => vec!["false", "true"],
+    }
+}
+
+fn outcome(entry: &Entry) -> &'static str {
+    match (entry.kind, entry.expected) {
+        (VALUE, _) => refusal_name(entry.refusal),
+        (HASH, _) => "hash",
+        (REDUCE_MASK, 0) => "mask 0",
+        (REDUCE_MASK, _) => "another mask",
+        (_, 0) => "false",
+        _ => "true",
+    }
+}
+
+fn refusal_name(refusal: u8) -> &'static str {
+    match refusal {
+        0 => "accepted",
+        1 => "refusal 1",
+        3 => "refusal 3",
+        4 => "refusal 4",
+        5 => "refusal 5",
+        6 => "refusal 6",
+        _ => "another refusal",
+    }
+}

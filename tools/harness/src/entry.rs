@@ -1,0 +1,170 @@
+//! The vector file (docs/VECTORS.md): entries of a 16-byte head, words, expression bytes and zero
+//! padding to a multiple of 16 bytes, all numbers little-endian; an end entry closes the file.
+
+use crate::{model, published, record};
+
+pub const HEAD_BYTES: usize = 16;
+pub const MAX_WORDS: usize = 256;
+pub const MAX_EXPR_BYTES: usize = 16_400;
+
+pub const END: u8 = 0;
+pub const VALUE: u8 = 1;
+pub const HASH: u8 = 2;
+pub const REDUCE_MASK: u8 = 3;
+pub const CHANGE_MASK: u8 = 4;
+pub const CHANGE_COEFFICIENT: u8 = 5;
+
+/// The names of the entry types, by number.
+pub const TYPE_NAMES: [&str; 6] = [
+    "end",
+    "expression value",
+    "structural hash",
+    "reduce_mask",
+    "can_change_mask_to",
+    "can_change_coefficient_to",
+];
+
+#[derive(Clone, Debug, PartialEq, Eq)]
+pub struct Entry {
+    pub kind: u8,
+    pub refusal: u8,
+    pub expected: u64,
+    pub words: Vec<u64>,
+    pub expr: Vec<u8>,
+}
+
+/// An entry whose expected refusal and value are the model's.
+pub fn value(expr: Vec<u8>, words: Vec<u64>) -> Entry {
+    let answer = model::answer(&expr, &words);
+    Entry {
+        kind: VALUE,
+        refusal: answer.refusal as u8,
+        expected: answer.value,
+        words,
+        expr,
+    }
+}
+
+/// An entry whose expected hash is the published Rust's. The expression must be accepted.
+pub fn hash(records: &[record::Record]) -> Entry {
+    let expr = record::bytes(records);
+    assert_eq!(
+        model::refusal(&expr),
+        0,
+        "a hash is asked of accepted files"
+    );
+    Entry {
+        kind: HASH,
+        refusal: 0,
+        expected: published::hash(records),
+        words: Vec::new(),
+        expr,
+    }
+}
+
+/// An entry of a mask function: three numbers (the third 0 for `reduce_mask`) and the width.
+pub fn mask(kind: u8, numbers: [u64; 3], w: u32) -> Entry {
+    Entry {
+        kind,
+        refusal: 0,
+        expected: mask_answer(kind, numbers, w),
+        words: vec![numbers[0], numbers[1], numbers[2], u64::from(w)],
+        expr: Vec::new(),
+    }
+}
+
+/// The published Rust's answer for a mask function, false as 0 and true as 1.
+pub fn mask_answer(kind: u8, [a, b, c]: [u64; 3], w: u32) -> u64 {
+    match kind {
+        REDUCE_MASK => published::reduce_mask(a, b, w),
+        CHANGE_MASK => u64::from(published::can_change_mask_to(a, b, c, w)),
+        CHANGE_COEFFICIENT => u64::from(published::can_change_coefficient_to(a, b, c, w)),
+        _ => unreachable!("not a mask function"),
+    }
+}
+
+/// The bytes of a vector file.
+pub fn write(entries: &[Entry]) -> Vec<u8> {
+    let mut out = Vec::new();
+    for entry in entries {
+        write_entry(&mut out, entry);
+    }
+    let end = Entry {
+        kind: END,
+        refusal: 0,
+        expected: entries.len() as u64,
+        words: Vec::new(),
+        expr: Vec::new(),
+    };
+    write_entry(&mut out, &end);
+    out
+}
+
+fn write_entry(out: &mut Vec<u8>, entry: &Entry) {
+    assert!(entry.words.len() <= MAX_WORDS && entry.expr.len() <= MAX_EXPR_BYTES);
+    out.push(entry.kind);
+    out.push(entry.refusal);
+    out.extend((entry.words.len() as u16).to_le_bytes());
+    out.extend((entry.expr.len() as u32).to_le_bytes());
+    out.extend(entry.expected.to_le_bytes());
+    for word in &entry.words {
+        out.extend(word.to_le_bytes());
+    }
+    out.extend(&entry.expr);
+    out.resize(out.len().next_multiple_of(HEAD_BYTES), 0);
+}
+
+/// The entries of a vector file, or what is wrong with it.
+pub fn read(file: &[u8]) -> Result<Vec<Entry>, String> {
+    let mut entries = Vec::new();
+    let mut at = 0;
+    loop {
+        let (entry, next) = read_entry(file, at).ok_or(format!("no whole entry at byte {at}"))?;
+        if entry.kind == END {
+            return check_end(file, next, &entry, entries);
+        }
+        entries.push(entry);
+        at = next;
+    }
+}
+
+fn check_end(
+    file: &[u8],
+    next: usize,
+    end: &Entry,
+    entries: Vec<Entry>,
+) -> Result<Vec<Entry>, String> {
+    if end.expected != entries.len() as u64 {
+        return Err(format!(
+            "the end entry counts {} entries, not {}",
+            end.expected,
+            entries.len()
+        ));
+    }
+    if next != file.len() {
+        return Err(format!("bytes after the end entry, from byte {next}"));
+    }
+    Ok(entries)
+}
+
+/// The entry at byte `at` and the place of the next one.
+fn read_entry(file: &[u8], at: usize) -> Option<(Entry, usize)> {
+    let head = file.get(at..at + HEAD_BYTES)?;
+    let word_count = usize::from(u16::from_le_bytes(head[2..4].try_into().ok()?));
+    let expr_len = u32::from_le_bytes(head[4..8].try_into().ok()?) as usize;
+    let words_at = at + HEAD_BYTES;
+    let expr_at = words_at + 8 * word_count;
+    let next = (expr_at + expr_len).next_multiple_of(HEAD_BYTES);
+    let payload = file.get(..next)?;
+    let entry = Entry {
+        kind: head[0],
+        refusal: head[1],
+        expected: u64::from_le_bytes(head[8..16].try_into().ok()?),
+        words: payload[words_at..expr_at]
+            .chunks_exact(8)
+            .map(|b| u64::from_le_bytes(b.try_into().expect("eight bytes")))
+            .collect(),
+        expr: payload[expr_at..expr_at + expr_len].to_vec(),
+    };
+    Some((entry, next))
+}

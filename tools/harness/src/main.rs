@@ -1,0 +1,80 @@
+//! The harness: vectors for the replay program, and comparisons of the static library with the
+//! published Rust and with the model of document 01. See run.sh for the commands.
+
+include!(concat!(env!("OUT_DIR"), "/published.rs"));
+
+mod cases;
+#[cfg(feature = "library")]
+mod compare;
+mod dump;
+mod edges;
+mod entry;
+#[cfg(feature = "library")]
+mod library;
+mod masks;
+mod model;
+mod prng;
+mod published;
+mod random;
+mod record;
+#[cfg(feature = "library")]
+mod stack;
+#[cfg(test)]
+mod tests;
+
+use std::io::{ErrorKind, Write};
+use std::process::ExitCode;
+
+fn main() -> ExitCode {
+    let words: Vec<String> = std::env::args().skip(1).collect();
+    let words: Vec<&str> = words.iter().map(String::as_str).collect();
+    let done = match words[..] {
+        ["vectors", out] => write_vectors(out),
+        ["dump", file] => dump_vectors(file, 0, usize::MAX),
+        ["dump", file, number] => {
+            number_of(number).and_then(|number| dump_vectors(file, number, number))
+        }
+        #[cfg(feature = "library")]
+        ["compare"] => compare::run(),
+        #[cfg(feature = "library")]
+        ["stack"] => stack::run(),
+        _ => Err("no such command; run.sh lists them".to_string()),
+    };
+    match done {
+        Ok(()) => ExitCode::SUCCESS,
+        Err(message) => {
+            eprintln!("harness: {message}");
+            ExitCode::FAILURE
+        }
+    }
+}
+
+fn write_vectors(out: &str) -> Result<(), String> {
+    let entries = cases::entries();
+    let file = entry::write(&entries);
+    std::fs::write(out, &file).map_err(|e| format!("{out}: {e}"))?;
+    let counts = dump::counts(&entries);
+    show(&format!(
+        "{} entries, {} bytes\n{counts}",
+        entries.len(),
+        file.len()
+    ))
+}
+
+fn dump_vectors(path: &str, first: usize, last: usize) -> Result<(), String> {
+    let file = std::fs::read(path).map_err(|e| format!("{path}: {e}"))?;
+    let entries = entry::read(&file)?;
+    show(&dump::text(&entries, first, last))
+}
+
+/// Writes to standard output; a reader that stops early is no failure.
+fn show(text: &str) -> Result<(), String> {
+    match std::io::stdout().write_all(text.as_bytes()) {
+        Err(e) if e.kind() != ErrorKind::BrokenPipe => Err(format!("standard output: {e}")),
+        _ => Ok(()),
+    }
+}
+
+fn number_of(word: &str) -> Result<usize, String> {
+    word.parse().map_err(|_| format!("{word} is no number"))
+}

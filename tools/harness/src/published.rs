@@ -1,0 +1,66 @@
+//! The published Rust behind the names that the harness uses: expression files become its `Expr`.
+
+use std::sync::Arc;
+
+use crate::core::expr::{render, Expr};
+use crate::ir::semilinear::structural_hash;
+use crate::record::{self, Record};
+
+pub use crate::ir::term_refiner::{can_change_coefficient_to, can_change_mask_to, reduce_mask};
+
+/// The tree of a well-formed expression.
+pub fn expr(records: &[Record]) -> Arc<Expr> {
+    let mut stack: Vec<Arc<Expr>> = Vec::new();
+    for record in records {
+        let node = match record::arity(record.kind) {
+            0 => leaf(record),
+            1 => unary(record, stack.pop().expect("a child")),
+            _ => {
+                let right = stack.pop().expect("a right child");
+                binary(record, stack.pop().expect("a left child"), right)
+            }
+        };
+        stack.push(node);
+    }
+    stack.pop().expect("a root")
+}
+
+fn leaf(record: &Record) -> Arc<Expr> {
+    match record.kind {
+        record::CONSTANT => Expr::constant(record.literal),
+        _ => Expr::variable(u32::from(record.arg)),
+    }
+}
+
+fn unary(record: &Record, child: Arc<Expr>) -> Arc<Expr> {
+    match record.kind {
+        record::NOT => Expr::not(child),
+        record::NEG => Expr::neg(child),
+        record::SHR => Expr::shr(child, u64::from(record.arg)),
+        record::ZEXT => Expr::zext(child, u32::from(record.arg)),
+        record::SEXT => Expr::sext(child, u32::from(record.arg)),
+        _ => Expr::trunc(child, u32::from(record.arg)),
+    }
+}
+
+fn binary(record: &Record, left: Arc<Expr>, right: Arc<Expr>) -> Arc<Expr> {
+    match record.kind {
+        record::ADD => Expr::add(left, right),
+        record::MUL => Expr::mul(left, right),
+        record::AND => Expr::and(left, right),
+        record::OR => Expr::or(left, right),
+        record::XOR => Expr::xor(left, right),
+        _ => Expr::concat(left, right),
+    }
+}
+
+/// `structural_hash` of a well-formed expression.
+pub fn hash(records: &[Record]) -> u64 {
+    structural_hash(&expr(records))
+}
+
+/// A well-formed expression in infix form, variables named v0 to v255.
+pub fn text(records: &[Record]) -> String {
+    let names: Vec<String> = (0..256).map(|i| format!("v{i}")).collect();
+    render(&expr(records), &names, u32::from(records[0].width))
+}
