@@ -1,5 +1,5 @@
 // Expressions in 16-byte records: their refusals, value, structural hash, tests and variables.
-mod hash;
+pub mod hash;
 mod refusal;
 mod utils;
 mod value;

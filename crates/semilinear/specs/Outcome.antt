@@ -1,21 +1,18 @@
--- What an entry point that writes gives, apart from how it is handed over: elements and numbers, or a refusal. One shape
--- for all of them (document 01, "Refusals").
+-- What an entry point that writes gives, apart from how it is handed over: elements and numbers, or a refusal. One
+-- shape for all of them (document 01, "Refusals").
 use mathlib.Core.Path.{_≡_}
-use Prim.Native.Nat.{ℕ, _-_}
-use mathlib.Core.List.{List, [], _∷_, _++_}
-use mathlib.Core.Bool.{Bool, true, false}
+use Prim.Native.Nat.{ℕ}
+use mathlib.Core.List.{List, [], _∷_}
+use mathlib.Core.Bool.{Bool}
 use lib.ListN.{length, replicate}
 use Rattle.record.specs.Choice.{when}
+use Rattle.record.specs.Put.{padded}
 use Rattle.semilinear.specs.Form.{Form, termCount, encodeForm}
 
 -- accepted: the elements at the start of the result slice, and the numbers returned; refused: the refusal's number
 pub data Outcome : Type 0 where
   accepted : List ℕ → List ℕ → Outcome
   refused : ℕ → Outcome
-
--- l at the start of len elements, zeros behind
-unfoldable pub padded : ℕ → List ℕ → List ℕ
-padded len l = l ++ replicate (len - length l) 0
 
 -- the refusal returned, 0 where the call is accepted
 unfoldable pub refusalOf : Outcome → ℕ
