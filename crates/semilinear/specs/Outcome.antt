@@ -35,7 +35,10 @@ pub record Gives (o : Outcome) (len refusal : ℕ) (numbers : List ℕ) (out : L
   pub beside : numbers ≡ numbersOf (length numbers) o
   pub written : out ≡ writtenOf len o
 
--- the outcome of a sheet writer: the form's bytes, their length, the count of terms and a flag (1 or 0)
+-- a flag as a number
+abbrev pub flagNumber : Bool → ℕ
+flagNumber b = when b (λ _. 1) (λ _. 0)
+
+-- the outcome of a writer of a semilinear form: the form's bytes, their length, the count of terms and a flag
 unfoldable pub formOutcome : Form → Bool → Outcome
-formOutcome f flag =
-    accepted (encodeForm f) (length (encodeForm f) ∷ termCount (f .rows) ∷ when flag (λ _. 1) (λ _. 0) ∷ [])
+formOutcome f flag = accepted (encodeForm f) (length (encodeForm f) ∷ termCount (f .rows) ∷ flagNumber flag ∷ [])
