@@ -1,3 +1,6 @@
 -- The laws of the definitions, for the crates above.
 pub mod ItemsLaws
 pub mod DecomposeLaws
+pub mod OutcomeLaws
+pub mod FrontLaws
+pub mod FormLaws
