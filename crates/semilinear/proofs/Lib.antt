@@ -2,3 +2,5 @@
 pub mod ItemsLaws
 pub mod FrontLaws
 pub mod FormLaws
+pub mod ValidLaws
+pub mod AcceptLaws
