@@ -4,3 +4,5 @@ pub mod DecomposeLaws
 pub mod OutcomeLaws
 pub mod FrontLaws
 pub mod FormLaws
+pub mod ValidLaws
+pub mod AcceptLaws
