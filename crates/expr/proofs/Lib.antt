@@ -3,5 +3,8 @@ pub mod ValueLaws
 pub mod HashLaws
 pub mod UtilsLaws
 pub mod RefusalLaws
+pub mod IsExprLaws
 pub mod ExprValueLaws
+pub mod AcceptLaws
 pub mod VarsLaws
+mod ExampleLaws

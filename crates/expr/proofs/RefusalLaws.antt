@@ -4,7 +4,7 @@ use Prim.Native.Nat.{ℕ, suc, _+_, _*_, _≤_, _<_, min}
 use native.Mathlib.Omega.{arith}
 use native.Mathlib.Decide.{decLt, ℕ-discrete}
 use mathlib.Core.List.{List}
-use mathlib.Core.Bool.{Bool, true, false, not, _&&_, _||_}
+use mathlib.Core.Bool.{Bool, true, false, not, _&&_, _||_, or-true}
 use lib.Dec.{eqb, ltb, leb}
 use lib.ListN.{length}
 use borrow.Author.Tests.{eqb-true, eqb-false, leb-true, ltb-true, ltb-false, eq-eqb, ne-eqb, le-ltb, lt-ltb, le-leb}
@@ -14,7 +14,7 @@ use Rattle.record.specs.Span.{body, left, right, sized}
 use Rattle.record.proofs.SpanLaws.{fold-none, fold-leaf, fold-one, fold-two, span-ind}
 use Rattle.record.proofs.SizedLaws.{false-true, and-true}
 use Rattle.record.proofs.FieldsLaws.{kind-of-arity-zero}
-use Rattle.expr.specs.Refusal.{lowest, fieldsOk, sizeOk, formOk, widthOk, rootRefusal, treeRefusal}
+use Rattle.expr.specs.Refusal.{lowest, usesByte1, fieldsOk, sizeOk, formOk, widthOk, rootRefusal, treeRefusal}
 
 -- neither of two refusals
 pub lowest-zero : (a b : ℕ) → lowest a b ≡ 0 → (a ≡ 0) × (b ≡ 0)
@@ -48,6 +48,29 @@ pub record Root (w : ℕ) (s : List ℕ) : Type 0 where
 or-false-l : (a b : Bool) → a ≡ false → a || b ≡ true → b ≡ true
 or-false-l a b p e = simp p at e
 
+-- the literal and byte 1 of a kind that has no use for them
+pub fields-literal : (k a v : ℕ) → fieldsOk k a v ≡ true → (k ≡ 0 → ⊥) → v ≡ 0
+unfolding fieldsOk
+fields-literal k a v e h =
+    eqb-true v 0
+    (or-false-l (eqb k 0) (eqb v 0) (ne-eqb k 0 h) (and-true (eqb k 0 || eqb v 0) (usesByte1 k || eqb a 0) e .0))
+
+pub fields-byte1 : (k a v : ℕ) → fieldsOk k a v ≡ true → (k ≡ 1 → ⊥) → k < 9 → a ≡ 0
+unfolding fieldsOk usesByte1
+fields-byte1 k a v e h l =
+    let unused : usesByte1 k ≡ false = simp (ne-eqb k 1 h, le-ltb 8 k (omega arith)) in
+    eqb-true a 0
+    (or-false-l (usesByte1 k) (eqb a 0) unused (and-true (eqb k 0 || eqb v 0) (usesByte1 k || eqb a 0) e .1))
+
+-- and back, for the kinds with children
+pub fields-inner : (k a : ℕ) → k ≤ 9 → (k < 9 → a ≡ 0) → fieldsOk k a 0 ≡ true
+unfolding fieldsOk usesByte1
+fields-inner k a h plain = go (ℕ-discrete k 9)
+  where
+    go : Dec (k ≡ 9) → fieldsOk k a 0 ≡ true
+    go (yes p) = rw p
+    go (no p) = simp (plain (omega arith), or-true)
+
 -- the four tests of a root, all passed
 record Passed (w : ℕ) (s : List ℕ) : Type 0 where
   form : formOk s ≡ true
@@ -75,7 +98,9 @@ passed w s e =
     go true true false true p q r t z = three-zero z
 
 shift-lt : (s : List ℕ) → eqb (kind s) 9 && ltb 63 (amount s) ≡ false → kind s ≡ 9 → amount s < 64
-shift-lt s e h = let z : ltb 63 (amount s) ≡ false = simp (eq-eqb (kind s) 9 h) at e in omega (arith, ltb-false 63 (amount s) z)
+shift-lt s e h =
+    let z : ltb 63 (amount s) ≡ false = simp (eq-eqb (kind s) 9 h) at e in
+    omega (arith, ltb-false 63 (amount s) z)
 
 leaf-size : (s : List ℕ) → not (ltb (kind s) 2) || eqb (length s) 16 ≡ true → kind s < 2 → length s ≡ 16
 leaf-size s e h = eqb-true _ _ (simp (lt-ltb (kind s) 2 h) at e)
@@ -111,10 +136,6 @@ root-of-zero w s e =
       shift = shift-lt s (p .shift);
     }
 
-or-true-r : (a : Bool) → a || true ≡ true
-or-true-r true = refl
-or-true-r false = refl
-
 -- and back
 pub zero-of-root : (w : ℕ) (s : List ℕ) → Root w s → rootRefusal w s ≡ 0
 unfolding rootRefusal formOk sizeOk widthOk
@@ -134,7 +155,7 @@ zero-of-root w s h =
     )
   where
     leaf : Dec (kind s < 2) → not (ltb (kind s) 2) || eqb (length s) 16 ≡ true
-    leaf (yes l) = simp (eq-eqb (length s) 16 (h .leaf-length l), or-true-r (not (ltb (kind s) 2)))
+    leaf (yes l) = simp (eq-eqb (length s) 16 (h .leaf-length l), or-true)
     leaf (no l) = simp (le-ltb (kind s) 2 (omega arith))
 
     low : Dec (kind s ≡ 9) → eqb (kind s) 9 && ltb 63 (amount s) ≡ false

@@ -7,7 +7,7 @@ use mathlib.Core.List.{List, [], _∷_, _++_}
 use lib.ListN.{length, getD, take, drop, length-append, length-drop}
 use lib.Seq.{getD-append-add, getD-drop, take-at}
 use lib.Dec.{lit<}
-use Rattle.record.specs.Fields.{u16, u32, u64, kind, byte1, size, width, literal, spare}
+use Rattle.record.specs.Fields.{u16, u32, u64, kind, byte1, varIndex, size, width, literal, spare}
 use Rattle.record.specs.Span.{cut, body, left, right}
 use Rattle.record.specs.Tree.{recordBytes, IsBytes}
 
@@ -220,3 +220,7 @@ literal-lt s h =
       h (n + 4 + 2),
       h (n + 4 + 2 + 1),
     )
+
+pub var-index-lt : (s : List ℕ) → IsBytes s → varIndex s < 256
+unfolding varIndex byte1
+var-index-lt s h = h _

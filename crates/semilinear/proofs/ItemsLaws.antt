@@ -85,6 +85,25 @@ module _ {A : Type 0} (done : List ℕ → A) (atom : List ℕ → A → A) wher
   unfolding foldAtoms atomsF
   fold-done r e = atomsF-enough (length r) (suc (length r)) r (le-refl _) (omega arith) ∙ simp e
 
+-- induction over the atoms at the front, with the same two cases
+module _ (P : List ℕ → Type 0) (done : (r : List ℕ) → isAtom r ≡ false → P r)
+    (atom : (r : List ℕ) → isAtom r ≡ true → P (afterAtom r) → P r) where
+  ind-at : (n : ℕ) (r : List ℕ) → length r ≤ suc n → ((s : List ℕ) → length s ≤ n → P s)
+      → (b : Bool) → isAtom r ≡ b → P r
+  ind-at n r h below true e = atom r e (below (afterAtom r) (omega (arith, after-shorter r e)))
+  ind-at n r h below false e = done r e
+
+  ind-none : (r : List ℕ) → length r ≤ zero → (b : Bool) → isAtom r ≡ b → P r
+  ind-none r h true e = absurd (omega (arith, atom-room r e .big))
+  ind-none r h false e = done r e
+
+  ind-to : (n : ℕ) (r : List ℕ) → length r ≤ n → P r
+  ind-to zero r h = ind-none r h (isAtom r) refl
+  ind-to (suc n) r h = ind-at n r h (ind-to n) (isAtom r) refl
+
+  pub atoms-ind : (r : List ℕ) → P r
+  atoms-ind r = ind-to (length r) r (le-refl _)
+
 -- ---- the rows
 
 rowsF-enough : (m n i : ℕ) (r q : List ℕ) → length r ≤ m → length r ≤ n → rowsF m i r q ≡ rowsF n i r q
@@ -135,6 +154,10 @@ rows-end i r q e = rowsF-enough (length r) (suc (length r)) i r q (le-refl _) (o
 pub term-big : (q : List ℕ) → isTerm q ≡ true → 16 ≤ length q
 unfolding isTerm
 term-big q e = leb-true 16 (length q) (and-true (leb 16 (length q)) (eqb (frontKind q) 34) e .0)
+
+pub term-kind : (q : List ℕ) → isTerm q ≡ true → frontKind q ≡ 34
+unfolding isTerm
+term-kind q e = eqb-true _ _ (and-true (leb 16 (length q)) (eqb (frontKind q) 34) e .1)
 
 pub has-term-is : (i : ℕ) (q : List ℕ) → hasTerm i q ≡ true → (isTerm q ≡ true) × (frontNumber q ≡ i)
 unfolding hasTerm

@@ -1,3 +1,8 @@
 -- The laws of the definitions, for the crates above.
 pub mod ItemsLaws
 pub mod DecomposeLaws
+pub mod OutcomeLaws
+pub mod FrontLaws
+pub mod FormLaws
+pub mod ValidLaws
+pub mod AcceptLaws
