@@ -66,6 +66,19 @@ form-parts f e =
       rows-ok = t .1;
     }
 
+-- ---- terms
+
+-- the terms of a row and those after it
+module _ (w i : ℕ) (x : Row) (l : List Row) where
+  pub terms-bytes-zero : x .coeff ≡ 0 → termsBytes w i (x ∷ l) ≡ termsBytes w (i + 1) l
+  unfolding termsBytes
+  terms-bytes-zero z = simp (eq-eqb (x .coeff) 0 z)
+
+  pub terms-bytes-some : (x .coeff ≡ 0 → ⊥)
+      → termsBytes w i (x ∷ l) ≡ termBytes w i (x .coeff) ++ termsBytes w (i + 1) l
+  unfolding termsBytes
+  terms-bytes-some z = simp (ne-eqb (x .coeff) 0 z)
+
 -- ---- lengths
 
 pub length-atoms : (w : ℕ) (l : List Row) → length (atomsBytes w l) ≡ 16 * (length l + treeRecords l)
@@ -82,9 +95,10 @@ length-terms w i (x ∷ l) = go (ℕ-discrete (x .coeff) 0) (length-terms w (i +
   where
     go : Dec (x .coeff ≡ 0) → length (termsBytes w (i + 1) l) ≡ 16 * termCount l
         → length (termsBytes w i (x ∷ l)) ≡ 16 * termCount (x ∷ l)
-    go (yes z) below = simp (eq-eqb (x .coeff) 0 z, below)
+    go (yes z) below = simp (terms-bytes-zero w i x l z, eq-eqb (x .coeff) 0 z, below)
     go (no z) below =
-        simp (ne-eqb (x .coeff) 0 z, length-front 34 0 i w (x .coeff) (termsBytes w (i + 1) l)) (omega arith)
+        rw (terms-bytes-some w i x l z, length-front 34 0 i w (x .coeff) (termsBytes w (i + 1) l))
+        (simp (ne-eqb (x .coeff) 0 z) (omega arith))
 
 pub term-count-le : (l : List Row) → termCount l ≤ length l
 unfolding termCount

@@ -4,3 +4,4 @@ pub mod FrontLaws
 pub mod FormLaws
 pub mod ValidLaws
 pub mod AcceptLaws
+pub mod EncodeFormLaws
