@@ -1,5 +1,7 @@
 -- The laws of the definitions, for the crates above.
 pub mod ItemsLaws
+pub mod DecomposeLaws
+pub mod OutcomeLaws
 pub mod FrontLaws
 pub mod FormLaws
 pub mod ValidLaws

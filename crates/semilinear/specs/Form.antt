@@ -7,6 +7,7 @@ use mathlib.Core.Bool.{Bool, true, not, _&&_}
 use lib.ListN.{length}
 use lib.Dec.{eqb, ltb, leb}
 use Rattle.record.specs.Choice.{when}
+use Rattle.record.specs.Lists.{eqList}
 use Rattle.record.specs.Tree.{Tree, sizeOf, recordBytes, encode}
 use Rattle.expr.specs.Refusal.{isExpr}
 use Rattle.expr.specs.Utils.{hasVarDep, hasArith}
@@ -65,6 +66,10 @@ sumBytes w c = recordBytes 32 0 0 w c
 unfoldable pub encodeForm : Form → List ℕ
 encodeForm f =
     (atomsBytes (f .bitwidth) (f .rows) ++ termsBytes (f .bitwidth) 0 (f .rows)) ++ sumBytes (f .bitwidth) (f .constant)
+
+-- trees of width w are equal when their bytes are
+unfoldable pub eqTree : ℕ → Tree → Tree → Bool
+eqTree w t u = eqList (encode w t) (encode w u)
 
 -- ---- validity
 

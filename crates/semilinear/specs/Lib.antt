@@ -4,6 +4,8 @@ pub mod Items
 pub mod Valid
 pub mod DecodeForm
 pub mod Outcome
+pub mod Answers
 pub mod Value
 pub mod Compact
 pub mod Decompose
+pub mod Basis

@@ -1,21 +1,18 @@
--- What an entry point that writes gives, apart from how it is handed over: elements and numbers, or a refusal. One shape
--- for all of them (document 01, "Refusals").
+-- What an entry point that writes gives, apart from how it is handed over: elements and numbers, or a refusal. One
+-- shape for all of them (document 01, "Refusals").
 use mathlib.Core.Path.{_≡_}
-use Prim.Native.Nat.{ℕ, _-_}
-use mathlib.Core.List.{List, [], _∷_, _++_}
-use mathlib.Core.Bool.{Bool, true, false}
+use Prim.Native.Nat.{ℕ}
+use mathlib.Core.List.{List, [], _∷_}
+use mathlib.Core.Bool.{Bool}
 use lib.ListN.{length, replicate}
 use Rattle.record.specs.Choice.{when}
+use Rattle.record.specs.Put.{padded}
 use Rattle.semilinear.specs.Form.{Form, termCount, encodeForm}
 
 -- accepted: the elements at the start of the result slice, and the numbers returned; refused: the refusal's number
 pub data Outcome : Type 0 where
   accepted : List ℕ → List ℕ → Outcome
   refused : ℕ → Outcome
-
--- l at the start of len elements, zeros behind
-unfoldable pub padded : ℕ → List ℕ → List ℕ
-padded len l = l ++ replicate (len - length l) 0
 
 -- the refusal returned, 0 where the call is accepted
 unfoldable pub refusalOf : Outcome → ℕ
@@ -38,7 +35,10 @@ pub record Gives (o : Outcome) (len refusal : ℕ) (numbers : List ℕ) (out : L
   pub beside : numbers ≡ numbersOf (length numbers) o
   pub written : out ≡ writtenOf len o
 
--- the outcome of a sheet writer: the form's bytes, their length, the count of terms and a flag (1 or 0)
+-- a flag as a number
+abbrev pub flagNumber : Bool → ℕ
+flagNumber b = when b (λ _. 1) (λ _. 0)
+
+-- the outcome of a writer of a semilinear form: the form's bytes, their length, the count of terms and a flag
 unfoldable pub formOutcome : Form → Bool → Outcome
-formOutcome f flag =
-    accepted (encodeForm f) (length (encodeForm f) ∷ termCount (f .rows) ∷ when flag (λ _. 1) (λ _. 0) ∷ [])
+formOutcome f flag = accepted (encodeForm f) (length (encodeForm f) ∷ termCount (f .rows) ∷ flagNumber flag ∷ [])
