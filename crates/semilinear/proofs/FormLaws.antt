@@ -8,7 +8,7 @@ use mathlib.Core.Bool.{Bool, true, false, not, _&&_}
 use lib.ListN.{length, length-append}
 use lib.Dec.{eqb, ltb, leb}
 use lib.Pow.{pow-mono}
-use borrow.Author.Tests.{leb-true, ltb-true, eq-eqb, ne-eqb, le-ltb}
+use borrow.Author.Tests.{leb-true, ltb-true, eq-eqb, ne-eqb, le-ltb, lt-ltb, le-leb}
 use Rattle.record.specs.Choice.{when}
 use Rattle.record.specs.Tree.{Tree, sizeOf}
 use Rattle.record.proofs.SizedLaws.{false-true, and-true}
@@ -31,6 +31,10 @@ row-good w x e =
     let p = and-true (leb (x .provenance) 4) (isAtomTree (x .tree) && ltb (x .coeff) (2 ^ w)) e in
     let q = and-true (isAtomTree (x .tree)) (ltb (x .coeff) (2 ^ w)) (p .1) in
     record { known = leb-true _ _ (p .0); atom = q .0; fits = ltb-true _ _ (q .1) }
+
+pub good-row : (w : ℕ) (x : Row) → Good w x → rowOk w x ≡ true
+unfolding rowOk
+good-row w x g = simp (le-leb (x .provenance) 4 (g .known), g .atom, lt-ltb (x .coeff) (2 ^ w) (g .fits))
 
 pub rows-cons : (w : ℕ) (x : Row) (l : List Row) → rowsOk w (x ∷ l) ≡ true → Good w x × (rowsOk w l ≡ true)
 unfolding rowsOk
@@ -66,6 +70,31 @@ form-parts f e =
       rows-ok = t .1;
     }
 
+pub parts-form : (f : Form) → Valid f → validForm f ≡ true
+unfolding validForm fitsTable
+parts-form f v =
+    simp (
+      le-leb 1 (f .bitwidth) (v .width-pos),
+      le-leb (f .bitwidth) 64 (v .width-le),
+      lt-ltb (f .constant) (2 ^ f .bitwidth) (v .fits),
+      le-leb (length (f .rows)) 256 (v .atoms-le),
+      le-leb (treeRecords (f .rows)) 3072 (v .records-le),
+      v .rows-ok,
+    )
+
+-- ---- terms
+
+-- the terms of a row and those after it
+module _ (w i : ℕ) (x : Row) (l : List Row) where
+  pub terms-bytes-zero : x .coeff ≡ 0 → termsBytes w i (x ∷ l) ≡ termsBytes w (i + 1) l
+  unfolding termsBytes
+  terms-bytes-zero z = simp (eq-eqb (x .coeff) 0 z)
+
+  pub terms-bytes-some : (x .coeff ≡ 0 → ⊥)
+      → termsBytes w i (x ∷ l) ≡ termBytes w i (x .coeff) ++ termsBytes w (i + 1) l
+  unfolding termsBytes
+  terms-bytes-some z = simp (ne-eqb (x .coeff) 0 z)
+
 -- ---- lengths
 
 pub length-atoms : (w : ℕ) (l : List Row) → length (atomsBytes w l) ≡ 16 * (length l + treeRecords l)
@@ -82,9 +111,10 @@ length-terms w i (x ∷ l) = go (ℕ-discrete (x .coeff) 0) (length-terms w (i +
   where
     go : Dec (x .coeff ≡ 0) → length (termsBytes w (i + 1) l) ≡ 16 * termCount l
         → length (termsBytes w i (x ∷ l)) ≡ 16 * termCount (x ∷ l)
-    go (yes z) below = simp (eq-eqb (x .coeff) 0 z, below)
+    go (yes z) below = simp (terms-bytes-zero w i x l z, eq-eqb (x .coeff) 0 z, below)
     go (no z) below =
-        simp (ne-eqb (x .coeff) 0 z, length-front 34 0 i w (x .coeff) (termsBytes w (i + 1) l)) (omega arith)
+        rw (terms-bytes-some w i x l z, length-front 34 0 i w (x .coeff) (termsBytes w (i + 1) l))
+        (simp (ne-eqb (x .coeff) 0 z) (omega arith))
 
 pub term-count-le : (l : List Row) → termCount l ≤ length l
 unfolding termCount

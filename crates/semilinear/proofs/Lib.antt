@@ -6,3 +6,4 @@ pub mod FrontLaws
 pub mod FormLaws
 pub mod ValidLaws
 pub mod AcceptLaws
+pub mod EncodeFormLaws
