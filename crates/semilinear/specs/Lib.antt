@@ -7,3 +7,4 @@ pub mod Outcome
 pub mod Value
 pub mod Compact
 pub mod Decompose
+pub mod Scan
