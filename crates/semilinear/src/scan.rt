@@ -65,14 +65,16 @@ fn atoms_ok(f: &[u8], w: u8) -> bool
     ensures { λ b. ⌜ b ≡ atomsOk w (now (f .entry)) ⌝ }
 {
     let mut at = 0;
-    while items::is_atom(&f[at..]) {
-        let r = &f[at..];
+    loop {
+        let r = items::rest_from(f, at);
+        if !items::is_atom(r) {
+            return true;
+        }
         if !atom_ok(r, w) {
             return false;
         }
         at += items::atom_length(r);
     }
-    true
 }
 
 // The atoms at the front of any bytes.
@@ -82,13 +84,15 @@ pub fn atom_table(f: &[u8]) -> AtomTable
     let mut at = 0;
     let mut count: u64 = 0;
     let mut records: u64 = 0;
-    while items::is_atom(&f[at..]) {
-        let r = &f[at..];
+    loop {
+        let r = items::rest_from(f, at);
+        if !items::is_atom(r) {
+            return AtomTable { at: at, count: count, records: records };
+        }
         count += 1;
         records += items::front_number(r);
         at += items::atom_length(r);
     }
-    AtomTable { at: at, count: count, records: records }
 }
 
 // Where the atoms at the front end.
@@ -135,7 +139,7 @@ fn terms_ok(q: &[u8], w: u8, n: u64) -> bool
     let mut at = 0;
     let mut next: u64 = 0;
     while at < q.len() {
-        let rest = &q[at..];
+        let rest = items::rest_from(q, at);
         if !items::is_term(rest) {
             return false;
         }
@@ -193,7 +197,7 @@ fn front_ok(f: &[u8], w: u8) -> bool
         return false;
     }
     let at = found.at;
-    terms_ok(&f[at..], w, n)
+    terms_ok(items::rest_from(f, at), w, n)
 }
 
 // Whether s is a semilinear form.

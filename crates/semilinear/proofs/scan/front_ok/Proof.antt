@@ -6,6 +6,7 @@ use Rattle.semilinear.proofs.scan.front_ok.Statement.{statement}
 use Rattle.semilinear.proofs.scan.front_ok.Tie as tie
 use Rattle.semilinear.proofs.scan.front_ok.Reads as reads
 use Rattle.semilinear.proofs.scan.front_ok.Lts as lts
+use Rattle.semilinear.proofs.items.rest_from.Reads as rest-from-reads
 use Rattle.semilinear.proofs.scan.atom_table.Reads as atom-table-reads
 use Rattle.semilinear.proofs.scan.atoms_ok.Reads as atoms-ok-reads
 use Rattle.semilinear.proofs.scan.terms_ok.Reads as terms-ok-reads
@@ -28,21 +29,15 @@ returns-3 : tie.Need-returns-3
 unfolding frontOk
 returns-3 c = simp (sym (c .before .before .before .before .before .atoms-ok .ensures) ∙ not-false _ (c .before .before .before .before .if1 .left), ← c .before .before .before .atom-table .ensures .number, le-leb _ _ (c .before .before .if2 .left), ← c .before .before .before .atom-table .ensures .trees, lt-leb _ _ (c .if3 .taken))
 
-sub-terms-ok : tie.Need-sub-terms-ok
-sub-terms-ok c = search needs
-
-part-terms-ok-start : tie.Need-part-terms-ok-start
-part-terms-ok-start c = search needs
-
-part-terms-ok-end : tie.Need-part-terms-ok-end
-part-terms-ok-end c = search needs
+rest-from-requires : tie.Need-rest-from-requires
+rest-from-requires c κs = search needs
 
 terms-ok-requires : tie.Need-terms-ok-requires
 terms-ok-requires c κs = search needs
 
 returns-4 : tie.Need-returns-4
 unfolding frontOk
-returns-4 c = simp (sym (c .before .before .before .before .before .before .before .atoms-ok .ensures) ∙ not-false _ (c .before .before .before .before .before .before .if1 .left), ← c .before .before .before .before .before .atom-table .ensures .number, le-leb _ _ (c .before .before .before .before .if2 .left), ← c .before .before .before .before .before .atom-table .ensures .trees, le-leb _ _ (c .before .before .if3 .left), ← c .before .before .before .before .before .atom-table .ensures .end .rest) (c .terms-ok .ensures)
+returns-4 c = simp (sym (c .before .before .before .before .before .before .before .atoms-ok .ensures) ∙ not-false _ (c .before .before .before .before .before .before .if1 .left), ← c .before .before .before .before .before .atom-table .ensures .number, le-leb _ _ (c .before .before .before .before .if2 .left), ← c .before .before .before .before .before .atom-table .ensures .trees, le-leb _ _ (c .before .before .if3 .left), ← c .before .before .before .before .before .atom-table .ensures .end .rest, ← c .before .rest-from .ensures) (c .terms-ok .ensures)
 
 pub front-ok-spec : {M : Type 1} → statement M
 front-ok-spec =
@@ -53,8 +48,6 @@ front-ok-spec =
     atom-table-requires
     returns-2
     returns-3
-    sub-terms-ok
-    part-terms-ok-start
-    part-terms-ok-end
+    rest-from-requires
     terms-ok-requires
     returns-4)
