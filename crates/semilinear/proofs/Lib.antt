@@ -7,3 +7,5 @@ pub mod FormLaws
 pub mod ValidLaws
 pub mod AcceptLaws
 pub mod EncodeFormLaws
+mod TestLaws
+mod ScanLaws
