@@ -9,3 +9,4 @@ pub mod AcceptLaws
 pub mod EncodeFormLaws
 mod TestLaws
 mod ScanLaws
+pub mod SumLaws

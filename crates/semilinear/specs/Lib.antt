@@ -10,3 +10,4 @@ pub mod Compact
 pub mod Decompose
 pub mod Basis
 pub mod Scan
+pub mod Running

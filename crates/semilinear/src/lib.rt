@@ -3,3 +3,4 @@ pub mod decompose;
 pub mod items;
 pub mod outcome;
 pub mod scan;
+pub mod value;
