@@ -3,3 +3,4 @@ pub mod ItemsLaws
 pub mod OutcomeLaws
 pub mod FrontLaws
 pub mod FormLaws
+pub mod TableLaws
