@@ -4,3 +4,4 @@ pub mod OutcomeLaws
 pub mod FrontLaws
 pub mod FormLaws
 pub mod TableLaws
+pub mod HoldsLaws

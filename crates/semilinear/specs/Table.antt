@@ -1,5 +1,6 @@
--- The atom table while a pass adds atoms to it (semilinear.rs 258-285): its numbers, and the lent bytes whose first `at`
--- are the atoms so far. What would pass 256 atoms or 3,072 tree records (refusal 9) makes it full; full, it stays as it is.
+-- The atom table while a pass adds atoms to it (semilinear.rs 258-285): its numbers, and the lent bytes whose first
+-- `at` are the atoms so far. An atom that would pass 256 atoms or 3,072 tree records (refusal 9) makes it full; a full
+-- table stays as it is.
 use Prim.Native.Nat.{ℕ, _+_, _*_, _≤_}
 use mathlib.Core.Path.{_≡_}
 use mathlib.Core.List.{List, _++_}

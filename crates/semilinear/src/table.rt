@@ -12,7 +12,8 @@ ghost use Rattle.semilinear.specs.Table.{Placed, storeOf, emptyTable, at
 // Puts an atom, its head and a copy of its tree t, into out from index `at` on.
 pub fn put_atom(out: &mut [u8], at: usize, t: &[u8], prov: u8, w: u8)
     requires { ⌜ (at + 16 + length (now t) ≤ length (now out)) × (sized (now t) ≡ true) ⌝ }
-    ensures { λ _. ⌜ now (out .exit) ≡ put (now (out .entry)) at (atomSpan w prov (now (t .entry))) ⌝ }
+    ensures { λ _. ⌜ now (out .exit)
+        ≡ put (now (out .entry)) at (atomSpan w prov (now (t .entry))) ⌝ }
 {
     let hash = expr::hash::structural_hash(t);
     record::write::put_record(out, at, 33, prov, record::size(t), w, hash);
@@ -56,7 +57,8 @@ impl Table {
         }
     }
 
-    // Appends an atom with the tree t, whose number is the count before. Corresponds to `create_atom`.
+    // Appends an atom with the tree t; its number is the count before. Corresponds to
+    // `create_atom`.
     pub fn create_atom(mut self, out: &mut [u8], t: &[u8], prov: u8, w: u8) -> Self
         requires { ⌜ Placed self (length (now out)) × (sized (now t) ≡ true) ⌝ }
         ensures { λ r. ⌜ storeOf r (now (out .exit))

@@ -4,7 +4,7 @@ use denote.Ref.{now}
 use native.Mathlib.Omega.{arith}
 use Rattle.record.proofs.SizedLaws.{sized-big, sized-length}
 use Rattle.semilinear.specs.Table.{fullTable}
-use Rattle.semilinear.proofs.TableLaws.{create-full, create-past, past-count, past-records, created}
+use Rattle.semilinear.proofs.TableLaws.{create-full, create-past, fits-more-count, fits-more-records, created}
 use borrow.Author.Needs.{needs}
 use Rattle.semilinear.proofs.table.Table.create_atom.Statement.{statement}
 use Rattle.semilinear.proofs.table.Table.create_atom.Tie as tie
@@ -27,7 +27,7 @@ returns-2 c =
     let a = c .before .before .before .before .before .args in
     sym
     (create-past (a .w) (a .prov) (now (a .t)) (a .self) (now (a .out)) (c .before .before .if1 .left)
-    (past-count (a .self) (now (a .t)) (c .if2 .taken)))
+    (fits-more-count (a .self) (now (a .t)) (c .if2 .taken)))
 
 add-if3 : tie.Need-add-if3
 add-if3 c = search needs
@@ -38,7 +38,7 @@ returns-3 c =
     let a = c .before .before .before .before .before .before .args in
     sym
     (create-past (a .w) (a .prov) (now (a .t)) (a .self) (now (a .out)) (c .before .before .before .if1 .left)
-    (past-records (a .self) (now (a .t)) (omega (arith, c .before .if2 .left))
+    (fits-more-records (a .self) (now (a .t)) (omega (arith, c .before .if2 .left))
     (omega (arith, c .before .before .size .ensures .0, c .if3 .taken))))
 
 put-atom-requires : tie.Need-put-atom-requires
