@@ -10,3 +10,5 @@ pub mod EncodeFormLaws
 mod TestLaws
 mod ScanLaws
 pub mod SumLaws
+pub mod TableLaws
+pub mod HoldsLaws

@@ -5,6 +5,7 @@ pub mod Valid
 pub mod DecodeForm
 pub mod Outcome
 pub mod Answers
+pub mod Table
 pub mod Value
 pub mod Compact
 pub mod Decompose

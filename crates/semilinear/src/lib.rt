@@ -4,3 +4,4 @@ pub mod items;
 pub mod outcome;
 pub mod scan;
 pub mod value;
+pub mod table;
