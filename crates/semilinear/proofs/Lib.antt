@@ -12,3 +12,4 @@ mod ScanLaws
 pub mod SumLaws
 pub mod TableLaws
 pub mod HoldsLaws
+pub mod ValueLaws

@@ -2,12 +2,14 @@
 use mathlib.Core.Path.{_≡_, refl, ap, ap₂, sym, subst, _∙_}
 use Prim.Native.Nat.{ℕ, _+_, _-_, _*_, _%_, _^_, _≤_, _<_}
 use native.Mathlib.Omega.{arith}
-use native.Mathlib.Nat.{mod-lt, mod-eq-of-lt, add-zero, zero-mul, mod-add-mod, add-assoc, add-comm}
+use native.Mathlib.Nat.{mod-lt, mod-eq-of-lt, add-zero, zero-mul, mod-add-mod, add-mod-mod, add-assoc}
 use lib.Pow.{pow-pos}
 use mathlib.Core.List.{List, [], _∷_}
 use mathlib.Core.Bool.{Bool, true, false, _&&_}
 use lib.ListN.{length, drop, length-drop}
 use lib.Seq.{drop-drop}
+use Rattle.arith.specs.Width.{modAdd, modMul}
+use Rattle.arith.proofs.WidthLaws.{mod-add, mod-mul}
 use Rattle.record.specs.Choice.{when}
 use Rattle.record.specs.Decode.{decode}
 use Rattle.record.specs.Span.{sized}
@@ -148,3 +150,10 @@ module _ (w : ℕ) (vars f : List ℕ) (x : Running) (ha : x .at ≤ length f) (
         number = refl;
         sum = simp h′ (rw (eq, er) at hsum);
       }
+
+-- the sum that the code makes of a term
+pub sum-step : (w : ℕ) → w ≤ 64 → (a c v : ℕ) {p s : ℕ} → p ≡ modMul c v w → s ≡ modAdd a p w → s ≡ (a + c * v) % 2 ^ w
+sum-step w hw a c v {p} ep es =
+    es ∙ mod-add a p w hw
+    ∙ ap (λ (x : ℕ). (a + x) % 2 ^ w) (ep ∙ mod-mul c v w hw)
+    ∙ add-mod-mod a (c * v) (2 ^ w)

@@ -3,5 +3,5 @@ pub mod decompose;
 pub mod items;
 pub mod outcome;
 pub mod scan;
-pub mod value;
 pub mod table;
+pub mod value;

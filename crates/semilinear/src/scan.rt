@@ -1,6 +1,5 @@
 // The validator of a semilinear form: refusals 1 and 10. Each atom's tree is walked three times.
 use crate::items;
-
 ghost use mathlib.Core.Path.{_≡_};
 ghost use mathlib.Core.Bool.{true};
 ghost use Prim.Native.Nat.{ℕ, _^_};
@@ -87,7 +86,11 @@ pub fn atom_table(f: &[u8]) -> AtomTable
     loop {
         let r = items::rest_from(f, at);
         if !items::is_atom(r) {
-            return AtomTable { at: at, count: count, records: records };
+            return AtomTable {
+                at: at,
+                count: count,
+                records: records,
+            };
         }
         count += 1;
         records += items::front_number(r);

@@ -1,7 +1,6 @@
 // The value of a semilinear form under an assignment: atoms and terms are read side by side, once.
 use crate::items;
 use crate::scan;
-
 ghost use mathlib.Core.Path.{_≡_};
 ghost use mathlib.Core.Bool.{true};
 ghost use Prim.Native.Nat.{ℕ, _+_, _%_, _^_, _<_, _≤_};
