@@ -8,6 +8,7 @@ use mathlib.Core.Bool.{Bool, true, false, not, _&&_}
 use lib.ListN.{length, take, drop, take-append-drop}
 use lib.Seq.{take-add}
 use lib.Pow.{pow-pos}
+use Rattle.record.specs.Choice.{when}
 use Rattle.record.specs.Fields.{kind, byte1, size, width, literal}
 use Rattle.record.specs.Span.{body}
 use Rattle.record.specs.Tree.{Tree, sizeOf, recordBytes, encode, IsBytes}
@@ -19,12 +20,12 @@ use Rattle.expr.specs.Hash.{structuralHash}
 use Rattle.expr.proofs.AcceptLaws.{accept-encode, accept-expr, size-accepted}
 use Rattle.semilinear.specs.Form.{Row, Form, atomBytes, atomsBytes, termBytes, termsBytes, sumBytes, encodeForm, isAtomTree, rowsOk, treeRecords, validForm}
 use Rattle.semilinear.specs.Items.{frontKind, provenance, frontNumber, frontWidth, frontWord, atomLength, isAtom, treeSpan, afterAtom, atomCount, atomRecords, afterAtoms, isTerm}
-use Rattle.semilinear.specs.Valid.{atomOk, atomsOk, termOk, termsOk, isSemilinear}
+use Rattle.semilinear.specs.Valid.{atomOk, atomsOk, termOk, termsOk, isSemilinear, lengthRefused, semilinearRefusal}
 use Rattle.semilinear.specs.DecodeForm.{hasTerm, coeffAt, afterTerm, rowAt, rowsOf, decodeForm}
 use Rattle.semilinear.proofs.ItemsLaws.{atom-room, length-tree-span, fold-atom, fold-done, atoms-ind, rows-atom, rows-end, term-big, term-kind, has-term-is}
 use Rattle.semilinear.proofs.FrontLaws.{front-record}
-use Rattle.semilinear.proofs.FormLaws.{Good, good-row, Valid, parts-form, terms-bytes-zero, terms-bytes-some}
-use Rattle.semilinear.proofs.ValidLaws.{AtomParts, atom-parts, TermParts, term-parts, terms-first, terms-nil, terms-later, SumParts, FrontParts, semilinear-parts}
+use Rattle.semilinear.proofs.FormLaws.{Good, good-row, Valid, parts-form, form-not-refused, terms-bytes-zero, terms-bytes-some}
+use Rattle.semilinear.proofs.TestsLaws.{AtomParts, atom-parts, TermParts, term-parts, terms-first, terms-nil, terms-later, SumParts, FrontParts, semilinear-parts}
 use Rattle.semilinear.proofs.EncodeFormLaws.{form-accept}
 
 pub bytes-tree-span : (r : List ℕ) → IsBytes r → IsBytes (treeSpan r)
@@ -215,6 +216,24 @@ module _ (s : List ℕ) (h : IsBytes s) (ok : isSemilinear s ≡ true) where
         rows-ok = written .rows-ok;
       }
 
+  -- their length is allowed, so that no refusal applies
+  pub length-accepted : lengthRefused s ≡ false
+  length-accepted = rw form-encode at (form-not-refused (decodeForm s) form-valid)
+
+  pub refusal-none : semilinearRefusal s ≡ 0
+  unfolding semilinearRefusal
+  refusal-none = simp (length-accepted, ok)
+
+pub accepted-semilinear : (s : List ℕ) → semilinearRefusal s ≡ 0 → isSemilinear s ≡ true
+unfolding semilinearRefusal
+accepted-semilinear s e = go (lengthRefused s) (isSemilinear s) refl e
+  where
+    go : (a b : Bool) → isSemilinear s ≡ b
+        → _≡_ {A = ℕ} (when a (λ _. 1) (λ _. when b (λ _. 0) (λ _. 10))) 0 → isSemilinear s ≡ true
+    go true b f z = absurd (omega arith)
+    go false true f z = f
+    go false false f z = absurd (omega arith)
+
 -- ---- both ways
 
 -- bytes are accepted just where they are the bytes of a valid form
@@ -223,4 +242,12 @@ pub semilinears : (s : List ℕ) → IsBytes s
 semilinears s h = (
   λ e. (decodeForm s, form-valid s h e, form-encode s h e),
   λ p. rw (p .2) at (form-accept (p .0) (p .1)),
+)
+
+-- and so where no refusal applies, that of the length included
+pub no-refusal : (s : List ℕ) → IsBytes s
+    → (semilinearRefusal s ≡ 0) ↔ ((f : Form) × (validForm f ≡ true) × (encodeForm f ≡ s))
+no-refusal s h = (
+  λ e. semilinears s h .0 (accepted-semilinear s e),
+  λ p. refusal-none s h (semilinears s h .1 p),
 )

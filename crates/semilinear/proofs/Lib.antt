@@ -5,5 +5,7 @@ pub mod OutcomeLaws
 pub mod FrontLaws
 pub mod FormLaws
 pub mod ValidLaws
+pub mod TestsLaws
 pub mod AcceptLaws
+pub mod RowsLaws
 pub mod EncodeFormLaws
