@@ -9,3 +9,5 @@ pub mod TestsLaws
 pub mod AcceptLaws
 pub mod RowsLaws
 pub mod EncodeFormLaws
+mod TestLaws
+mod ScanLaws

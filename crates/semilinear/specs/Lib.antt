@@ -9,3 +9,4 @@ pub mod Value
 pub mod Compact
 pub mod Decompose
 pub mod Basis
+pub mod Scan

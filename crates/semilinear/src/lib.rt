@@ -2,3 +2,4 @@
 pub mod decompose;
 pub mod items;
 pub mod outcome;
+pub mod scan;
