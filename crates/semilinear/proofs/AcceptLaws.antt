@@ -25,7 +25,7 @@ use Rattle.semilinear.specs.DecodeForm.{hasTerm, coeffAt, afterTerm, row
 use Rattle.semilinear.proofs.ItemsLaws.{atom-room, length-tree-span, fold-atom, fold-done, atoms-ind, rows-atom, rows-end, term-big, term-kind, has-term-is}
 use Rattle.semilinear.proofs.FrontLaws.{front-record}
 use Rattle.semilinear.proofs.FormLaws.{Good, good-row, Valid, parts-form, form-not-refused, terms-bytes-zero, terms-bytes-some}
-use Rattle.semilinear.proofs.TestsLaws.{AtomParts, atom-parts, TermParts, term-parts, terms-first, terms-nil, terms-later, SumParts, FrontParts, semilinear-parts}
+use Rattle.semilinear.proofs.ValidLaws.{AtomParts, atom-parts, TermParts, term-parts, terms-first, terms-nil, terms-later, SumParts, FrontParts, semilinear-parts}
 use Rattle.semilinear.proofs.EncodeFormLaws.{form-accept}
 
 pub bytes-tree-span : (r : List ℕ) → IsBytes r → IsBytes (treeSpan r)

@@ -5,7 +5,6 @@ pub mod OutcomeLaws
 pub mod FrontLaws
 pub mod FormLaws
 pub mod ValidLaws
-pub mod TestsLaws
 pub mod AcceptLaws
 pub mod RowsLaws
 pub mod EncodeFormLaws

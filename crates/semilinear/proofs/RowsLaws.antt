@@ -27,8 +27,7 @@ use Rattle.semilinear.specs.DecodeForm.{hasTerm, coeffAt, afterTerm, row
 use Rattle.semilinear.proofs.ItemsLaws.{fold-atom, fold-done, rows-atom, rows-end}
 use Rattle.semilinear.proofs.FrontLaws.{atom-front, provenance-atom, number-atom, width-atom, spare-atom, word-atom, tree-span-atom, after-atom-atom, term-front, term-not-atom, provenance-term, number-term, width-term, spare-term, word-term, drop-term, has-term-other, coeff-front, after-term-front}
 use Rattle.semilinear.proofs.FormLaws.{Good, rows-cons, Valid, form-parts, terms-bytes-zero, terms-bytes-some}
-use Rattle.semilinear.proofs.ValidLaws.{terms-ok-end, terms-ok-term}
-use Rattle.semilinear.proofs.TestsLaws.{AtomParts, atom-of-parts, TermParts, term-of-parts}
+use Rattle.semilinear.proofs.ValidLaws.{AtomParts, atom-of-parts, TermParts, term-of-parts, terms-end, terms-term}
 
 -- ---- the terms of rows
 
@@ -75,7 +74,7 @@ module _ (w : ℕ) (pos : 1 ≤ w) (le : w ≤ 64) where
   pub terms-accept : (l : List Row) (i j n : ℕ) → rowsOk w l ≡ true → j ≤ i → i + length l ≤ n
       → termsOk w n j (termsBytes w i l) ≡ true
   unfolding termsBytes
-  terms-accept [] i j n ok low high = terms-ok-end w n j [] refl
+  terms-accept [] i j n ok low high = terms-end w n j [] refl
   terms-accept (x ∷ l) i j n ok low high =
       let p = rows-cons w x l ok in
       go (ℕ-discrete (x .coeff) 0) (p .0)
@@ -103,7 +102,7 @@ module _ (w : ℕ) (pos : 1 ≤ w) (le : w ≤ 64) where
             fits = rw word (good .fits);
           } in
           rw (terms-bytes-some w i x l z)
-          (terms-ok-term w n j q (term-front w i c r) ∙ simp (ok, num, drop-term w i c r, next))
+          (terms-term w n j q (term-front w i c r) ∙ simp (ok, num, drop-term w i c r, next))
 
   pub atom-accept : (p : ℕ) (t : Tree) (r : List ℕ) → p ≤ 4 → isAtomTree t ≡ true
       → atomOk w (atomBytes w p t ++ r) ≡ true
