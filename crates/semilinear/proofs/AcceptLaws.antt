@@ -1,32 +1,40 @@
--- Accepted bytes are the bytes of a valid form: the form that they stand for.
-use mathlib.Core.Path.{_≡_, refl, ap, sym, _∙_}
-use Prim.Native.Nat.{ℕ, zero, suc, _+_, _-_, _*_, _^_, _≤_, _<_}
+-- Accepted bytes are the bytes of a valid form, the one that they stand for; with EncodeFormLaws, the theorem both ways:
+-- bytes are accepted just where they are the bytes of a valid form.
+use mathlib.Core.Path.{_≡_, refl, sym, _∙_}
+use Prim.Native.Nat.{ℕ, _+_, _-_, _*_, _^_, _<_}
 use native.Mathlib.Omega.{arith}
 use mathlib.Core.Logic.{_↔_}
 use mathlib.Core.List.{List, [], _∷_, _++_, append-assoc}
-use mathlib.Core.Bool.{Bool, true, false, not, _&&_}
+use mathlib.Core.Bool.{Bool, true, false}
 use lib.ListN.{length, take, drop, take-append-drop}
 use lib.Seq.{take-add}
 use lib.Pow.{pow-pos}
 use Rattle.record.specs.Choice.{when}
-use Rattle.record.specs.Fields.{kind, byte1, size, width, literal}
+use Rattle.record.specs.Fields.{width, literal}
 use Rattle.record.specs.Span.{body}
-use Rattle.record.specs.Tree.{Tree, sizeOf, recordBytes, encode, IsBytes}
+use Rattle.record.specs.Tree.{sizeOf, recordBytes, encode, IsBytes}
 use Rattle.record.specs.Decode.{decode}
 use Rattle.record.proofs.SizedLaws.{and-true}
 use Rattle.record.proofs.SpanLaws.{split-one}
 use Rattle.record.proofs.BytesLaws.{last-record, bytes-take, bytes-drop, bytes-body}
-use Rattle.expr.specs.Hash.{structuralHash}
 use Rattle.expr.proofs.AcceptLaws.{accept-encode, accept-expr, size-accepted}
-use Rattle.semilinear.specs.Form.{Row, Form, atomBytes, atomsBytes, termBytes, termsBytes, sumBytes, encodeForm, isAtomTree, rowsOk, treeRecords, validForm}
-use Rattle.semilinear.specs.Items.{frontKind, provenance, frontNumber, frontWidth, frontWord, atomLength, isAtom, treeSpan, afterAtom, atomCount, atomRecords, afterAtoms, isTerm}
-use Rattle.semilinear.specs.Valid.{atomOk, atomsOk, termOk, termsOk, isSemilinear, lengthRefused, semilinearRefusal}
+use Rattle.semilinear.specs.Form.{Row, Form, atomBytes, atomsBytes, termBytes, termsBytes, sumBytes, encodeForm}
+use Rattle.semilinear.specs.Form.{isAtomTree, rowsOk, treeRecords, validForm}
+use Rattle.semilinear.specs.Items.{provenance, frontNumber, frontWord, atomLength, isAtom, treeSpan, afterAtom}
+use Rattle.semilinear.specs.Items.{atomCount, atomRecords, afterAtoms, isTerm}
+use Rattle.semilinear.specs.Valid.{atomOk, atomsOk, termOk, termsOk, isSemilinear, lengthRefused}
+use Rattle.semilinear.specs.Valid.{semilinearRefusal}
 use Rattle.semilinear.specs.DecodeForm.{hasTerm, coeffAt, afterTerm, rowAt, rowsOf, decodeForm}
-use Rattle.semilinear.proofs.ItemsLaws.{atom-room, length-tree-span, fold-atom, fold-done, atoms-ind, rows-atom, rows-end, term-big, term-kind, has-term-is}
+use Rattle.semilinear.proofs.ItemsLaws.{atom-room, length-tree-span, fold-atom, fold-done, atoms-ind, rows-atom}
+use Rattle.semilinear.proofs.ItemsLaws.{rows-end, term-big, term-kind, has-term-is}
 use Rattle.semilinear.proofs.FrontLaws.{front-record}
-use Rattle.semilinear.proofs.FormLaws.{Good, good-row, Valid, parts-form, form-not-refused, terms-bytes-zero, terms-bytes-some}
-use Rattle.semilinear.proofs.ValidLaws.{AtomParts, atom-parts, TermParts, term-parts, terms-first, terms-nil, terms-later, SumParts, FrontParts, semilinear-parts}
+use Rattle.semilinear.proofs.FormLaws.{Good, good-row, parts-form, form-not-refused, terms-bytes-zero}
+use Rattle.semilinear.proofs.FormLaws.{terms-bytes-some}
+use Rattle.semilinear.proofs.ValidLaws.{atom-parts, term-parts, terms-first, terms-nil, terms-later, SumParts}
+use Rattle.semilinear.proofs.ValidLaws.{FrontParts, semilinear-parts}
 use Rattle.semilinear.proofs.EncodeFormLaws.{form-accept}
+
+-- ---- the atom and the term at the front
 
 pub bytes-tree-span : (r : List ℕ) → IsBytes r → IsBytes (treeSpan r)
 unfolding treeSpan
@@ -44,7 +52,6 @@ module _ (w : ℕ) (r : List ℕ) (h : IsBytes r) (e : isAtom r ≡ true) (ok : 
   atom-bytes =
       let p = atom-parts w r ok in
       let room = atom-room r e in
-      let t : Tree = decode (treeSpan r) in
       let hd = front-record r (room .big) h (p .unused) in
       let same : encode w (decode (treeSpan r)) ≡ treeSpan r =
       accept-encode w (treeSpan r) (bytes-tree-span r h) (p .accepted) in

@@ -1,5 +1,5 @@
 -- The bytes of a valid form: they decode to it, they are accepted, and they are bytes.
-use mathlib.Core.Path.{_≡_, refl}
+use mathlib.Core.Path.{_≡_}
 use Prim.Native.Nat.{ℕ, _+_, _^_, _≤_, _<_}
 use native.Mathlib.Omega.{arith}
 use native.Mathlib.Decide.{ℕ-discrete}
@@ -9,11 +9,13 @@ use lib.ListN.{length}
 use lib.Dec.{lit<}
 use borrow.Author.Tests.{le-leb, lt-ltb}
 use Rattle.record.specs.Tree.{Tree, sizeOf, recordBytes, encode, IsBytes}
-use Rattle.record.proofs.BytesLaws.{record-big, kind-record, byte1-record, size-record, width-record, spare-record, literal-record, body-record, bytes-append, bytes-record}
+use Rattle.record.proofs.BytesLaws.{record-big, kind-record, byte1-record, size-record, width-record, spare-record}
+use Rattle.record.proofs.BytesLaws.{literal-record, body-record, bytes-append, bytes-record}
 use Rattle.expr.specs.Refusal.{isExpr}
 use Rattle.expr.specs.Hash.{structuralHash}
 use Rattle.expr.proofs.IsExprLaws.{bytes-encode}
-use Rattle.semilinear.specs.Form.{Row, Form, atomBytes, atomsBytes, termBytes, termsBytes, sumBytes, encodeForm, rowsOk, treeRecords, validForm}
+use Rattle.semilinear.specs.Form.{Row, Form, atomBytes, atomsBytes, termBytes, termsBytes, sumBytes, encodeForm}
+use Rattle.semilinear.specs.Form.{rowsOk, treeRecords, validForm}
 use Rattle.semilinear.specs.Valid.{sumOk, frontOk, isSemilinear}
 use Rattle.semilinear.specs.DecodeForm.{decodeForm}
 use Rattle.semilinear.proofs.FormLaws.{rows-cons, Valid, form-parts, terms-bytes-zero, terms-bytes-some}

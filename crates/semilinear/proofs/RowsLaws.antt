@@ -1,33 +1,31 @@
 -- The bytes of rows: what is read of the atoms and the terms of valid rows, and that they are as they must be.
-use mathlib.Core.Path.{_≡_, refl, ap, ap₂, sym, _∙_}
-use Prim.Native.Nat.{ℕ, _+_, _-_, _*_, _^_, _≤_, _<_}
+use mathlib.Core.Path.{_≡_, refl, _∙_}
+use Prim.Native.Nat.{ℕ, _+_, _^_, _≤_, _<_}
 use native.Mathlib.Omega.{arith}
 use native.Mathlib.Decide.{ℕ-discrete}
 use mathlib.Core.List.{List, [], _∷_, _++_, append-assoc}
-use mathlib.Core.Bool.{Bool, true, false, not, _&&_}
-use lib.ListN.{length, drop}
-use lib.Dec.{eqb, leb, lit<}
+use mathlib.Core.Bool.{true, false, not, _&&_}
+use lib.ListN.{length}
 use lib.Pow.{pow-mono}
-use borrow.Author.Tests.{eq-eqb, le-leb, lt-ltb}
-use Rattle.record.specs.Fields.{kind, byte1, size, width, literal, spare}
-use Rattle.record.specs.Span.{body}
-use Rattle.record.specs.Tree.{Tree, sizeOf, encode}
-use Rattle.record.specs.Decode.{decode}
+use Rattle.record.specs.Tree.{Tree}
 use Rattle.record.proofs.SizedLaws.{and-true}
-use Rattle.record.proofs.BytesLaws.{record-big, kind-record, byte1-record, size-record, width-record, spare-record, literal-record, body-record}
 use Rattle.expr.specs.Refusal.{isExpr}
 use Rattle.expr.specs.Utils.{hasVarDep, hasArith}
 use Rattle.expr.proofs.HashLaws.{structural-hash-lt}
 use Rattle.expr.proofs.IsExprLaws.{decode-encode}
 use Rattle.expr.proofs.AcceptLaws.{expr-accept}
-use Rattle.semilinear.specs.Form.{Row, Form, atomBytes, atomsBytes, termBytes, termsBytes, sumBytes, encodeForm, isAtomTree, rowsOk, treeRecords, validForm}
+use Rattle.semilinear.specs.Form.{Row, atomBytes, atomsBytes, termBytes, termsBytes, isAtomTree, rowsOk}
+use Rattle.semilinear.specs.Form.{treeRecords}
 use Rattle.semilinear.specs.Items.{frontNumber, isAtom, afterAtom, atomCount, atomRecords, afterAtoms, isTerm}
-use Rattle.semilinear.specs.Valid.{atomOk, atomsOk, termOk, termsOk, sumOk, frontOk, isSemilinear}
-use Rattle.semilinear.specs.DecodeForm.{hasTerm, coeffAt, afterTerm, rowAt, rowsOf, decodeForm}
+use Rattle.semilinear.specs.Valid.{atomOk, atomsOk, termOk, termsOk}
+use Rattle.semilinear.specs.DecodeForm.{hasTerm, coeffAt, afterTerm, rowAt, rowsOf}
 use Rattle.semilinear.proofs.ItemsLaws.{fold-atom, fold-done, rows-atom, rows-end}
-use Rattle.semilinear.proofs.FrontLaws.{atom-front, provenance-atom, number-atom, width-atom, spare-atom, word-atom, tree-span-atom, after-atom-atom, term-front, term-not-atom, provenance-term, number-term, width-term, spare-term, word-term, drop-term, has-term-other, coeff-front, after-term-front}
-use Rattle.semilinear.proofs.FormLaws.{Good, rows-cons, Valid, form-parts, terms-bytes-zero, terms-bytes-some}
-use Rattle.semilinear.proofs.ValidLaws.{AtomParts, atom-of-parts, TermParts, term-of-parts, terms-end, terms-term}
+use Rattle.semilinear.proofs.FrontLaws.{atom-front, provenance-atom, number-atom, width-atom, spare-atom}
+use Rattle.semilinear.proofs.FrontLaws.{word-atom, tree-span-atom, after-atom-atom, term-front, term-not-atom}
+use Rattle.semilinear.proofs.FrontLaws.{provenance-term, number-term, width-term, spare-term, word-term}
+use Rattle.semilinear.proofs.FrontLaws.{drop-term, has-term-other, coeff-front, after-term-front}
+use Rattle.semilinear.proofs.FormLaws.{Good, rows-cons, terms-bytes-zero, terms-bytes-some}
+use Rattle.semilinear.proofs.ValidLaws.{atom-of-parts, term-of-parts, terms-end, terms-term}
 
 -- ---- the terms of rows
 
