@@ -6,6 +6,7 @@ pub mod FrontLaws
 pub mod FormLaws
 pub mod ValidLaws
 pub mod AcceptLaws
+pub mod RowsLaws
 pub mod EncodeFormLaws
 mod TestLaws
 mod ScanLaws
