@@ -5,3 +5,4 @@ pub mod UtilsLaws
 pub mod RefusalLaws
 pub mod ExprValueLaws
 pub mod VarsLaws
+pub mod SupportLaws

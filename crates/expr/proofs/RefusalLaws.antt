@@ -1,6 +1,7 @@
--- Laws of specs/Refusal.antt: what it says of a root and of a span that no refusal applies.
+-- Laws of specs/Refusal.antt: what it says of a root and of a span that no refusal applies, and that the trees of
+-- accepted files can be written.
 use mathlib.Core.Path.{_≡_, refl, ap, sym, _∙_}
-use Prim.Native.Nat.{ℕ, suc, _+_, _*_, _≤_, _<_, min}
+use Prim.Native.Nat.{ℕ, suc, _+_, _*_, _^_, _≤_, _<_, min}
 use native.Mathlib.Omega.{arith}
 use native.Mathlib.Decide.{decLt, ℕ-discrete}
 use mathlib.Core.List.{List}
@@ -11,10 +12,12 @@ use borrow.Author.Tests.{eqb-true, eqb-false, leb-true, ltb-true, ltb-false, eq-
 use Rattle.record.specs.Choice.{when}
 use Rattle.record.specs.Fields.{kind, byte1, size, width, amount, literal, spare, arity}
 use Rattle.record.specs.Span.{body, left, right, sized}
+use Rattle.record.specs.Tree.{Tree, Encodable}
+use Rattle.record.specs.Tree.Tree.{Constant, Variable, Unary, Binary}
 use Rattle.record.proofs.SpanLaws.{fold-none, fold-leaf, fold-one, fold-two, span-ind}
-use Rattle.record.proofs.SizedLaws.{false-true, and-true}
-use Rattle.record.proofs.FieldsLaws.{kind-of-arity-zero}
-use Rattle.expr.specs.Refusal.{lowest, fieldsOk, sizeOk, formOk, widthOk, rootRefusal, treeRefusal}
+use Rattle.record.proofs.SizedLaws.{false-true, and-true, or-of-r, or-cases}
+use Rattle.record.proofs.FieldsLaws.{kind-of-arity-zero, arity-one-of-le, arity-two-of-le}
+use Rattle.expr.specs.Refusal.{lowest, fieldsOk, sizeOk, formOk, widthOk, rootRefusal, treeRefusal, isExpr}
 
 -- neither of two refusals
 pub lowest-zero : (a b : ℕ) → lowest a b ≡ 0 → (a ≡ 0) × (b ≡ 0)
@@ -45,9 +48,6 @@ pub record Root (w : ℕ) (s : List ℕ) : Type 0 where
   pub fields : fieldsOk (kind s) (byte1 s) (literal s) ≡ true
   pub shift : kind s ≡ 9 → amount s < 64
 
-or-false-l : (a b : Bool) → a ≡ false → a || b ≡ true → b ≡ true
-or-false-l a b p e = simp p at e
-
 -- the four tests of a root, all passed
 record Passed (w : ℕ) (s : List ℕ) : Type 0 where
   form : formOk s ≡ true
@@ -75,7 +75,9 @@ passed w s e =
     go true true false true p q r t z = three-zero z
 
 shift-lt : (s : List ℕ) → eqb (kind s) 9 && ltb 63 (amount s) ≡ false → kind s ≡ 9 → amount s < 64
-shift-lt s e h = let z : ltb 63 (amount s) ≡ false = simp (eq-eqb (kind s) 9 h) at e in omega (arith, ltb-false 63 (amount s) z)
+shift-lt s e h =
+    let z : ltb 63 (amount s) ≡ false = simp (eq-eqb (kind s) 9 h) at e in
+    omega (arith, ltb-false 63 (amount s) z)
 
 leaf-size : (s : List ℕ) → not (ltb (kind s) 2) || eqb (length s) 16 ≡ true → kind s < 2 → length s ≡ 16
 leaf-size s e h = eqb-true _ _ (simp (lt-ltb (kind s) 2 h) at e)
@@ -111,10 +113,6 @@ root-of-zero w s e =
       shift = shift-lt s (p .shift);
     }
 
-or-true-r : (a : Bool) → a || true ≡ true
-or-true-r true = refl
-or-true-r false = refl
-
 -- and back
 pub zero-of-root : (w : ℕ) (s : List ℕ) → Root w s → rootRefusal w s ≡ 0
 unfolding rootRefusal formOk sizeOk widthOk
@@ -134,7 +132,7 @@ zero-of-root w s h =
     )
   where
     leaf : Dec (kind s < 2) → not (ltb (kind s) 2) || eqb (length s) 16 ≡ true
-    leaf (yes l) = simp (eq-eqb (length s) 16 (h .leaf-length l), or-true-r (not (ltb (kind s) 2)))
+    leaf (yes l) = or-of-r (not (ltb (kind s) 2)) (eqb (length s) 16) (eq-eqb (length s) 16 (h .leaf-length l))
     leaf (no l) = simp (le-ltb (kind s) 2 (omega arith))
 
     low : Dec (kind s ≡ 9) → eqb (kind s) 9 && ltb 63 (amount s) ≡ false
@@ -213,3 +211,31 @@ module _ (w : ℕ) where
   pub sized-accepted : (s : List ℕ) → treeRefusal w s ≡ 0 → sized s ≡ true
   unfolding Fit
   sized-accepted = span-ind Fit fit-none fit-leaf fit-one fit-two
+
+-- the trees of accepted files can be written
+one-child : (k a : ℕ) → (eqb a 0 && (eqb k 7 || eqb k 8)) || (eqb k 9 && ltb a 64) ≡ true → arity k ≡ 1
+one-child k a e =
+    or-cases (eqb a 0 && (eqb k 7 || eqb k 8)) (eqb k 9 && ltb a 64) e
+    (λ p.
+    or-cases (eqb k 7) (eqb k 8) (and-true (eqb a 0) (eqb k 7 || eqb k 8) p .1)
+    (λ q. is (omega (arith, eqb-true k 7 q))) (λ q. is (omega (arith, eqb-true k 8 q))))
+    (λ p. is (omega (arith, eqb-true k 9 (and-true (eqb k 9) (ltb a 64) p .0))))
+  where
+    is : (7 ≤ k) × (k ≤ 9) → arity k ≡ 1
+    is h = arity-one-of-le k (h .0) (omega arith)
+
+pub encodable-of-is-expr : (t : Tree) → isExpr t ≡ true → Encodable t
+unfolding isExpr Encodable
+encodable-of-is-expr (Constant v) e = ltb-true v (2 ^ 64) e
+encodable-of-is-expr (Variable i) e = ltb-true i 256 e
+encodable-of-is-expr (Unary k a t) e =
+    let p = and-true ((eqb a 0 && (eqb k 7 || eqb k 8)) || (eqb k 9 && ltb a 64)) (isExpr t) e in
+    (one-child k a (p .0), encodable-of-is-expr t (p .1))
+encodable-of-is-expr (Binary k l r) e =
+    let p = and-true (ltb 1 k && ltb k 7) (isExpr l && isExpr r) e in
+    let b = and-true (ltb 1 k) (ltb k 7) (p .0) in
+    let q = and-true (isExpr l) (isExpr r) (p .1) in (
+      arity-two-of-le k (ltb-true 1 k (b .0)) (ltb-true k 7 (b .1)),
+      encodable-of-is-expr l (q .0),
+      encodable-of-is-expr r (q .1),
+    )
