@@ -81,7 +81,7 @@ bit-or a b i = ap (λ (x : ℕ). x % 2) (or-shr a b i) ∙ lowest (a / 2 ^ i) (b
     lowest : (x y : ℕ) → bitOr x y % 2 ≡ max (x % 2) (y % 2)
     lowest x y = omega (arith, or-step x y)
 
-differ-lt : (x y : ℕ) → x < 2 → y < 2 → differ x y < 2
+pub differ-lt : (x y : ℕ) → x < 2 → y < 2 → differ x y < 2
 differ-lt zero y hx hy = hy
 differ-lt (suc x) zero hx hy = hx
 differ-lt (suc x) (suc y) hx hy = differ-lt x y (omega arith) (omega arith)

@@ -1,2 +1,3 @@
 -- The laws of the definitions, for the crates above.
 pub mod CollectLaws
+pub mod TruthLaws

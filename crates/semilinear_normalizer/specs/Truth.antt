@@ -3,13 +3,20 @@
 -- they are equal exactly when those at place 0 are.
 use Prim.Native.Nat.{ℕ, zero, suc, _+_, _-_, _*_, _^_, min, max}
 use mathlib.Core.List.{List, [], _∷_}
-use mathlib.Core.Bool.{Bool, true, false, _&&_, _||_}
+use mathlib.Core.Bool.{Bool, false, not, _&&_, _||_}
 use lib.Dec.{eqb}
 use lib.Bits.{differ}
 use Rattle.arith.specs.Bit.{bitAt}
 use Rattle.record.specs.Choice.{when}
 use Rattle.record.specs.Tree.{Tree}
 use Rattle.record.specs.Tree.Tree.{Constant, Variable, Unary, Binary}
+
+-- a shift by an amount other than 0 occurs
+unfoldable pub hasShift : Tree → Bool
+hasShift (Constant v) = false
+hasShift (Variable i) = false
+hasShift (Unary k a t) = (eqb k 9 && not (eqb a 0)) || hasShift t
+hasShift (Binary k l r) = hasShift l || hasShift r
 
 -- And, Or and Xor of two bits
 unfoldable pub bitBinary : ℕ → ℕ → ℕ → ℕ

