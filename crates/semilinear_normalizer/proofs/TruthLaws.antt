@@ -3,11 +3,11 @@
 use mathlib.Core.Path.{_≡_, refl, ap, ap₂, sym, _∙_}
 use Prim.Native.Nat.{ℕ, zero, suc, _+_, _-_, _*_, _/_, _%_, _^_, _≤_, _<_, min, max}
 use native.Mathlib.Omega.{arith}
-use native.Mathlib.Nat.{div-one}
+use native.Mathlib.Nat.{div-one, mod-eq-of-lt}
 use native.Mathlib.Decide.{ℕ-discrete}
 use mathlib.Core.Logic.{_⊎_, inl, inr}
 use mathlib.Core.List.{List, [], _∷_}
-use mathlib.Core.Bool.{Bool, true, false, not, _&&_, _||_}
+use mathlib.Core.Bool.{Bool, true, false, not, _&&_, _||_, or-true}
 use lib.ListN.{length, getD}
 use lib.Dec.{eqb}
 use lib.Bits.{differ}
@@ -123,3 +123,99 @@ module _ (w p : ℕ) (hp : p < w) where
       let u = binary-bits k l r b in
       bit-binary k (value w vars l) (value w vars r) (u .low) (u .high)
       ∙ ap₂ (bitBinary k) (bit-value vars l (u .child-l)) (bit-value vars r (u .child-r))
+
+-- ---- what a bit depends on
+
+-- on the bits of the variables that occur
+pub bit-of-agree : (p : ℕ) (b c : ℕ → ℕ) (t : Tree) → ((i : ℕ) → occurs i t ≡ true → b i ≡ c i)
+    → bitOf p b t ≡ bitOf p c t
+unfolding bitOf occurs
+bit-of-agree p b c (Constant v) e = refl
+bit-of-agree p b c (Variable i) e = e i (eq-eqb i i refl)
+bit-of-agree p b c (Unary k a t) e =
+    ap (λ (x : ℕ). when (eqb k 7) (λ _. 1 - x) (λ _. x)) (bit-of-agree p b c t e)
+bit-of-agree p b c (Binary k l r) e =
+    ap₂ (bitBinary k) (bit-of-agree p b c l (λ i h. e i (simp h)))
+    (bit-of-agree p b c r (λ i h. e i (simp h (or-true (occurs i l)))))
+
+-- on the place only through the literals
+pub bit-of-place : (p q : ℕ) (b : ℕ → ℕ) (t : Tree) → hasLiteral t ≡ false → bitOf p b t ≡ bitOf q b t
+unfolding bitOf hasKind
+bit-of-place p q b (Constant v) e = false-true (sym e)
+bit-of-place p q b (Variable i) e = refl
+bit-of-place p q b (Unary k a t) e =
+    ap (λ (x : ℕ). when (eqb k 7) (λ _. 1 - x) (λ _. x))
+    (bit-of-place p q b t (or-false (eqb k 0) (hasLiteral t) e .1))
+bit-of-place p q b (Binary k l r) e =
+    let n = or-false (hasLiteral l) (hasLiteral r) (or-false (eqb k 0) (hasLiteral l || hasLiteral r) e .1) in
+    ap₂ (bitBinary k) (bit-of-place p q b l (n .0)) (bit-of-place p q b r (n .1))
+
+bit-binary-lt : (k x y : ℕ) → x < 2 → y < 2 → bitBinary k x y < 2
+unfolding bitBinary
+bit-binary-lt k x y hx hy = go (eqb k 4) (eqb k 5)
+  where
+    go : (a o : Bool) → when a (λ _. min x y) (λ _. when o (λ _. max x y) (λ _. differ x y)) < 2
+    go true o = omega arith
+    go false true = omega arith
+    go false false = differ-lt x y hx hy
+
+pub bit-of-lt : (p : ℕ) (b : ℕ → ℕ) (t : Tree) → ((i : ℕ) → b i < 2) → bitOf p b t < 2
+unfolding bitOf
+bit-of-lt p b (Constant v) h = bit-lt v p
+bit-of-lt p b (Variable i) h = h i
+bit-of-lt p b (Unary k a t) h = go (eqb k 7) (bit-of-lt p b t h)
+  where
+    go : (n : Bool) → bitOf p b t < 2 → when n (λ _. 1 - bitOf p b t) (λ _. bitOf p b t) < 2
+    go true l = omega arith
+    go false l = l
+bit-of-lt p b (Binary k l r) h = bit-binary-lt k (bitOf p b l) (bitOf p b r) (bit-of-lt p b l h) (bit-of-lt p b r h)
+
+-- ---- tables
+
+row-bits-lt : (place : ℕ) (vs : List ℕ) (i v : ℕ) → rowBits place vs i v < 2
+unfolding rowBits
+row-bits-lt place [] i v = omega arith
+row-bits-lt place (x ∷ l) i v = go (eqb x v) (row-bits-lt (place + 1) l i v)
+  where
+    go : (b : Bool) → rowBits (place + 1) l i v < 2 → when b (λ _. bitAt i place) (λ _. rowBits (place + 1) l i v) < 2
+    go true h = bit-lt i place
+    go false h = h
+
+module _ (p : ℕ) (vs : List ℕ) (t : Tree) where
+  row-lt : (i : ℕ) → bitOf p (rowBits 0 vs i) t < 2
+  row-lt i = bit-of-lt p (rowBits 0 vs i) t (row-bits-lt 0 vs i)
+
+  tableF-lt : (m : ℕ) → tableF m p vs t < 2 ^ m
+  unfolding tableF
+  tableF-lt zero = omega arith
+  tableF-lt (suc m) = go (bitOf p (rowBits 0 vs m) t) (row-lt m) (tableF-lt m)
+    where
+      go : (b : ℕ) → b < 2 → tableF m p vs t < 2 ^ m → tableF m p vs t + 2 ^ m * b < 2 ^ suc m
+      go zero h l = omega arith
+      go (suc zero) h l = omega arith
+      go (suc (suc b)) h l = absurd (omega arith)
+
+  tableF-bit : (m i : ℕ) → i < m → bitAt (tableF m p vs t) i ≡ bitOf p (rowBits 0 vs i) t
+  unfolding tableF
+  tableF-bit zero i h = absurd (omega arith)
+  tableF-bit (suc m) i h = ap (λ (x : ℕ). bitAt x i) reordered ∙ go (ℕ-discrete i m) (tableF-bit m i)
+    where
+      b : ℕ
+      b = bitOf p (rowBits 0 vs m) t
+
+      reordered : tableF m p vs t + 2 ^ m * b ≡ b * 2 ^ m + tableF m p vs t
+      reordered = omega arith
+
+      go : Dec (i ≡ m) → (i < m → bitAt (tableF m p vs t) i ≡ bitOf p (rowBits 0 vs i) t)
+          → bitAt (b * 2 ^ m + tableF m p vs t) i ≡ bitOf p (rowBits 0 vs i) t
+      go (yes e) below = rw e (bit-top b m (tableF m p vs t) (tableF-lt m) ∙ mod-eq-of-lt (row-lt m))
+      go (no n) below = bit-under b m (tableF m p vs t) i (tableF-lt m) (omega arith) ∙ below (omega arith)
+
+  -- a table of n variables has 2 ^ n bits, each the tree's bit under the assignment of its number
+  pub table-lt : (n : ℕ) → table p vs n t < 2 ^ (2 ^ n)
+  unfolding table
+  table-lt n = tableF-lt (2 ^ n)
+
+  pub table-bit : (n i : ℕ) → i < 2 ^ n → bitAt (table p vs n t) i ≡ bitOf p (rowBits 0 vs i) t
+  unfolding table
+  table-bit n i h = tableF-bit (2 ^ n) i h
