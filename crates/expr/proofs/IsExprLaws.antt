@@ -1,17 +1,19 @@
 -- Laws of `isExpr` (specs/Refusal.antt): what it says of a root, both ways; such trees have bytes that decode to them.
 use mathlib.Core.Path.{_≡_}
-use Prim.Native.Nat.{ℕ, _^_, _≤_, _<_}
+use Prim.Native.Nat.{ℕ, _+_, _^_, _≤_, _<_}
 use native.Mathlib.Omega.{arith}
 use native.Mathlib.Decide.{ℕ-discrete}
+use mathlib.Core.List.{_++_}
 use mathlib.Core.Bool.{Bool, true, _&&_, _||_, and-false, or-false}
-use lib.Dec.{eqb, ltb}
+use lib.Dec.{eqb, ltb, lit<}
 use borrow.Author.Tests.{eqb-true, ltb-true, ne-eqb, lt-ltb}
 use Rattle.record.specs.Fields.{arity}
-use Rattle.record.specs.Tree.{Tree, encode, Encodable}
+use Rattle.record.specs.Tree.{Tree, sizeOf, encode, IsBytes, Encodable}
 use Rattle.record.specs.Tree.Tree.{Constant, Variable, Unary, Binary}
 use Rattle.record.specs.Decode.{decode}
 use Rattle.record.proofs.FieldsLaws.{arity-one-of-le, arity-two-of-le}
 use Rattle.record.proofs.SizedLaws.{and-true}
+use Rattle.record.proofs.BytesLaws.{bytes-append, bytes-record}
 use Rattle.record.proofs.EncodeLaws.{encoded}
 use Rattle.expr.specs.Refusal.{isExpr}
 
@@ -80,6 +82,13 @@ expr-of-unary k a t u = simp (go (ℕ-discrete k 9) (ℕ-discrete k 7), u .child
     go (no p) (yes q) = simp (q, u .plain (omega (arith, q)))
     go (no p) (no q) = let k8 : k ≡ 8 = omega (arith, u .low, u .high) in simp (k8, u .plain (omega (arith, k8)))
 
+amount-lt : (k a : ℕ) (t : Tree) → UnaryExpr k a t → a < 256
+amount-lt k a t u = go (ℕ-discrete k 9)
+  where
+    go : Dec (k ≡ 9) → a < 256
+    go (yes p) = omega (arith, u .shr p)
+    go (no p) = omega (arith, u .plain (omega (arith, u .high)))
+
 pub unary-arity : (k a : ℕ) (t : Tree) → UnaryExpr k a t → arity k ≡ 1
 unary-arity k a t u = arity-one-of-le k (u .low) (omega (arith, u .high))
 
@@ -118,3 +127,19 @@ expr-encodable (Binary k l r) e =
 
 pub decode-encode : (w : ℕ) (t : Tree) → isExpr t ≡ true → decode (encode w t) ≡ t
 decode-encode w t e = encoded w t (expr-encodable t e) .back
+
+-- the encoding is bytes, where the size fits its two bytes
+pub bytes-encode : (w : ℕ) (t : Tree) → isExpr t ≡ true → w < 256 → sizeOf t < 2 ^ 16 → IsBytes (encode w t)
+unfolding encode sizeOf
+bytes-encode w (Constant v) e hw hn = bytes-record 0 0 1 w v (lit< tt) (lit< tt) hn hw
+bytes-encode w (Variable i) e hw hn = bytes-record 1 i 1 w 0 (lit< tt) (variable-of-expr i e) hn hw
+bytes-encode w (Unary k a t) e hw hn =
+    let u = unary-of-expr k a t e in
+    bytes-append (encode w t) _ (bytes-encode w t (u .child) hw (omega arith))
+    (bytes-record k a (sizeOf t + 1) w 0 (omega (arith, u .high)) (amount-lt k a t u) hn hw)
+bytes-encode w (Binary k l r) e hw hn =
+    let b = binary-of-expr k l r e in
+    let el = bytes-encode w l (b .child-l) hw (omega arith) in
+    let er = bytes-encode w r (b .child-r) hw (omega arith) in
+    bytes-append (encode w l ++ encode w r) _ (bytes-append (encode w l) (encode w r) el er)
+    (bytes-record k 0 (sizeOf l + sizeOf r + 1) w 0 (omega (arith, b .high)) (lit< tt) hn hw)

@@ -59,7 +59,7 @@ put-all d at s = rw take-length
 
 -- ---- zeros behind
 
-drop-zeros : (k n : ℕ) → _≡_ {A = List ℕ} (drop k (replicate n 0)) (replicate (n - k) 0)
+pub drop-zeros : (k n : ℕ) → _≡_ {A = List ℕ} (drop k (replicate n 0)) (replicate (n - k) 0)
 drop-zeros zero n = rw sub-zero
 drop-zeros (suc k) zero = rw zero-sub
 drop-zeros (suc k) (suc n) = rw suc-sub-suc (drop-zeros k n)
@@ -91,3 +91,7 @@ drop-padded len b n =
 pub put-padded : (len : ℕ) (b x : List ℕ) → put (padded len b) (length b) x ≡ padded len (b ++ x)
 unfolding put padded
 put-padded len b x = rw (take-padded len b, drop-padded len b (length x), length-append)
+
+-- the same, with its place as the code has it
+pub put-padded-at : (len : ℕ) (b x : List ℕ) (i : ℕ) → i ≡ length b → put (padded len b) i x ≡ padded len (b ++ x)
+put-padded-at len b x i e = rw e (put-padded len b x)

@@ -1,31 +1,40 @@
--- Accepted bytes are the bytes of a valid form: the form that they stand for.
-use mathlib.Core.Path.{_≡_, refl, ap, sym, _∙_}
-use Prim.Native.Nat.{ℕ, zero, suc, _+_, _-_, _*_, _^_, _≤_, _<_}
+-- Accepted bytes are the bytes of a valid form, the one that they stand for; with EncodeFormLaws, the theorem both ways:
+-- bytes are accepted just where they are the bytes of a valid form.
+use mathlib.Core.Path.{_≡_, refl, sym, _∙_}
+use Prim.Native.Nat.{ℕ, _+_, _-_, _*_, _^_, _<_}
 use native.Mathlib.Omega.{arith}
 use mathlib.Core.Logic.{_↔_}
 use mathlib.Core.List.{List, [], _∷_, _++_, append-assoc}
-use mathlib.Core.Bool.{Bool, true, false, not, _&&_}
+use mathlib.Core.Bool.{Bool, true, false}
 use lib.ListN.{length, take, drop, take-append-drop}
 use lib.Seq.{take-add}
 use lib.Pow.{pow-pos}
-use Rattle.record.specs.Fields.{kind, byte1, size, width, literal}
+use Rattle.record.specs.Choice.{when}
+use Rattle.record.specs.Fields.{width, literal}
 use Rattle.record.specs.Span.{body}
-use Rattle.record.specs.Tree.{Tree, sizeOf, recordBytes, encode, IsBytes}
+use Rattle.record.specs.Tree.{sizeOf, recordBytes, encode, IsBytes}
 use Rattle.record.specs.Decode.{decode}
 use Rattle.record.proofs.SizedLaws.{and-true}
 use Rattle.record.proofs.SpanLaws.{split-one}
 use Rattle.record.proofs.BytesLaws.{last-record, bytes-take, bytes-drop, bytes-body}
-use Rattle.expr.specs.Hash.{structuralHash}
 use Rattle.expr.proofs.AcceptLaws.{accept-encode, accept-expr, size-accepted}
-use Rattle.semilinear.specs.Form.{Row, Form, atomBytes, atomsBytes, termBytes, termsBytes, sumBytes, encodeForm, isAtomTree, rowsOk, treeRecords, validForm}
-use Rattle.semilinear.specs.Items.{frontKind, provenance, frontNumber, frontWidth, frontWord, atomLength, isAtom, treeSpan, afterAtom, atomCount, atomRecords, afterAtoms, isTerm}
-use Rattle.semilinear.specs.Valid.{atomOk, atomsOk, termOk, termsOk, isSemilinear}
+use Rattle.semilinear.specs.Form.{Row, Form, atomBytes, atomsBytes, termBytes, termsBytes, sumBytes, encodeForm}
+use Rattle.semilinear.specs.Form.{isAtomTree, rowsOk, treeRecords, validForm}
+use Rattle.semilinear.specs.Items.{provenance, frontNumber, frontWord, atomLength, isAtom, treeSpan, afterAtom}
+use Rattle.semilinear.specs.Items.{atomCount, atomRecords, afterAtoms, isTerm}
+use Rattle.semilinear.specs.Valid.{atomOk, atomsOk, termOk, termsOk, isSemilinear, lengthRefused}
+use Rattle.semilinear.specs.Valid.{semilinearRefusal}
 use Rattle.semilinear.specs.DecodeForm.{hasTerm, coeffAt, afterTerm, rowAt, rowsOf, decodeForm}
-use Rattle.semilinear.proofs.ItemsLaws.{atom-room, length-tree-span, fold-atom, fold-done, atoms-ind, rows-atom, rows-end, term-big, term-kind, has-term-is}
+use Rattle.semilinear.proofs.ItemsLaws.{atom-room, length-tree-span, fold-atom, fold-done, atoms-ind, rows-atom}
+use Rattle.semilinear.proofs.ItemsLaws.{rows-end, term-big, term-kind, has-term-is}
 use Rattle.semilinear.proofs.FrontLaws.{front-record}
-use Rattle.semilinear.proofs.FormLaws.{Good, good-row, Valid, parts-form, terms-bytes-zero, terms-bytes-some}
-use Rattle.semilinear.proofs.ValidLaws.{AtomParts, atom-parts, TermParts, term-parts, terms-first, terms-nil, terms-later, SumParts, FrontParts, semilinear-parts}
+use Rattle.semilinear.proofs.FormLaws.{Good, good-row, parts-form, form-not-refused, terms-bytes-zero}
+use Rattle.semilinear.proofs.FormLaws.{terms-bytes-some}
+use Rattle.semilinear.proofs.ValidLaws.{atom-parts, term-parts, terms-first, terms-nil, terms-later, SumParts}
+use Rattle.semilinear.proofs.ValidLaws.{FrontParts, semilinear-parts}
 use Rattle.semilinear.proofs.EncodeFormLaws.{form-accept}
+
+-- ---- the atom and the term at the front
 
 pub bytes-tree-span : (r : List ℕ) → IsBytes r → IsBytes (treeSpan r)
 unfolding treeSpan
@@ -43,7 +52,6 @@ module _ (w : ℕ) (r : List ℕ) (h : IsBytes r) (e : isAtom r ≡ true) (ok : 
   atom-bytes =
       let p = atom-parts w r ok in
       let room = atom-room r e in
-      let t : Tree = decode (treeSpan r) in
       let hd = front-record r (room .big) h (p .unused) in
       let same : encode w (decode (treeSpan r)) ≡ treeSpan r =
       accept-encode w (treeSpan r) (bytes-tree-span r h) (p .accepted) in
@@ -215,6 +223,24 @@ module _ (s : List ℕ) (h : IsBytes s) (ok : isSemilinear s ≡ true) where
         rows-ok = written .rows-ok;
       }
 
+  -- their length is allowed, so that no refusal applies
+  pub length-accepted : lengthRefused s ≡ false
+  length-accepted = rw form-encode at (form-not-refused (decodeForm s) form-valid)
+
+  pub refusal-none : semilinearRefusal s ≡ 0
+  unfolding semilinearRefusal
+  refusal-none = simp (length-accepted, ok)
+
+pub accepted-semilinear : (s : List ℕ) → semilinearRefusal s ≡ 0 → isSemilinear s ≡ true
+unfolding semilinearRefusal
+accepted-semilinear s e = go (lengthRefused s) (isSemilinear s) refl e
+  where
+    go : (a b : Bool) → isSemilinear s ≡ b
+        → _≡_ {A = ℕ} (when a (λ _. 1) (λ _. when b (λ _. 0) (λ _. 10))) 0 → isSemilinear s ≡ true
+    go true b f z = absurd (omega arith)
+    go false true f z = f
+    go false false f z = absurd (omega arith)
+
 -- ---- both ways
 
 -- bytes are accepted just where they are the bytes of a valid form
@@ -223,4 +249,12 @@ pub semilinears : (s : List ℕ) → IsBytes s
 semilinears s h = (
   λ e. (decodeForm s, form-valid s h e, form-encode s h e),
   λ p. rw (p .2) at (form-accept (p .0) (p .1)),
+)
+
+-- and so where no refusal applies, that of the length included
+pub no-refusal : (s : List ℕ) → IsBytes s
+    → (semilinearRefusal s ≡ 0) ↔ ((f : Form) × (validForm f ≡ true) × (encodeForm f ≡ s))
+no-refusal s h = (
+  λ e. semilinears s h .0 (accepted-semilinear s e),
+  λ p. refusal-none s h (semilinears s h .1 p),
 )

@@ -1,199 +1,57 @@
--- The bytes of a valid form: they decode to it, and they are accepted.
-use mathlib.Core.Path.{_≡_, refl, ap, ap₂, sym, _∙_}
-use Prim.Native.Nat.{ℕ, _+_, _-_, _*_, _^_, _≤_, _<_}
+-- The bytes of a valid form: they decode to it, they are accepted, and they are bytes.
+use mathlib.Core.Path.{_≡_}
+use Prim.Native.Nat.{ℕ, _+_, _^_, _≤_, _<_}
 use native.Mathlib.Omega.{arith}
 use native.Mathlib.Decide.{ℕ-discrete}
-use mathlib.Core.List.{List, [], _∷_, _++_, append-assoc}
-use mathlib.Core.Bool.{Bool, true, false, not, _&&_}
-use lib.ListN.{length, drop}
-use lib.Dec.{eqb, leb, lit<}
-use lib.Pow.{pow-mono}
-use borrow.Author.Tests.{eq-eqb, le-leb, lt-ltb}
-use Rattle.record.specs.Fields.{kind, byte1, size, width, literal, spare}
-use Rattle.record.specs.Span.{body}
-use Rattle.record.specs.Tree.{Tree, sizeOf, encode}
-use Rattle.record.specs.Decode.{decode}
-use Rattle.record.proofs.SizedLaws.{and-true}
-use Rattle.record.proofs.BytesLaws.{record-big, kind-record, byte1-record, size-record, width-record, spare-record, literal-record, body-record}
+use mathlib.Core.List.{List, [], _∷_, _++_}
+use mathlib.Core.Bool.{true}
+use lib.ListN.{length}
+use lib.Dec.{lit<}
+use borrow.Author.Tests.{le-leb, lt-ltb}
+use Rattle.record.specs.Tree.{Tree, sizeOf, recordBytes, encode, IsBytes}
+use Rattle.record.proofs.BytesLaws.{record-big, kind-record, byte1-record, size-record, width-record, spare-record}
+use Rattle.record.proofs.BytesLaws.{literal-record, body-record, bytes-append, bytes-record}
 use Rattle.expr.specs.Refusal.{isExpr}
-use Rattle.expr.specs.Utils.{hasVarDep, hasArith}
-use Rattle.expr.proofs.HashLaws.{structural-hash-lt}
-use Rattle.expr.proofs.IsExprLaws.{decode-encode}
-use Rattle.expr.proofs.AcceptLaws.{expr-accept}
-use Rattle.semilinear.specs.Form.{Row, Form, atomBytes, atomsBytes, termBytes, termsBytes, sumBytes, encodeForm, isAtomTree, rowsOk, treeRecords, validForm}
-use Rattle.semilinear.specs.Items.{frontNumber, isAtom, afterAtom, atomCount, atomRecords, afterAtoms, isTerm}
-use Rattle.semilinear.specs.Valid.{atomOk, atomsOk, termOk, termsOk, sumOk, frontOk, isSemilinear}
-use Rattle.semilinear.specs.DecodeForm.{hasTerm, coeffAt, afterTerm, rowAt, rowsOf, decodeForm}
-use Rattle.semilinear.proofs.ItemsLaws.{fold-atom, fold-done, rows-atom, rows-end}
-use Rattle.semilinear.proofs.FrontLaws.{atom-front, provenance-atom, number-atom, width-atom, spare-atom, word-atom, tree-span-atom, after-atom-atom, term-front, term-not-atom, provenance-term, number-term, width-term, spare-term, word-term, drop-term, has-term-other, coeff-front, after-term-front}
-use Rattle.semilinear.proofs.FormLaws.{Good, rows-cons, Valid, form-parts, terms-bytes-zero, terms-bytes-some}
-use Rattle.semilinear.proofs.ValidLaws.{AtomParts, atom-of-parts, TermParts, term-of-parts, terms-end, terms-term}
+use Rattle.expr.specs.Hash.{structuralHash}
+use Rattle.expr.proofs.IsExprLaws.{bytes-encode}
+use Rattle.semilinear.specs.Form.{Row, Form, atomBytes, atomsBytes, termBytes, termsBytes, sumBytes, encodeForm}
+use Rattle.semilinear.specs.Form.{rowsOk, treeRecords, validForm}
+use Rattle.semilinear.specs.Valid.{sumOk, frontOk, isSemilinear}
+use Rattle.semilinear.specs.DecodeForm.{decodeForm}
+use Rattle.semilinear.proofs.FormLaws.{rows-cons, Valid, form-parts, terms-bytes-zero, terms-bytes-some}
+use Rattle.semilinear.proofs.RowsLaws.{word-lt, atom-expr-parts, terms-not-atom, terms-accept, Read, rows-read}
 
--- ---- the terms of rows
+-- ---- bytes
 
--- no atom stands at their front
-pub terms-not-atom : (w i : ℕ) (l : List Row) → isAtom (termsBytes w i l) ≡ false
-unfolding termsBytes isAtom
-terms-not-atom w i [] = refl
-terms-not-atom w i (x ∷ l) = go (ℕ-discrete (x .coeff) 0) (terms-not-atom w (i + 1) l)
+bytes-atom : (w p : ℕ) (t : Tree) → isExpr t ≡ true → w < 256 → p < 256 → sizeOf t < 2 ^ 16
+    → IsBytes (atomBytes w p t)
+unfolding atomBytes
+bytes-atom w p t e hw hp hn =
+    bytes-append (recordBytes 33 p (sizeOf t) w (structuralHash t)) (encode w t)
+    (bytes-record 33 p (sizeOf t) w (structuralHash t) (lit< tt) hp hn hw) (bytes-encode w t e hw hn)
+
+bytes-atoms : (w : ℕ) (l : List Row) → rowsOk w l ≡ true → w < 256 → treeRecords l < 2 ^ 16
+    → IsBytes (atomsBytes w l)
+unfolding atomsBytes treeRecords
+bytes-atoms w [] ok hw hn = λ i. lit< tt
+bytes-atoms w (x ∷ l) ok hw hn =
+    let p = rows-cons w x l ok in
+    let e = atom-expr-parts (x .tree) (p .0 .atom) .0 in
+    bytes-append (atomBytes w (x .provenance) (x .tree)) (atomsBytes w l)
+    (bytes-atom w (x .provenance) (x .tree) e hw (omega (arith, p .0 .known)) (omega arith))
+    (bytes-atoms w l (p .1) hw (omega arith))
+
+bytes-terms : (w i : ℕ) (l : List Row) → w < 256 → i + length l ≤ 2 ^ 16 → IsBytes (termsBytes w i l)
+unfolding termsBytes termBytes
+bytes-terms w i [] hw hn = λ j. lit< tt
+bytes-terms w i (x ∷ l) hw hn = go (ℕ-discrete (x .coeff) 0) (bytes-terms w (i + 1) l hw (omega arith))
   where
-    go : Dec (x .coeff ≡ 0) → isAtom (termsBytes w (i + 1) l) ≡ false → isAtom (termsBytes w i (x ∷ l)) ≡ false
+    go : Dec (x .coeff ≡ 0) → IsBytes (termsBytes w (i + 1) l) → IsBytes (termsBytes w i (x ∷ l))
     go (yes z) below = rw (terms-bytes-zero w i x l z) below
-    go (no z) below = rw (terms-bytes-some w i x l z) (term-not-atom w i (x .coeff) (termsBytes w (i + 1) l))
-
--- nor a term of a row before them
-pub has-term-later : (w i j : ℕ) (l : List Row) → i < j → hasTerm i (termsBytes w j l) ≡ false
-unfolding termsBytes hasTerm isTerm
-has-term-later w i j [] h = refl
-has-term-later w i j (x ∷ l) h = go (ℕ-discrete (x .coeff) 0) (has-term-later w i (j + 1) l (omega arith))
-  where
-    go : Dec (x .coeff ≡ 0) → hasTerm i (termsBytes w (j + 1) l) ≡ false → hasTerm i (termsBytes w j (x ∷ l)) ≡ false
-    go (yes z) below = rw (terms-bytes-zero w j x l z) below
     go (no z) below =
-        rw (terms-bytes-some w j x l z) (has-term-other w j (x .coeff) (termsBytes w (j + 1) l) i (omega arith))
-
--- ---- valid rows
-
-pub atom-tree-parts : (t : Tree) → isAtomTree t ≡ true → (isExpr t ≡ true) × (hasVarDep t && not (hasArith t) ≡ true)
-unfolding isAtomTree
-atom-tree-parts t e = and-true (isExpr t) (hasVarDep t && not (hasArith t)) e
-
--- what is read of the atoms of rows, with r after them
-pub record Read (w : ℕ) (l : List Row) (r : List ℕ) : Type 0 where
-  pub atoms-ok : atomsOk w (atomsBytes w l ++ r) ≡ true
-  pub count : atomCount (atomsBytes w l ++ r) ≡ length l
-  pub records : atomRecords (atomsBytes w l ++ r) ≡ treeRecords l
-  pub after : afterAtoms (atomsBytes w l ++ r) ≡ r
-  pub rows : (i : ℕ) → rowsOf i (atomsBytes w l ++ r) (termsBytes w i l) ≡ l
-
-module _ (w : ℕ) (pos : 1 ≤ w) (le : w ≤ 64) where
-  word-lt : (v : ℕ) → v < 2 ^ w → v < 2 ^ 64
-  word-lt v h = omega (arith, pow-mono le)
-
-  -- the terms of valid rows from number i on are as they must be
-  pub terms-accept : (l : List Row) (i j n : ℕ) → rowsOk w l ≡ true → j ≤ i → i + length l ≤ n
-      → termsOk w n j (termsBytes w i l) ≡ true
-  unfolding termsBytes
-  terms-accept [] i j n ok low high = terms-end w n j [] refl
-  terms-accept (x ∷ l) i j n ok low high =
-      let p = rows-cons w x l ok in
-      go (ℕ-discrete (x .coeff) 0) (p .0)
-      (terms-accept l (i + 1) j n (p .1) (omega arith) (omega arith))
-      (terms-accept l (i + 1) (i + 1) n (p .1) (omega arith) (omega arith))
-    where
-      go : Dec (x .coeff ≡ 0) → Good w x → termsOk w n j (termsBytes w (i + 1) l) ≡ true
-          → termsOk w n (i + 1) (termsBytes w (i + 1) l) ≡ true → termsOk w n j (termsBytes w i (x ∷ l)) ≡ true
-      go (yes z) good same next = rw (terms-bytes-zero w i x l z) same
-      go (no z) good same next =
-          let c : ℕ = x .coeff in
-          let r : List ℕ = termsBytes w (i + 1) l in
-          let q : List ℕ = termBytes w i c ++ r in
-          let num : frontNumber q ≡ i = number-term w i c r in
-          let word = word-term w i c r (word-lt c (good .fits)) in
-          let ok : termOk w n j q ≡ true =
-          term-of-parts w n j q
-          record {
-            blank = provenance-term w i c r;
-            low = rw num low;
-            high = rw num (omega arith);
-            wide = width-term w i c r;
-            unused = spare-term w i c r;
-            nonzero = rw word z;
-            fits = rw word (good .fits);
-          } in
-          rw (terms-bytes-some w i x l z)
-          (terms-term w n j q (term-front w i c r) ∙ simp (ok, num, drop-term w i c r, next))
-
-  pub atom-accept : (p : ℕ) (t : Tree) (r : List ℕ) → p ≤ 4 → isAtomTree t ≡ true
-      → atomOk w (atomBytes w p t ++ r) ≡ true
-  atom-accept p t r known e =
-      let tree = atom-tree-parts t e in
-      let span = tree-span-atom w p t r in
-      let back = decode-encode w t (tree .0) in
-      atom-of-parts w (atomBytes w p t ++ r)
-      record {
-        known = rw (provenance-atom w p t r) known;
-        wide = width-atom w p t r;
-        unused = spare-atom w p t r;
-        accepted = rw span (expr-accept w pos le t (tree .0));
-        bitwise = rw (span, back) (tree .1);
-        hash = rw (span, back) (word-atom w p t r (structural-hash-lt t (tree .0)));
-      }
-
-  -- a valid row, read of the atoms and the terms that begin with it
-  module _ (i : ℕ) (x : Row) (l : List Row) (good : Good w x) where
-    coeff-row : coeffAt i (termsBytes w i (x ∷ l)) ≡ x .coeff
-    unfolding coeffAt
-    coeff-row = go (ℕ-discrete (x .coeff) 0)
-      where
-        go : Dec (x .coeff ≡ 0) → coeffAt i (termsBytes w i (x ∷ l)) ≡ x .coeff
-        go (yes z) =
-            rw (terms-bytes-zero w i x l z) (simp (has-term-later w i (i + 1) l (omega arith), z))
-        go (no z) =
-            rw (terms-bytes-some w i x l z)
-            (coeff-front w i (x .coeff) (termsBytes w (i + 1) l) (word-lt (x .coeff) (good .fits)))
-
-    after-row : afterTerm i (termsBytes w i (x ∷ l)) ≡ termsBytes w (i + 1) l
-    unfolding afterTerm
-    after-row = go (ℕ-discrete (x .coeff) 0)
-      where
-        go : Dec (x .coeff ≡ 0) → afterTerm i (termsBytes w i (x ∷ l)) ≡ termsBytes w (i + 1) l
-        go (yes z) = rw (terms-bytes-zero w i x l z) (simp (has-term-later w i (i + 1) l (omega arith)))
-        go (no z) =
-            rw (terms-bytes-some w i x l z) (after-term-front w i (x .coeff) (termsBytes w (i + 1) l))
-
-    module _ (r : List ℕ) where
-      row-read : rowAt i (atomBytes w (x .provenance) (x .tree) ++ r) (termsBytes w i (x ∷ l)) ≡ x
-      unfolding rowAt
-      row-read =
-          simp (
-            provenance-atom w (x .provenance) (x .tree) r,
-            tree-span-atom w (x .provenance) (x .tree) r,
-            decode-encode w (x .tree) (atom-tree-parts (x .tree) (good .atom) .0),
-            coeff-row,
-          )
-
-      rows-step : rowsOf (i + 1) r (termsBytes w (i + 1) l) ≡ l
-          → rowsOf i (atomBytes w (x .provenance) (x .tree) ++ r) (termsBytes w i (x ∷ l)) ≡ x ∷ l
-      rows-step below =
-          let s : List ℕ = atomBytes w (x .provenance) (x .tree) ++ r in
-          rows-atom i s (termsBytes w i (x ∷ l)) (atom-front w (x .provenance) (x .tree) r)
-          ∙ simp (row-read, after-atom-atom w (x .provenance) (x .tree) r, after-row, below)
-
-  -- all that is read of valid rows, where no atom stands after them
-  pub rows-read : (l : List Row) (r : List ℕ) → rowsOk w l ≡ true → isAtom r ≡ false → Read w l r
-  unfolding atomsBytes treeRecords
-  rows-read [] r ok e =
-      record {
-        atoms-ok = fold-done _ _ r e;
-        count = fold-done _ _ r e;
-        records = fold-done _ _ r e;
-        after = fold-done _ _ r e;
-        rows = λ i. rows-end i r (termsBytes w i []) e;
-      }
-  rows-read (x ∷ l) r ok e =
-      let p = rows-cons w x l ok in
-      cons (p .0) (rows-read l r (p .1) e)
-    where
-      cons : Good w x → Read w l r → Read w (x ∷ l) r
-      cons good below =
-          let k : ℕ = x .provenance in
-          let t : Tree = x .tree in
-          let m : List ℕ = atomsBytes w l ++ r in
-          let s : List ℕ = atomBytes w k t ++ m in
-          let at : isAtom s ≡ true = atom-front w k t m in
-          let past : afterAtom s ≡ m = after-atom-atom w k t m in
-          let same : atomsBytes w (x ∷ l) ++ r ≡ s = append-assoc (atomBytes w k t) (atomsBytes w l) r in
-          record {
-            atoms-ok =
-                rw same
-                (fold-atom _ _ s at
-                ∙ simp (atom-accept k t m (good .known) (good .atom), past, below .atoms-ok));
-            count = rw same (fold-atom _ _ s at ∙ simp (past, below .count) (omega arith));
-            records = rw same (fold-atom _ _ s at ∙ simp (past, number-atom w k t m, below .records));
-            after = rw same (fold-atom _ _ s at ∙ simp (past, below .after));
-            rows = λ i. rw same (rows-step i x l good m (below .rows (i + 1)));
-          }
+        rw (terms-bytes-some w i x l z)
+        (bytes-append (termBytes w i (x .coeff)) (termsBytes w (i + 1) l)
+        (bytes-record 34 0 i w (x .coeff) (lit< tt) (lit< tt) (omega arith) hw) below)
 
 -- ---- valid forms
 
@@ -208,7 +66,7 @@ module _ (f : Form) (ok : validForm f ≡ true) where
   valid = form-parts f ok
 
   fits : f .constant < 2 ^ 64
-  fits = word-lt w (valid .width-pos) (valid .width-le) (f .constant) (valid .fits)
+  fits = word-lt w (f .constant) (valid .width-le) (valid .fits)
 
   read : Read w (f .rows) (termsBytes w 0 (f .rows))
   read =
@@ -265,3 +123,15 @@ module _ (f : Form) (ok : validForm f ≡ true) where
         body-record front 32 0 0 w (f .constant),
         front-accept,
       )
+
+  pub bytes-form : IsBytes (encodeForm f)
+  unfolding encodeForm sumBytes
+  bytes-form =
+      let hw : f .bitwidth < 256 = omega (arith, valid .width-le) in
+      let atoms : List ℕ = atomsBytes (f .bitwidth) (f .rows) in
+      let terms : List ℕ = termsBytes (f .bitwidth) 0 (f .rows) in
+      bytes-append (atoms ++ terms) (recordBytes 32 0 0 (f .bitwidth) (f .constant))
+      (bytes-append atoms terms
+      (bytes-atoms (f .bitwidth) (f .rows) (valid .rows-ok) hw (omega (arith, valid .records-le)))
+      (bytes-terms (f .bitwidth) 0 (f .rows) hw (omega (arith, valid .atoms-le))))
+      (bytes-record 32 0 0 (f .bitwidth) (f .constant) (lit< tt) (lit< tt) (lit< tt) hw)

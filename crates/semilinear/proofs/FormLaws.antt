@@ -1,19 +1,17 @@
 -- Laws of specs/Form.antt: the length of a form's bytes, and what a valid form and a valid row are.
-use mathlib.Core.Path.{_≡_, refl, ap, sym, _∙_}
-use Prim.Native.Nat.{ℕ, zero, suc, _+_, _-_, _*_, _%_, _^_, _≤_, _<_}
+use mathlib.Core.Path.{_≡_, refl, _∙_}
+use Prim.Native.Nat.{ℕ, _+_, _*_, _%_, _^_, _≤_, _<_}
 use native.Mathlib.Omega.{arith}
 use native.Mathlib.Decide.{ℕ-discrete}
 use mathlib.Core.List.{List, [], _∷_, _++_}
-use mathlib.Core.Bool.{Bool, true, false, not, _&&_}
+use mathlib.Core.Bool.{Bool, true, false, _&&_}
 use lib.ListN.{length, length-append}
-use lib.Dec.{eqb, ltb, leb}
-use lib.Pow.{pow-mono}
+use lib.Dec.{ltb, leb}
 use borrow.Author.Tests.{leb-true, ltb-true, eq-eqb, ne-eqb, le-ltb, lt-ltb, le-leb}
-use Rattle.record.specs.Choice.{when}
-use Rattle.record.specs.Tree.{Tree, sizeOf}
-use Rattle.record.proofs.SizedLaws.{false-true, and-true}
+use Rattle.record.proofs.SizedLaws.{and-true}
 use Rattle.record.proofs.BytesLaws.{length-record}
-use Rattle.semilinear.specs.Form.{Row, Form, termCount, atomBytes, atomsBytes, termBytes, termsBytes, sumBytes, encodeForm, isAtomTree, rowOk, rowsOk, treeRecords, fitsTable, validForm}
+use Rattle.semilinear.specs.Form.{Row, Form, termCount, atomBytes, atomsBytes, termBytes, termsBytes, sumBytes}
+use Rattle.semilinear.specs.Form.{encodeForm, isAtomTree, rowOk, rowsOk, treeRecords, fitsTable, validForm}
 use Rattle.semilinear.specs.Valid.{lengthRefused}
 use Rattle.semilinear.proofs.FrontLaws.{length-atom, length-front}
 
@@ -142,7 +140,6 @@ module _ (f : Form) (ok : validForm f ≡ true) where
   pub form-not-refused : lengthRefused (encodeForm f) ≡ false
   unfolding lengthRefused
   form-not-refused =
-      let n : ℕ = length (encodeForm f) in
       let e = length-form f in
       simp (
         ne-eqb (length (encodeForm f)) 0 (omega arith),

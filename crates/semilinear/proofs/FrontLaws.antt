@@ -1,22 +1,22 @@
 -- Laws of the readers of specs/Items.antt: what is read of a record, an atom and a term at the front, and that the
 -- record at the front is the record of its fields.
-use mathlib.Core.Path.{_≡_, refl, ap, sym, _∙_}
-use Prim.Native.Nat.{ℕ, _+_, _-_, _*_, _/_, _%_, _^_, _≤_, _<_}
+use mathlib.Core.Path.{_≡_, refl, _∙_}
+use Prim.Native.Nat.{ℕ, _+_, _*_, _^_, _≤_, _<_}
 use native.Mathlib.Omega.{arith}
-use mathlib.Core.List.{List, [], _∷_, _++_, append-assoc}
-use mathlib.Core.Bool.{Bool, true, false, _&&_, and-false}
+use mathlib.Core.List.{List, [], _++_, append-assoc}
+use mathlib.Core.Bool.{true, false, and-false}
 use lib.ListN.{length, getD, take, drop, length-append, length-take}
-use lib.Seq.{take-at, drop-at, getD-take, take-add}
-use lib.Dec.{eqb, leb, lit<}
+use lib.Seq.{take-at, drop-at, getD-take}
+use lib.Dec.{lit<}
 use borrow.Author.Tests.{le-leb, eq-eqb, ne-eqb}
-use Rattle.record.specs.Choice.{when}
 use Rattle.record.specs.Fields.{u16, u32, u64, kind, byte1, size, width, literal, spare}
 use Rattle.record.specs.Tree.{Tree, sizeOf, recordBytes, encode, IsBytes}
-use Rattle.record.proofs.BytesLaws.{size-record, literal-record, last-record, bytes-take}
+use Rattle.record.proofs.BytesLaws.{literal-record, last-record, bytes-take}
 use Rattle.record.proofs.EncodeLaws.{length-encode}
 use Rattle.expr.specs.Hash.{structuralHash}
 use Rattle.semilinear.specs.Form.{atomBytes, termBytes}
-use Rattle.semilinear.specs.Items.{frontKind, provenance, frontNumber, frontWidth, frontSpare, frontWord, atomLength, isAtom, treeSpan, afterAtom, isTerm}
+use Rattle.semilinear.specs.Items.{frontKind, provenance, frontNumber, frontWidth, frontSpare, frontWord}
+use Rattle.semilinear.specs.Items.{atomLength, isAtom, treeSpan, afterAtom, isTerm}
 use Rattle.semilinear.specs.DecodeForm.{hasTerm, coeffAt, afterTerm}
 
 -- ---- a record at the front
@@ -64,9 +64,9 @@ module _ (r : List ℕ) (big : 16 ≤ length r) where
 
   pub front-record : IsBytes r → frontSpare r ≡ 0
       → recordBytes (frontKind r) (provenance r) (frontNumber r) (frontWidth r) (frontWord r) ≡ take 16 r
-  unfolding frontKind provenance frontNumber frontWidth frontSpare frontWord kind byte1 size width literal spare u64 u32 u16
+  unfolding frontKind provenance frontNumber frontWidth frontSpare frontWord kind byte1 size width literal spare
+      u64 u32 u16
   front-record h z =
-      let t : List ℕ = take 16 r in
       let big′ : 16 ≤ length (take 16 r) = omega (arith, length-first) in
       let a0 = at 0 (lit< tt) in
       let a1 = at 1 (lit< tt) in

@@ -6,4 +6,11 @@ pub mod FrontLaws
 pub mod FormLaws
 pub mod ValidLaws
 pub mod AcceptLaws
+pub mod RowsLaws
 pub mod EncodeFormLaws
+mod TestLaws
+mod ScanLaws
+pub mod SumLaws
+pub mod TableLaws
+pub mod HoldsLaws
+pub mod ValueLaws

@@ -1,6 +1,6 @@
 -- Laws of specs/Valid.antt: what each test says, both ways, and the equations of the recursion over terms.
-use mathlib.Core.Path.{_≡_, refl, ap, sym, _∙_}
-use Prim.Native.Nat.{ℕ, zero, suc, _+_, _-_, _^_, _≤_, _<_}
+use mathlib.Core.Path.{_≡_, refl, sym, _∙_}
+use Prim.Native.Nat.{ℕ, zero, suc, _+_, _^_, _≤_, _<_}
 use native.Mathlib.Omega.{arith}
 use native.Mathlib.Nat.{le-refl}
 use mathlib.Core.List.{List, [], _∷_}
@@ -8,7 +8,6 @@ use mathlib.Core.Bool.{Bool, true, false, not, _&&_}
 use lib.ListN.{length, drop, length-drop}
 use lib.Dec.{eqb, ltb, leb}
 use borrow.Author.Tests.{eqb-true, eqb-false, leb-true, ltb-true, eq-eqb, ne-eqb, le-leb, lt-ltb, not-true}
-use Rattle.record.specs.Choice.{when}
 use Rattle.record.specs.Fields.{kind, byte1, size, width, literal, spare}
 use Rattle.record.specs.Span.{body}
 use Rattle.record.specs.Decode.{decode}
@@ -16,8 +15,10 @@ use Rattle.record.proofs.SizedLaws.{false-true, and-true}
 use Rattle.expr.specs.Refusal.{treeRefusal}
 use Rattle.expr.specs.Utils.{hasVarDep, hasArith}
 use Rattle.expr.specs.Hash.{structuralHash}
-use Rattle.semilinear.specs.Items.{provenance, frontNumber, frontWidth, frontSpare, frontWord, treeSpan, atomCount, atomRecords, afterAtoms, isTerm}
-use Rattle.semilinear.specs.Valid.{atomTreeOk, atomOk, atomsOk, termOk, termsOkF, termsOk, sumOk, frontOk, isSemilinear}
+use Rattle.semilinear.specs.Items.{provenance, frontNumber, frontWidth, frontSpare, frontWord, treeSpan}
+use Rattle.semilinear.specs.Items.{atomCount, atomRecords, afterAtoms, isTerm}
+use Rattle.semilinear.specs.Valid.{atomTreeOk, atomOk, atomsOk, termOk, termsOkF, termsOk, sumOk, frontOk}
+use Rattle.semilinear.specs.Valid.{isSemilinear}
 use Rattle.semilinear.specs.DecodeForm.{hasTerm}
 use Rattle.semilinear.proofs.ItemsLaws.{term-big}
 

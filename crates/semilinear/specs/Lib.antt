@@ -5,7 +5,10 @@ pub mod Valid
 pub mod DecodeForm
 pub mod Outcome
 pub mod Answers
+pub mod Table
 pub mod Value
 pub mod Compact
 pub mod Decompose
 pub mod Basis
+pub mod Scan
+pub mod Running

@@ -2,7 +2,7 @@
 ghost use mathlib.Core.Path.{_≡_};
 ghost use mathlib.Core.Bool.{true};
 ghost use Prim.Native.Nat.{ℕ, _+_, _*_, _^_, _<_, _≤_};
-ghost use lib.ListN.{length};
+ghost use lib.ListN.{length, drop};
 ghost use Rattle.semilinear.specs.Items.{frontKind, provenance, frontNumber, frontWidth, frontSpare, frontWord, atomLength, isAtom, treeSpan, isTerm};
 ghost use Rattle.semilinear.specs.DecodeForm.{hasTerm};
 
@@ -10,6 +10,14 @@ fn wide(x: u8) -> u64
     ensures { λ r. ⌜ (r ≡ x) × (r < 256) ⌝ }
 {
     x as u64
+}
+
+// The bytes from the place `at` on.
+pub fn rest_from(f: &[u8], at: usize) -> &[u8]
+    requires { ⌜ at ≤ length (now f) ⌝ }
+    ensures { λ r. ⌜ now r ≡ drop at (now (f .entry)) ⌝ }
+{
+    &f[at..]
 }
 
 // The provenance of the atom at the front; a term has 0 there.

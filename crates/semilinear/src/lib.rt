@@ -2,3 +2,6 @@
 pub mod decompose;
 pub mod items;
 pub mod outcome;
+pub mod scan;
+pub mod table;
+pub mod value;

@@ -1,10 +1,10 @@
 // What every writer of a semilinear form hands over, and the answer of a refusal.
 ghost use lib.ListN.{length};
-ghost use Rattle.semilinear.specs.Outcome.{Outcome, refused};
+ghost use Rattle.semilinear.specs.Outcome.{refused};
 ghost use Rattle.semilinear.specs.Answers.{GivesForm};
 
-// The refusal, 0 where the call is accepted; the bytes used of the result slice; the count of terms;
-// and a flag, which says of flattening whether it flattened.
+// The refusal, 0 where the call is accepted; the bytes used of the result slice; the count of
+// terms; and a flag, which says of flattening whether it flattened.
 pub struct Answer {
     pub refusal: u64,
     pub used: u64,

@@ -15,7 +15,9 @@ same-length : tie.Need-same-length
 same-length c = search needs
 
 returns : tie.Need-returns
-returns c = gives-refused (c .before .before .before .before .before .args .number) _ _ _ refl (c .before .before .clear .ensures)
+returns c =
+    let a = c .before .before .before .before .before .args in
+    gives-refused (a .number) _ _ _ refl (c .before .before .clear .ensures)
 
 pub refuse-spec : {M : Type 1} → statement M
 refuse-spec = tie.close (tie.spec clear-requires same-length returns)
