@@ -3,6 +3,9 @@ pub mod ValueLaws
 pub mod HashLaws
 pub mod UtilsLaws
 pub mod RefusalLaws
+pub mod IsExprLaws
 pub mod ExprValueLaws
+pub mod AcceptLaws
 pub mod VarsLaws
 pub mod SupportLaws
+mod ExampleLaws

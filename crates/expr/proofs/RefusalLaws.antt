@@ -1,23 +1,20 @@
--- Laws of specs/Refusal.antt: what it says of a root and of a span that no refusal applies, and that the trees of
--- accepted files can be written.
+-- Laws of specs/Refusal.antt: what it says of a root and of a span that no refusal applies.
 use mathlib.Core.Path.{_≡_, refl, ap, sym, _∙_}
-use Prim.Native.Nat.{ℕ, suc, _+_, _*_, _^_, _≤_, _<_, min}
+use Prim.Native.Nat.{ℕ, suc, _+_, _*_, _≤_, _<_, min}
 use native.Mathlib.Omega.{arith}
 use native.Mathlib.Decide.{decLt, ℕ-discrete}
 use mathlib.Core.List.{List}
-use mathlib.Core.Bool.{Bool, true, false, not, _&&_, _||_}
+use mathlib.Core.Bool.{Bool, true, false, not, _&&_, _||_, or-true}
 use lib.Dec.{eqb, ltb, leb}
 use lib.ListN.{length}
 use borrow.Author.Tests.{eqb-true, eqb-false, leb-true, ltb-true, ltb-false, eq-eqb, ne-eqb, le-ltb, lt-ltb, le-leb}
 use Rattle.record.specs.Choice.{when}
 use Rattle.record.specs.Fields.{kind, byte1, size, width, amount, literal, spare, arity}
 use Rattle.record.specs.Span.{body, left, right, sized}
-use Rattle.record.specs.Tree.{Tree, Encodable}
-use Rattle.record.specs.Tree.Tree.{Constant, Variable, Unary, Binary}
 use Rattle.record.proofs.SpanLaws.{fold-none, fold-leaf, fold-one, fold-two, span-ind}
-use Rattle.record.proofs.SizedLaws.{false-true, and-true, or-of-r, or-cases}
-use Rattle.record.proofs.FieldsLaws.{kind-of-arity-zero, arity-one-of-le, arity-two-of-le}
-use Rattle.expr.specs.Refusal.{lowest, fieldsOk, sizeOk, formOk, widthOk, rootRefusal, treeRefusal, isExpr}
+use Rattle.record.proofs.SizedLaws.{false-true, and-true}
+use Rattle.record.proofs.FieldsLaws.{kind-of-arity-zero}
+use Rattle.expr.specs.Refusal.{lowest, usesByte1, fieldsOk, sizeOk, formOk, widthOk, rootRefusal, treeRefusal}
 
 -- neither of two refusals
 pub lowest-zero : (a b : ℕ) → lowest a b ≡ 0 → (a ≡ 0) × (b ≡ 0)
@@ -47,6 +44,32 @@ pub record Root (w : ℕ) (s : List ℕ) : Type 0 where
   pub unused : spare s ≡ 0
   pub fields : fieldsOk (kind s) (byte1 s) (literal s) ≡ true
   pub shift : kind s ≡ 9 → amount s < 64
+
+or-false-l : (a b : Bool) → a ≡ false → a || b ≡ true → b ≡ true
+or-false-l a b p e = simp p at e
+
+-- the literal and byte 1 of a kind that has no use for them
+pub fields-literal : (k a v : ℕ) → fieldsOk k a v ≡ true → (k ≡ 0 → ⊥) → v ≡ 0
+unfolding fieldsOk
+fields-literal k a v e h =
+    eqb-true v 0
+    (or-false-l (eqb k 0) (eqb v 0) (ne-eqb k 0 h) (and-true (eqb k 0 || eqb v 0) (usesByte1 k || eqb a 0) e .0))
+
+pub fields-byte1 : (k a v : ℕ) → fieldsOk k a v ≡ true → (k ≡ 1 → ⊥) → k < 9 → a ≡ 0
+unfolding fieldsOk usesByte1
+fields-byte1 k a v e h l =
+    let unused : usesByte1 k ≡ false = simp (ne-eqb k 1 h, le-ltb 8 k (omega arith)) in
+    eqb-true a 0
+    (or-false-l (usesByte1 k) (eqb a 0) unused (and-true (eqb k 0 || eqb v 0) (usesByte1 k || eqb a 0) e .1))
+
+-- and back, for the kinds with children
+pub fields-inner : (k a : ℕ) → k ≤ 9 → (k < 9 → a ≡ 0) → fieldsOk k a 0 ≡ true
+unfolding fieldsOk usesByte1
+fields-inner k a h plain = go (ℕ-discrete k 9)
+  where
+    go : Dec (k ≡ 9) → fieldsOk k a 0 ≡ true
+    go (yes p) = rw p
+    go (no p) = simp (plain (omega arith), or-true)
 
 -- the four tests of a root, all passed
 record Passed (w : ℕ) (s : List ℕ) : Type 0 where
@@ -132,7 +155,7 @@ zero-of-root w s h =
     )
   where
     leaf : Dec (kind s < 2) → not (ltb (kind s) 2) || eqb (length s) 16 ≡ true
-    leaf (yes l) = or-of-r (not (ltb (kind s) 2)) (eqb (length s) 16) (eq-eqb (length s) 16 (h .leaf-length l))
+    leaf (yes l) = simp (eq-eqb (length s) 16 (h .leaf-length l), or-true)
     leaf (no l) = simp (le-ltb (kind s) 2 (omega arith))
 
     low : Dec (kind s ≡ 9) → eqb (kind s) 9 && ltb 63 (amount s) ≡ false
@@ -211,31 +234,3 @@ module _ (w : ℕ) where
   pub sized-accepted : (s : List ℕ) → treeRefusal w s ≡ 0 → sized s ≡ true
   unfolding Fit
   sized-accepted = span-ind Fit fit-none fit-leaf fit-one fit-two
-
--- the trees of accepted files can be written
-one-child : (k a : ℕ) → (eqb a 0 && (eqb k 7 || eqb k 8)) || (eqb k 9 && ltb a 64) ≡ true → arity k ≡ 1
-one-child k a e =
-    or-cases (eqb a 0 && (eqb k 7 || eqb k 8)) (eqb k 9 && ltb a 64) e
-    (λ p.
-    or-cases (eqb k 7) (eqb k 8) (and-true (eqb a 0) (eqb k 7 || eqb k 8) p .1)
-    (λ q. is (omega (arith, eqb-true k 7 q))) (λ q. is (omega (arith, eqb-true k 8 q))))
-    (λ p. is (omega (arith, eqb-true k 9 (and-true (eqb k 9) (ltb a 64) p .0))))
-  where
-    is : (7 ≤ k) × (k ≤ 9) → arity k ≡ 1
-    is h = arity-one-of-le k (h .0) (omega arith)
-
-pub encodable-of-is-expr : (t : Tree) → isExpr t ≡ true → Encodable t
-unfolding isExpr Encodable
-encodable-of-is-expr (Constant v) e = ltb-true v (2 ^ 64) e
-encodable-of-is-expr (Variable i) e = ltb-true i 256 e
-encodable-of-is-expr (Unary k a t) e =
-    let p = and-true ((eqb a 0 && (eqb k 7 || eqb k 8)) || (eqb k 9 && ltb a 64)) (isExpr t) e in
-    (one-child k a (p .0), encodable-of-is-expr t (p .1))
-encodable-of-is-expr (Binary k l r) e =
-    let p = and-true (ltb 1 k && ltb k 7) (isExpr l && isExpr r) e in
-    let b = and-true (ltb 1 k) (ltb k 7) (p .0) in
-    let q = and-true (isExpr l) (isExpr r) (p .1) in (
-      arity-two-of-le k (ltb-true 1 k (b .0)) (ltb-true k 7 (b .1)),
-      encodable-of-is-expr l (q .0),
-      encodable-of-is-expr r (q .1),
-    )

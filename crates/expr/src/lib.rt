@@ -1,9 +1,9 @@
 // Expressions in 16-byte records: their refusals, value, structural hash, tests and variables.
-mod hash;
-mod refusal;
-mod utils;
-mod value;
-mod vars;
+pub mod hash;
+pub mod refusal;
+pub mod utils;
+pub mod value;
+pub mod vars;
 
 ghost use mathlib.Core.Path.{_≡_};
 ghost use Rattle.expr.specs.ExprValue.{IsExprValue};

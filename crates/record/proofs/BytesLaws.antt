@@ -7,7 +7,7 @@ use mathlib.Core.List.{List, [], _∷_, _++_}
 use lib.ListN.{length, getD, take, drop, length-append, length-drop}
 use lib.Seq.{getD-append-add, getD-drop, take-at}
 use lib.Dec.{lit<}
-use Rattle.record.specs.Fields.{u16, u32, u64, kind, byte1, size, width, literal, spare}
+use Rattle.record.specs.Fields.{u16, u32, u64, kind, byte1, varIndex, size, width, literal, spare}
 use Rattle.record.specs.Span.{cut, body, left, right}
 use Rattle.record.specs.Tree.{recordBytes, IsBytes}
 
@@ -205,6 +205,33 @@ pub bytes-right : (s : List ℕ) → IsBytes s → IsBytes (right s)
 unfolding right
 bytes-right s h = bytes-take (length s - 16 - cut s) (drop (cut s) s) (bytes-drop (cut s) s h)
 
+pub bytes-append : (s t : List ℕ) → IsBytes s → IsBytes t → IsBytes (s ++ t)
+bytes-append [] t h k i = k i
+bytes-append (x ∷ s) t h k zero = h 0
+bytes-append (x ∷ s) t h k (suc i) = bytes-append s t (λ j. h (suc j)) k i
+
+-- every element is a byte, as one proof for each
+abbrev EachByte : List ℕ → Type 0
+EachByte [] = Unit {0}
+EachByte (x ∷ l) = (x < 256) × EachByte l
+
+bytes-each : (l : List ℕ) → EachByte l → IsBytes l
+bytes-each [] h i = lit< tt
+bytes-each (x ∷ l) h zero = h .0
+bytes-each (x ∷ l) h (suc i) = bytes-each l (h .1) i
+
+pub bytes-record : (k a n w v : ℕ) → k < 256 → a < 256 → n < 2 ^ 16 → w < 256 → IsBytes (recordBytes k a n w v)
+unfolding recordBytes
+bytes-record k a n w v hk ha hn hw =
+    let low : (x : ℕ) → x % 256 < 256 = λ x. omega arith in
+    let high : n / 2 ^ 8 < 256 = omega arith in
+    let z : 0 < 256 = lit< tt in
+    let upper : EachByte (drop 12 (recordBytes k a n w v)) =
+    (low (v / 2 ^ 32), (low (v / 2 ^ 40), (low (v / 2 ^ 48), (low (v / 2 ^ 56), tt)))) in
+    let word : EachByte (drop 8 (recordBytes k a n w v)) =
+    (low v, (low (v / 2 ^ 8), (low (v / 2 ^ 16), (low (v / 2 ^ 24), upper)))) in
+    bytes-each (recordBytes k a n w v) (hk, (ha, (low n, (high, (hw, (z, (z, (z, word))))))))
+
 pub literal-lt : (s : List ℕ) → IsBytes s → literal s < 2 ^ 64
 unfolding literal u64 u32 u16
 literal-lt s h =
@@ -220,3 +247,7 @@ literal-lt s h =
       h (n + 4 + 2),
       h (n + 4 + 2 + 1),
     )
+
+pub var-index-lt : (s : List ℕ) → IsBytes s → varIndex s < 256
+unfolding varIndex byte1
+var-index-lt s h = h _

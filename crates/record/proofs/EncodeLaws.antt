@@ -10,13 +10,14 @@ use lib.ListN.{length, getD, take, drop, length-append, List·getD-append}
 use lib.Seq.{getD-append-add, take-at, drop-at}
 use borrow.Author.Tests.{eq-eqb, le-ltb}
 use Rattle.record.specs.Choice.{when}
-use Rattle.record.specs.Fields.{u16, kind, byte1, varIndex, amount, size, literal, arity}
+use Rattle.record.specs.Fields.{u16, kind, byte1, varIndex, amount, size, width, literal, arity}
 use Rattle.record.specs.Tree.{Tree, recordBytes, encode, sizeOf, Encodable}
 use Rattle.record.specs.Tree.Tree.{Constant, Variable, Unary, Binary}
 use Rattle.record.specs.Span.{cut, body, left, right, sized}
 use Rattle.record.specs.Decode.{leaf, decode}
 use Rattle.record.proofs.SpanLaws.{fold-leaf, fold-one, fold-two}
-use Rattle.record.proofs.BytesLaws.{length-record, record-big, kind-record, byte1-record, size-record, literal-record, body-record}
+use Rattle.record.proofs.BytesLaws.{length-record, record-big, kind-record, byte1-record, size-record}
+use Rattle.record.proofs.BytesLaws.{width-record, literal-record, body-record}
 
 pub length-encode : (w : ℕ) (t : Tree) → length (encode w t) ≡ sizeOf t * 16
 unfolding encode sizeOf recordBytes
@@ -51,6 +52,11 @@ pub size-encode : (w : ℕ) (t : Tree) → size (encode w t) ≡ sizeOf t
 size-encode w t =
     let e = ends w t in
     rw (e .same) (size-record (e .front) (e .k) (e .a) (sizeOf t) w (e .v))
+
+pub width-encode : (w : ℕ) (t : Tree) → width (encode w t) ≡ w
+width-encode w t =
+    let e = ends w t in
+    rw (e .same) (width-record (e .front) (e .k) (e .a) (sizeOf t) w (e .v))
 
 -- the children's spans of two encodings and a record
 module _ (w : ℕ) (l r : Tree) (k n : ℕ) where

@@ -33,6 +33,24 @@ kind-of-arity-zero k e = go (arity-view k)
     go (Arity.low-two a b f) = omega arith
     go (Arity.high-two a f) = omega arith
 
+pub kind-of-arity-one : (k : ℕ) → arity k ≡ 1 → 7 ≤ k
+kind-of-arity-one k e = go (arity-view k)
+  where
+    go : Arity k → 7 ≤ k
+    go (Arity.none a f) = absurd (omega arith)
+    go (Arity.one a b f) = a
+    go (Arity.low-two a b f) = absurd (omega arith)
+    go (Arity.high-two a f) = omega arith
+
+pub kind-of-arity-two : (k : ℕ) → arity k ≡ 2 → k < 13 → (2 ≤ k) × (k < 7)
+kind-of-arity-two k e h = go (arity-view k)
+  where
+    go : Arity k → (2 ≤ k) × (k < 7)
+    go (Arity.none a f) = absurd (omega arith)
+    go (Arity.one a b f) = absurd (omega arith)
+    go (Arity.low-two a b f) = (a, b)
+    go (Arity.high-two a f) = absurd (omega arith)
+
 pub arity-two : (k : ℕ) → (arity k ≡ 0 → ⊥) → (arity k ≡ 1 → ⊥) → arity k ≡ 2
 arity-two k p q = go (arity-view k)
   where

@@ -5,3 +5,4 @@ pub mod Fields
 pub mod Tree
 pub mod Span
 pub mod Decode
+pub mod Put

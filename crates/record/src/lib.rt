@@ -1,4 +1,7 @@
-// Readers of 16-byte records: numbers, the fields of a span's root, and the spans of its children.
+// Readers of 16-byte records: numbers, the fields of a span's root, and the spans of its children;
+// the writers stand in `write`.
+pub mod write;
+
 ghost use mathlib.Core.Path.{_≡_};
 ghost use Prim.Native.Nat.{ℕ, _+_, _-_, _*_, _^_, _<_, _≤_};
 ghost use lib.ListN.{length};

@@ -1,0 +1,61 @@
+// Writers into lent bytes: zeros, a copy, and a record.
+ghost use mathlib.Core.Path.{_≡_};
+ghost use Prim.Native.Nat.{_+_, _%_, _<_, _≤_};
+ghost use lib.ListN.{length, replicate};
+ghost use Rattle.record.specs.Tree.{recordBytes};
+ghost use Rattle.record.specs.Put.{put};
+
+// Fills out with zeros.
+pub fn clear(out: &mut [u8])
+    ensures { λ _. ⌜ now (out .exit) ≡ replicate (length (now (out .entry))) 0 ⌝ }
+{
+    let mut i = 0;
+    while i < out.len() {
+        out[i] = 0;
+        i += 1;
+    }
+}
+
+// Puts s into d from index `at` on.
+pub fn put_bytes(d: &mut [u8], at: usize, s: &[u8])
+    requires { ⌜ at + length (now s) ≤ length (now d) ⌝ }
+    ensures { λ _. ⌜ now (d .exit) ≡ put (now (d .entry)) at (now (s .entry)) ⌝ }
+{
+    let mut i = 0;
+    while i < s.len() {
+        d[at + i] = s[i];
+        i += 1;
+    }
+}
+
+fn byte(x: u64) -> u8
+    ensures { λ r. ⌜ r ≡ x % 256 ⌝ }
+{
+    (x % 256) as u8
+}
+
+// Puts one record into d from index `at` on: kind k, byte 1 a, size n, width w, literal v.
+pub fn put_record(d: &mut [u8], at: usize, k: u8, a: u8, n: u64, w: u8, v: u64)
+    requires { ⌜ (at + 16 ≤ length (now d)) × (n < 65536) ⌝ }
+    ensures { λ _. ⌜ now (d .exit) ≡ put (now (d .entry)) at (recordBytes k a n w v) ⌝ }
+{
+    let r = [
+        k,
+        a,
+        byte(n),
+        byte(n / 0x100),
+        w,
+        0,
+        0,
+        0,
+        byte(v),
+        byte(v / 0x100),
+        byte(v / 0x1_0000),
+        byte(v / 0x100_0000),
+        byte(v / 0x1_0000_0000),
+        byte(v / 0x100_0000_0000),
+        byte(v / 0x1_0000_0000_0000),
+        byte(v / 0x100_0000_0000_0000),
+    ];
+    put_bytes(d, at, &r);
+}

@@ -1,0 +1,16 @@
+-- The laws of the definitions, for the crates above.
+pub mod ItemsLaws
+pub mod DecomposeLaws
+pub mod OutcomeLaws
+pub mod FrontLaws
+pub mod FormLaws
+pub mod ValidLaws
+pub mod AcceptLaws
+pub mod RowsLaws
+pub mod EncodeFormLaws
+mod TestLaws
+mod ScanLaws
+pub mod SumLaws
+pub mod TableLaws
+pub mod HoldsLaws
+pub mod ValueLaws

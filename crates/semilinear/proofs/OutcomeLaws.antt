@@ -1,0 +1,29 @@
+-- How a writer shows what it hands over: a refusal by the zeros, a form by its bytes with zeros behind.
+use mathlib.Core.Path.{_≡_, refl}
+use Prim.Native.Nat.{ℕ}
+use mathlib.Core.List.{List}
+use mathlib.Core.Bool.{Bool, false}
+use lib.ListN.{length, replicate}
+use Rattle.record.specs.Put.{padded}
+use Rattle.semilinear.specs.declared.outcome.Answer.{Answer}
+use Rattle.semilinear.specs.Form.{Form, termCount, encodeForm}
+use Rattle.semilinear.specs.Outcome.{refused, refusalOf, numbersOf, writtenOf, formOutcome}
+use Rattle.semilinear.specs.Answers.{GivesForm}
+
+-- the answer of a refusal, and of a form that was written
+abbrev pub refusedAnswer : ℕ → Answer
+refusedAnswer n = record { refusal = n; used = 0; terms = 0; flag = false }
+
+abbrev pub formAnswer : Form → Bool → Answer
+formAnswer f flag =
+    record { refusal = 0; used = length (encodeForm f); terms = termCount (f .rows); flag = flag }
+
+pub gives-refused : (n len : ℕ) (r : Answer) (out : List ℕ) → r ≡ refusedAnswer n → out ≡ replicate len 0
+    → GivesForm (refused n) len r out
+unfolding refusalOf numbersOf writtenOf
+gives-refused n len r out e z = rw e (record { number = refl; beside = refl; written = z })
+
+pub gives-form : (f : Form) (flag : Bool) (len : ℕ) (r : Answer) (out : List ℕ) → r ≡ formAnswer f flag
+    → out ≡ padded len (encodeForm f) → GivesForm (formOutcome f flag) len r out
+unfolding formOutcome refusalOf numbersOf writtenOf
+gives-form f flag len r out e h = rw e (record { number = refl; beside = refl; written = h })

@@ -1,0 +1,95 @@
+-- Laws of specs/Scan.antt and of the scans: what holds after some atoms, or some terms, were passed.
+use mathlib.Core.Path.{_≡_, refl, ap, sym, _∙_}
+use Prim.Native.Nat.{ℕ, _+_, _*_, _≤_}
+use native.Mathlib.Omega.{arith}
+use mathlib.Core.List.{List}
+use mathlib.Core.Bool.{Bool, true, false, _&&_}
+use lib.ListN.{length, drop, length-drop}
+use lib.Seq.{drop-drop}
+use Rattle.semilinear.specs.declared.scan.AtomTable.{AtomTable}
+use Rattle.semilinear.specs.Items.{frontNumber, atomLength, isAtom, afterAtom, atomCount, atomRecords, afterAtoms}
+use Rattle.semilinear.specs.Items.{isTerm}
+use Rattle.semilinear.specs.Valid.{atomOk, atomsOk, termOk, termsOk}
+use Rattle.semilinear.specs.Scan.{AtomsEnd, IsAtomTable}
+use Rattle.semilinear.proofs.ItemsLaws.{Room, atom-room, fold-atom, fold-done, term-big}
+use Rattle.semilinear.proofs.TestLaws.{terms-ok-end, terms-ok-term}
+
+-- ---- atoms
+
+-- the bytes f after atoms of `at` bytes, so many of them, with so many tree records
+pub record Passed (f : List ℕ) (at count records : ℕ) : Type 0 where
+  pub inside : at ≤ length f
+  pub bytes : at ≡ 16 * (count + records)
+  pub number : atomCount f ≡ count + atomCount (drop at f)
+  pub trees : atomRecords f ≡ records + atomRecords (drop at f)
+  pub rest : afterAtoms f ≡ afterAtoms (drop at f)
+
+pub passed-none : (f : List ℕ) → Passed f 0 0 0
+passed-none f = record { inside = omega arith; bytes = refl; number = omega arith; trees = omega arith; rest = refl }
+
+pub passed-table : (f : List ℕ) (at count records : ℕ) → Passed f at count records → isAtom (drop at f) ≡ false
+    → IsAtomTable f (record { at = at; count = count; records = records })
+passed-table f at count records h e =
+    record {
+      end = record { inside = h .inside; rest = sym (h .rest ∙ fold-done _ _ (drop at f) e) };
+      number = omega (arith, h .number, fold-done (λ r. 0) (λ r n. 1 + n) (drop at f) e);
+      trees = omega (arith, h .trees, fold-done (λ r. 0) (λ r n. frontNumber r + n) (drop at f) e);
+    }
+
+-- an atom stands at the front of r, which stands from the place `at` on
+module _ (f : List ℕ) (at : ℕ) (r : List ℕ) (er : r ≡ drop at f) (ea : isAtom r ≡ true) where
+  after-at : afterAtom r ≡ drop (at + atomLength r) f
+  unfolding afterAtom
+  after-at = ap (drop (atomLength r)) er ∙ drop-drop (atomLength r) at f
+
+  pub atom-inside : at ≤ length f → at + atomLength r ≤ length f
+  unfolding atomLength
+  atom-inside h = omega (arith, atom-room r ea .fits, ap length er, length-drop at f)
+
+  pub atoms-ok-next : (w : ℕ) → atomOk w r ≡ true → atomsOk w (drop at f) ≡ atomsOk w (drop (at + atomLength r) f)
+  atoms-ok-next w ok =
+      ap (atomsOk w) (sym er)
+      ∙ fold-atom _ _ r ea
+      ∙ (simp ok)
+      ∙ ap (atomsOk w) after-at
+
+  pub atoms-ok-stop : (w : ℕ) → atomOk w r ≡ false → atomsOk w (drop at f) ≡ false
+  atoms-ok-stop w ok = ap (atomsOk w) (sym er) ∙ fold-atom _ _ r ea ∙ simp ok
+
+  count-next : atomCount (drop at f) ≡ 1 + atomCount (drop (at + atomLength r) f)
+  count-next =
+      ap atomCount (sym er) ∙ fold-atom _ _ r ea ∙ ap (λ (l : List ℕ). 1 + atomCount l) after-at
+
+  records-next : atomRecords (drop at f) ≡ frontNumber r + atomRecords (drop (at + atomLength r) f)
+  records-next =
+      ap atomRecords (sym er) ∙ fold-atom _ _ r ea ∙ ap (λ (l : List ℕ). frontNumber r + atomRecords l) after-at
+
+  pub passed-atom : (count records : ℕ) → Passed f at count records
+      → Passed f (at + atomLength r) (count + 1) (records + frontNumber r)
+  unfolding atomLength
+  passed-atom count records h =
+      record {
+        inside = atom-inside (h .inside);
+        bytes = omega (arith, h .bytes);
+        number = omega (arith, h .number, count-next);
+        trees = omega (arith, h .trees, records-next);
+        rest = h .rest ∙ ap afterAtoms (sym er) ∙ fold-atom _ _ r ea ∙ ap afterAtoms after-at;
+      }
+
+-- ---- terms
+
+-- a term stands at the front of r, which stands from the place `at` on
+module _ (w n next : ℕ) (q : List ℕ) (at : ℕ) (r : List ℕ) (er : r ≡ drop at q) (et : isTerm r ≡ true) where
+  pub term-inside : at ≤ length q → at + 16 ≤ length q
+  term-inside h = omega (arith, term-big r et, ap length er, length-drop at q)
+
+  pub terms-ok-next : termOk w n next r ≡ true
+      → termsOk w n next (drop at q) ≡ termsOk w n (frontNumber r + 1) (drop (at + 16) q)
+  terms-ok-next ok =
+      ap (termsOk w n next) (sym er)
+      ∙ terms-ok-term w n next r et
+      ∙ (simp ok)
+      ∙ ap (termsOk w n (frontNumber r + 1)) (ap (drop 16) er ∙ drop-drop 16 at q)
+
+  pub terms-ok-stop : termOk w n next r ≡ false → termsOk w n next (drop at q) ≡ false
+  terms-ok-stop ok = ap (termsOk w n next) (sym er) ∙ terms-ok-term w n next r et ∙ simp ok

@@ -1,0 +1,35 @@
+use Rattle.semilinear.proofs.DecomposeLaws.{decomposed-variable, decomposed-other}
+use Rattle.record.proofs.SizedLaws.{sized-big}
+use denote.Ref.{now}
+use mathlib.Core.Path.{sym, _∙_}
+use borrow.Author.Needs.{needs}
+use Rattle.semilinear.proofs.decompose.decompose_atom.Statement.{statement}
+use Rattle.semilinear.proofs.decompose.decompose_atom.Tie as tie
+use Rattle.semilinear.proofs.decompose.decompose_atom.Reads as reads
+use Rattle.semilinear.proofs.decompose.decompose_atom.Lts as lts
+use Rattle.arith.proofs.bitmask.Reads as bitmask-reads
+use Rattle.record.proofs.kind.Reads as kind-reads
+use Rattle.semilinear.proofs.decompose.decompose_and.Reads as decompose-and-reads
+
+kind-requires : tie.Need-kind-requires
+kind-requires c κs = sized-big _ (c .before .pre .0)
+
+bitmask-requires : tie.Need-bitmask-requires
+bitmask-requires c κs = search needs
+
+returns : tie.Need-returns
+returns c = decomposed-variable _ (now (c .before .before .before .before .args .t)) (c .before .before .before .before .pre .0) (c .before .before .before .before .pre .1) (sym (c .before .before .kind .ensures) ∙ c .before .if1 .taken) (c .bitmask .ensures)
+
+decompose-and-requires : tie.Need-decompose-and-requires
+decompose-and-requires c κs = ((c .before .before .before .before .pre .0), c .before .before .before .before .pre .1, sym (c .before .before .kind .ensures) ∙ c .if2 .taken)
+
+returns-2 : tie.Need-returns-2
+returns-2 c = search needs
+
+returns-3 : tie.Need-returns-3
+returns-3 c = decomposed-other _ (now (c .before .before .before .before .args .t)) (c .before .before .before .before .pre .0) (λ e. c .before .if1 .left (c .before .before .kind .ensures ∙ e)) (λ e. c .if2 .left (c .before .before .kind .ensures ∙ e))
+
+pub decompose-atom-spec : {M : Type 1} → statement M
+decompose-atom-spec =
+    tie.close
+    (tie.spec kind-requires bitmask-requires returns decompose-and-requires returns-2 returns-3)

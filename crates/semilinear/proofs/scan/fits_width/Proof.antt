@@ -1,0 +1,20 @@
+use mathlib.Core.Path.{_∙_, ap}
+use mathlib.Core.Bool.{Bool}
+use Prim.Native.Nat.{ℕ}
+use lib.Dec.{leb}
+use Rattle.semilinear.proofs.TestLaws.{leb-bitmask}
+use borrow.Author.Needs.{needs}
+use Rattle.semilinear.proofs.scan.fits_width.Statement.{statement}
+use Rattle.semilinear.proofs.scan.fits_width.Tie as tie
+use Rattle.semilinear.proofs.scan.fits_width.Reads as reads
+use Rattle.semilinear.proofs.scan.fits_width.Lts as lts
+use Rattle.arith.proofs.bitmask.Reads as bitmask-reads
+
+bitmask-requires : tie.Need-bitmask-requires
+bitmask-requires c κs = search needs
+
+returns : tie.Need-returns
+returns c = ap (leb (c .before .args .x)) (c .bitmask .ensures) ∙ leb-bitmask _ _ (search needs)
+
+pub fits-width-spec : {M : Type 1} → statement M
+fits-width-spec = tie.close (tie.spec bitmask-requires returns)

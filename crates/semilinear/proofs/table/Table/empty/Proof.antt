@@ -1,0 +1,14 @@
+-- `Table::empty` meets its contract.
+use mathlib.Core.Path.{refl}
+use Rattle.semilinear.specs.Table.{emptyTable}
+use Rattle.semilinear.proofs.table.Table.empty.Statement.{statement}
+use Rattle.semilinear.proofs.table.Table.empty.Tie as tie
+use Rattle.semilinear.proofs.table.Table.empty.Reads as reads
+use Rattle.semilinear.proofs.table.Table.empty.Lts as lts
+
+returns : tie.Need-returns
+unfolding emptyTable
+returns c = refl
+
+pub empty-spec : {M : Type 1} → statement M
+empty-spec = tie.close (tie.spec returns)

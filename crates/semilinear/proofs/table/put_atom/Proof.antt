@@ -1,0 +1,49 @@
+-- `put_atom` meets its contract.
+use denote.Ref.{now}
+use Rattle.semilinear.proofs.TableLaws.{put-atom-span}
+use Rattle.record.proofs.SizedLaws.{sized-big}
+use borrow.Author.Needs.{needs}
+use Rattle.semilinear.proofs.table.put_atom.Statement.{statement}
+use Rattle.semilinear.proofs.table.put_atom.Tie as tie
+use Rattle.semilinear.proofs.table.put_atom.Reads as reads
+use Rattle.semilinear.proofs.table.put_atom.Lts as lts
+use Rattle.expr.proofs.hash.structural_hash.Reads as structural-hash-reads
+use Rattle.record.proofs.size.Reads as size-reads
+use Rattle.record.proofs.write.put_bytes.Reads as put-bytes-reads
+use Rattle.record.proofs.write.put_record.Reads as put-record-reads
+
+structural-hash-requires : tie.Need-structural-hash-requires
+structural-hash-requires c κs = search needs
+
+size-requires : tie.Need-size-requires
+size-requires c κs = sized-big _ (c .before .before .before .before .pre .1)
+
+put-record-requires : tie.Need-put-record-requires
+put-record-requires c κs = search needs
+
+add-put-bytes : tie.Need-add-put-bytes
+add-put-bytes c = search needs
+
+put-bytes-requires : tie.Need-put-bytes-requires
+put-bytes-requires c κs = search needs
+
+same-length : tie.Need-same-length
+same-length c = search needs
+
+returns : tie.Need-returns
+returns c =
+    let start = c .before .before .before .before .before .before .before .before .before .before .before .before in
+    let a = start .args in
+    cc (put-atom-span (now (a .out)) (a .at) (a .w) (a .prov) (now (a .t)) (start .pre .0))
+
+pub put-atom-spec : {M : Type 1} → statement M
+put-atom-spec =
+    tie.close
+    (tie.spec
+    structural-hash-requires
+    size-requires
+    put-record-requires
+    add-put-bytes
+    put-bytes-requires
+    same-length
+    returns)

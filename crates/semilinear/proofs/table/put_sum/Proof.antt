@@ -1,0 +1,21 @@
+-- `put_sum` meets its contract.
+use Rattle.semilinear.specs.Form.{sumBytes}
+use borrow.Author.Needs.{needs}
+use Rattle.semilinear.proofs.table.put_sum.Statement.{statement}
+use Rattle.semilinear.proofs.table.put_sum.Tie as tie
+use Rattle.semilinear.proofs.table.put_sum.Reads as reads
+use Rattle.semilinear.proofs.table.put_sum.Lts as lts
+use Rattle.record.proofs.write.put_record.Reads as put-record-reads
+
+put-record-requires : tie.Need-put-record-requires
+put-record-requires c κs = search needs
+
+same-length : tie.Need-same-length
+same-length c = search needs
+
+returns : tie.Need-returns
+unfolding sumBytes
+returns c = search needs
+
+pub put-sum-spec : {M : Type 1} → statement M
+put-sum-spec = tie.close (tie.spec put-record-requires same-length returns)

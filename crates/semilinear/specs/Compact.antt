@@ -1,0 +1,29 @@
+-- Compacting the atom table (semilinear.rs 287-319): atoms without a term go, the others are renumbered in order.
+use Prim.Native.Nat.{ℕ}
+use mathlib.Core.List.{List, [], _∷_}
+use mathlib.Core.Bool.{Bool, false, not}
+use lib.Dec.{eqb}
+use Rattle.record.specs.Choice.{when}
+use Rattle.semilinear.specs.Form.{Row, Form}
+use Rattle.semilinear.specs.Valid.{lengthRefused, isSemilinear}
+use Rattle.semilinear.specs.DecodeForm.{decodeForm}
+use Rattle.semilinear.specs.Outcome.{Outcome, refused, formOutcome}
+
+-- the rows that have a term
+unfoldable pub usedRows : List Row → List Row
+usedRows [] = []
+usedRows (x ∷ l) = when (eqb (x .coeff) 0) (λ _. usedRows l) (λ _. x ∷ usedRows l)
+
+unfoldable pub compactForm : Form → Form
+compactForm f = record { bitwidth = f .bitwidth; constant = f .constant; rows = usedRows (f .rows) }
+
+-- a pass: refusals 1, 2 (the result slice has 57,360 bytes) and 10 in this order, then what `pass` gives for the form
+unfoldable pub passOutcome : (Form → Outcome) → List ℕ → ℕ → Outcome
+passOutcome pass s len =
+    when (lengthRefused s) (λ _. refused 1)
+    (λ _. when (not (eqb len 57360)) (λ _. refused 2)
+    (λ _. when (isSemilinear s) (λ _. pass (decodeForm s)) (λ _. refused 10)))
+
+-- what `compact_atom_table` gives for the bytes s and a result slice of len bytes
+unfoldable pub compactAtomTable : List ℕ → ℕ → Outcome
+compactAtomTable = passOutcome (λ f. formOutcome (compactForm f) false)

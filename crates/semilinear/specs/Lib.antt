@@ -1,0 +1,14 @@
+-- The semilinear form (document 01: sheet): its meaning, its bytes, its validity, and what is made of it.
+pub mod Form
+pub mod Items
+pub mod Valid
+pub mod DecodeForm
+pub mod Outcome
+pub mod Answers
+pub mod Table
+pub mod Value
+pub mod Compact
+pub mod Decompose
+pub mod Basis
+pub mod Scan
+pub mod Running

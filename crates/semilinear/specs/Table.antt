@@ -1,0 +1,64 @@
+-- The atom table while a pass adds atoms to it (semilinear.rs 258-285): its numbers, and the lent bytes whose first
+-- `at` are the atoms so far. An atom that would pass 256 atoms or 3,072 tree records (refusal 9) makes it full; a full
+-- table stays as it is.
+use Prim.Native.Nat.{ℕ, _+_, _*_, _≤_}
+use mathlib.Core.Path.{_≡_}
+use mathlib.Core.List.{List, _++_}
+use mathlib.Core.Bool.{Bool, true, false, _&&_}
+use lib.ListN.{length}
+use lib.Dec.{ltb, leb}
+use Rattle.record.specs.Choice.{when}
+use Rattle.record.specs.Fields.{size}
+use Rattle.record.specs.Tree.{recordBytes}
+use Rattle.record.specs.Decode.{decode}
+use Rattle.record.specs.Put.{put}
+use Rattle.expr.specs.Hash.{structuralHash}
+use Rattle.semilinear.specs.declared.table.Table.{Table}
+
+-- the table's numbers agree, keep the limits, and len bytes have room for every table within them
+pub record Placed (tab : Table) (len : ℕ) : Type 0 where
+  pub place : tab .at ≡ 16 * (tab .count + tab .records)
+  pub atoms-le : tab .count ≤ 256
+  pub records-le : tab .records ≤ 3072
+  pub room : 53248 ≤ len
+
+-- a table and the bytes beside it
+pub record Store : Type 0 where
+  pub table : Table
+  pub bytes : List ℕ
+
+abbrev pub storeOf : Table → List ℕ → Store
+storeOf tab out = record { table = tab; bytes = out }
+
+-- the table without atoms
+unfoldable pub emptyTable : Table
+emptyTable = record { at = 0; count = 0; records = 0; full = false }
+
+-- the bytes of an atom of provenance p whose tree has the bytes t
+unfoldable pub atomSpan : ℕ → ℕ → List ℕ → List ℕ
+atomSpan w p t = recordBytes 33 p (size t) w (structuralHash (decode t)) ++ t
+
+-- with this atom more the table keeps its limits
+unfoldable pub fitsMore : Table → List ℕ → Bool
+fitsMore tab t = ltb (tab .count) 256 && leb (tab .records + size t) 3072
+
+-- the table's numbers with this atom more
+unfoldable pub moreAtoms : Table → List ℕ → Table
+moreAtoms tab t =
+    record {
+      at = tab .at + 16 + length t;
+      count = tab .count + 1;
+      records = tab .records + size t;
+      full = tab .full;
+    }
+
+unfoldable pub fullTable : Table → Table
+fullTable tab = record { at = tab .at; count = tab .count; records = tab .records; full = true }
+
+-- the store after `create_atom`
+unfoldable pub createAtom : ℕ → ℕ → List ℕ → Store → Store
+createAtom w p t s =
+    when (s .table .full) (λ _. s)
+    (λ _. when (fitsMore (s .table) t)
+    (λ _. storeOf (moreAtoms (s .table) t) (put (s .bytes) (s .table .at) (atomSpan w p t)))
+    (λ _. storeOf (fullTable (s .table)) (s .bytes)))

@@ -1,0 +1,7 @@
+// The semilinear form (document 01: sheet): its records, its validity, its value, and compaction.
+pub mod decompose;
+pub mod items;
+pub mod outcome;
+pub mod scan;
+pub mod table;
+pub mod value;

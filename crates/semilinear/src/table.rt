@@ -1,0 +1,88 @@
+// The atom table while a pass adds atoms to it, beside the lent bytes that hold them; and the
+// writers of a form's records.
+ghost use mathlib.Core.Path.{_≡_};
+ghost use mathlib.Core.Bool.{true};
+ghost use Prim.Native.Nat.{_+_, _<_, _≤_};
+ghost use lib.ListN.{length};
+ghost use Rattle.record.specs.Span.{sized};
+ghost use Rattle.record.specs.Put.{put};
+ghost use Rattle.semilinear.specs.Form.{termBytes, sumBytes};
+ghost use Rattle.semilinear.specs.Table.{Placed, storeOf, emptyTable, atomSpan, createAtom};
+
+// Puts an atom, its head and a copy of its tree t, into out from index `at` on.
+pub fn put_atom(out: &mut [u8], at: usize, t: &[u8], prov: u8, w: u8)
+    requires { ⌜ (at + 16 + length (now t) ≤ length (now out)) × (sized (now t) ≡ true) ⌝ }
+    ensures { λ _. ⌜ now (out .exit)
+        ≡ put (now (out .entry)) at (atomSpan w prov (now (t .entry))) ⌝ }
+{
+    let hash = expr::hash::structural_hash(t);
+    record::write::put_record(out, at, 33, prov, record::size(t), w, hash);
+    record::write::put_bytes(out, at + 16, t);
+}
+
+// Puts the term of atom i with coefficient c into out from index `at` on.
+pub fn put_term(out: &mut [u8], at: usize, i: u64, c: u64, w: u8)
+    requires { ⌜ (at + 16 ≤ length (now out)) × (i < 65536) ⌝ }
+    ensures { λ _. ⌜ now (out .exit) ≡ put (now (out .entry)) at (termBytes w i c) ⌝ }
+{
+    record::write::put_record(out, at, 34, 0, i, w, c);
+}
+
+// Puts the sum record with the constant c into out from index `at` on.
+pub fn put_sum(out: &mut [u8], at: usize, c: u64, w: u8)
+    requires { ⌜ at + 16 ≤ length (now out) ⌝ }
+    ensures { λ _. ⌜ now (out .exit) ≡ put (now (out .entry)) at (sumBytes w c) ⌝ }
+{
+    record::write::put_record(out, at, 32, 0, 0, w, c);
+}
+
+// The bytes, atoms and tree records so far, and whether an atom more would have passed a limit.
+pub struct Table {
+    pub at: usize,
+    pub count: u64,
+    pub records: u64,
+    pub full: bool,
+}
+
+impl Table {
+    // A table without atoms.
+    pub fn empty() -> Self
+        ensures { λ r. ⌜ r ≡ emptyTable ⌝ }
+    {
+        Self {
+            at: 0,
+            count: 0,
+            records: 0,
+            full: false,
+        }
+    }
+
+    // Appends an atom with the tree t; its number is the count before. Corresponds to
+    // `create_atom`.
+    pub fn create_atom(mut self, out: &mut [u8], t: &[u8], prov: u8, w: u8) -> Self
+        requires { ⌜ Placed self (length (now out)) × (sized (now t) ≡ true) ⌝ }
+        ensures { λ r. ⌜ storeOf r (now (out .exit))
+            ≡ createAtom w prov (now (t .entry)) (storeOf self (now (out .entry))) ⌝ }
+    {
+        if self.full {
+            return self;
+        }
+        let size = record::size(t);
+        let count = self.count;
+        let records = self.records;
+        if count >= 256 {
+            self.full = true;
+            return self;
+        }
+        if records + size > 3072 {
+            self.full = true;
+            return self;
+        }
+        let at = self.at;
+        put_atom(out, at, t, prov, w);
+        self.at = at + 16 + t.len();
+        self.count = count + 1;
+        self.records = records + size;
+        self
+    }
+}

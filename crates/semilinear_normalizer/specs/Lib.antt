@@ -1,0 +1,5 @@
+-- Normalising an expression to its semilinear form (document 01, "The sheet"; semilinear_normalizer.rs).
+pub mod Collect
+pub mod Truth
+pub mod Register
+pub mod Normalize

@@ -1,0 +1,38 @@
+-- What normalising gives (document 01, "The sheet" and refusals 1 to 9; semilinear_normalizer.rs 431-487).
+use Prim.Native.Nat.{ℕ}
+use mathlib.Core.List.{List, []}
+use mathlib.Core.Bool.{Bool, true, false, not}
+use lib.ListN.{length}
+use lib.Dec.{eqb}
+use Rattle.record.specs.Choice.{when}
+use Rattle.record.specs.Fields.{width}
+use Rattle.record.specs.Tree.{Tree}
+use Rattle.record.specs.Decode.{decode}
+use Rattle.expr.specs.Refusal.{exprRefusal}
+use Rattle.expr.specs.Utils.{hasConstantArith}
+use Rattle.semilinear.specs.Form.{Form, fitsTable}
+use Rattle.semilinear.specs.Outcome.{Outcome, refused, formOutcome}
+use Rattle.semilinear_normalizer.specs.Collect.{Emitted, Collected, nonlinear, linear, collectTerms}
+use Rattle.semilinear_normalizer.specs.Register.{registerAll}
+
+-- the form of what was collected, with a table that has no limits
+unfoldable pub collectedForm : ℕ → ℕ → List Emitted → Form
+collectedForm w c l = record { bitwidth = w; constant = c; rows = registerAll w l [] }
+
+-- 8 for what is nonlinear, 9 where the table passes a limit, else the form
+unfoldable pub collectedOutcome : ℕ → Collected → Outcome
+collectedOutcome w nonlinear = refused 8
+collectedOutcome w (linear c l) =
+    when (fitsTable (collectedForm w c l .rows)) (λ _. formOutcome (collectedForm w c l) false) (λ _. refused 9)
+
+-- of a tree of any size, at w bits; 7 is a test on the tree alone
+unfoldable pub normalizeTree : ℕ → Tree → Outcome
+normalizeTree w t = when (hasConstantArith t) (λ _. refused 7) (λ _. collectedOutcome w (collectTerms w 1 t))
+
+-- of the bytes s of an expression, with a result slice of len bytes
+unfoldable pub normalizeToSemilinear : List ℕ → ℕ → Outcome
+normalizeToSemilinear s len =
+    when (eqb (exprRefusal s) 1) (λ _. refused 1)
+    (λ _. when (not (eqb len 57360)) (λ _. refused 2)
+    (λ _. when (not (eqb (exprRefusal s) 0)) (λ _. refused (exprRefusal s))
+    (λ _. normalizeTree (width s) (decode s))))

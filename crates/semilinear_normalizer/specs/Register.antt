@@ -1,0 +1,92 @@
+-- The atom table of the normaliser (semilinear_normalizer.rs 231-283, `register_atom`, `detect_provenance` 174-214).
+-- Difference 1: sharing by hash needs equal trees; the published Rust asks for it too and keeps one slot for each
+-- (hash, variables), that of the newest atom.
+use Prim.Native.Nat.{ℕ, zero, suc, _+_}
+use mathlib.Core.List.{List, [], _∷_}
+use mathlib.Core.Bool.{Bool, true, false, not, _&&_, _||_}
+use lib.ListN.{length}
+use lib.Dec.{eqb, leb}
+use Rattle.arith.specs.Width.{modAdd}
+use Rattle.record.specs.Choice.{when}
+use Rattle.record.specs.Tree.{Tree}
+use Rattle.record.specs.Tree.Tree.{Constant, Variable, Unary, Binary}
+use Rattle.expr.specs.Utils.{hasLiteral, hasShr}
+use Rattle.expr.specs.Vars.{support, sameVars}
+use Rattle.expr.specs.Hash.{structuralHash}
+use Rattle.semilinear.specs.Form.{Row, eqTree}
+use Rattle.semilinear_normalizer.specs.Collect.{Emitted}
+use Rattle.semilinear_normalizer.specs.Truth.{table}
+
+-- And over And and Mixed is And, otherwise Mixed; likewise Or and Xor; a Not is Not; all else is Mixed
+unfoldable pub familyOf : ℕ → ℕ → ℕ → ℕ
+familyOf f x y = when ((eqb x f || eqb x 4) && (eqb y f || eqb y 4)) (λ _. f) (λ _. 4)
+
+unfoldable pub detectProvenance : Tree → ℕ
+detectProvenance (Constant v) = 4
+detectProvenance (Variable i) = 4
+detectProvenance (Unary k a t) = when (eqb k 7) (λ _. 3) (λ _. 4)
+detectProvenance (Binary k l r) =
+    when (eqb k 4) (λ _. familyOf 0 (detectProvenance l) (detectProvenance r))
+    (λ _. when (eqb k 5) (λ _. familyOf 1 (detectProvenance l) (detectProvenance r))
+    (λ _. when (eqb k 6) (λ _. familyOf 2 (detectProvenance l) (detectProvenance r)) (λ _. 4)))
+
+-- the most variables of an atom that is shared by its truth table
+abbrev pub sharedVars : ℕ
+sharedVars = 5
+
+-- the tree may be shared by its truth table: no literal, no Shr, and few variables
+unfoldable pub isPure : Tree → Bool
+isPure t = not (hasLiteral t) && (not (hasShr t) && leb (length (support t)) sharedVars)
+
+-- the same function of the same variables
+unfoldable pub sameTable : Tree → Tree → Bool
+sameTable t u =
+    isPure t
+    && (isPure u
+    && (sameVars t u
+    && eqb (table 0 (support t) (length (support t)) t) (table 0 (support t) (length (support t)) u)))
+
+-- the same hash and the same variables
+unfoldable pub sameSlot : Tree → Tree → Bool
+sameSlot t u = eqb (structuralHash t) (structuralHash u) && sameVars t u
+
+-- the number of the newest row that passes a test, in rows numbered from i; `none` where no row does
+unfoldable pub newestRow : (Row → Bool) → ℕ → List Row → ℕ → ℕ
+newestRow test i [] none = none
+newestRow test i (x ∷ l) none = newestRow test (i + 1) l (when (test x) (λ _. i) (λ _. none))
+
+-- the number of the first row that passes a test; the number after the last where no row does
+unfoldable pub firstRow : (Row → Bool) → ℕ → List Row → ℕ
+firstRow test i [] = i
+firstRow test i (x ∷ l) = when (test x) (λ _. i) (λ _. firstRow test (i + 1) l)
+
+-- row j has the tree t
+unfoldable pub hasTree : ℕ → Tree → ℕ → List Row → Bool
+hasTree w t j [] = false
+hasTree w t zero (x ∷ l) = eqTree w (x .tree) t
+hasTree w t (suc j) (x ∷ l) = hasTree w t j l
+
+-- the row that the tree t shares: the newest of the same hash and variables where it has this very tree, else the first
+-- with the same table; the number after the last where it shares none
+unfoldable pub sharedRow : ℕ → Tree → List Row → ℕ
+sharedRow w t rows =
+    when (hasTree w t (newestRow (λ x. sameSlot (x .tree) t) 0 rows (length rows)) rows)
+    (λ _. newestRow (λ x. sameSlot (x .tree) t) 0 rows (length rows))
+    (λ _. firstRow (λ x. sameTable (x .tree) t) 0 rows)
+
+-- the coefficient of `new` added to row j, or `new` as a row after the last
+unfoldable pub addRow : ℕ → Row → ℕ → List Row → List Row
+addRow w new j [] = new ∷ []
+addRow w new zero (x ∷ l) =
+    record { provenance = x .provenance; tree = x .tree; coeff = modAdd (x .coeff) (new .coeff) w } ∷ l
+addRow w new (suc j) (x ∷ l) = x ∷ addRow w new j l
+
+unfoldable pub registerAtom : ℕ → Emitted → List Row → List Row
+registerAtom w e rows =
+    addRow w (record { provenance = detectProvenance (e .tree); tree = e .tree; coeff = e .coeff })
+    (sharedRow w (e .tree) rows) rows
+
+-- all that was emitted, in order
+unfoldable pub registerAll : ℕ → List Emitted → List Row → List Row
+registerAll w [] rows = rows
+registerAll w (e ∷ l) rows = registerAll w l (registerAtom w e rows)

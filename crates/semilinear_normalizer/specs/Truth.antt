@@ -1,0 +1,37 @@
+-- The bit of a bitwise tree at one place, from the bits of its variables there, and the tables made of it (document 01,
+-- "Hint columns"; semilinear.rs 100-161, bit_partitioner.rs 29-90). The Rust's tables for sharing have w bits a row;
+-- they are equal exactly when those at place 0 are.
+use Prim.Native.Nat.{ℕ, zero, suc, _+_, _-_, _*_, _^_, min, max}
+use mathlib.Core.List.{List, [], _∷_}
+use mathlib.Core.Bool.{Bool, true, false, _&&_, _||_}
+use lib.Dec.{eqb}
+use lib.Bits.{differ}
+use Rattle.arith.specs.Bit.{bitAt}
+use Rattle.record.specs.Choice.{when}
+use Rattle.record.specs.Tree.{Tree}
+use Rattle.record.specs.Tree.Tree.{Constant, Variable, Unary, Binary}
+
+-- And, Or and Xor of two bits
+unfoldable pub bitBinary : ℕ → ℕ → ℕ → ℕ
+bitBinary k x y = when (eqb k 4) (λ _. min x y) (λ _. when (eqb k 5) (λ _. max x y) (λ _. differ x y))
+
+-- the tree's bit at place p, where variable i has bit b i there; without non-zero shifts
+unfoldable pub bitOf : ℕ → (ℕ → ℕ) → Tree → ℕ
+bitOf p b (Constant v) = bitAt v p
+bitOf p b (Variable i) = b i
+bitOf p b (Unary k a t) = when (eqb k 7) (λ _. 1 - bitOf p b t) (λ _. bitOf p b t)
+bitOf p b (Binary k l r) = bitBinary k (bitOf p b l) (bitOf p b r)
+
+-- the assignment number i: the j-th variable of the list, from `place` on, has bit j of i; the others have 0
+unfoldable pub rowBits : ℕ → List ℕ → ℕ → ℕ → ℕ
+rowBits place [] i v = 0
+rowBits place (x ∷ l) i v = when (eqb x v) (λ _. bitAt i place) (λ _. rowBits (place + 1) l i v)
+
+-- the n low rows of the tree's table at place p over the variables vs: bit i is the tree's bit under assignment i
+unfoldable pub tableF : ℕ → ℕ → List ℕ → Tree → ℕ
+tableF zero p vs t = 0
+tableF (suc n) p vs t = tableF n p vs t + 2 ^ n * bitOf p (rowBits 0 vs n) t
+
+-- the whole table of n variables
+unfoldable pub table : ℕ → List ℕ → ℕ → Tree → ℕ
+table p vs n t = tableF (2 ^ n) p vs t

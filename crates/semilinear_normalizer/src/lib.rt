@@ -1,0 +1,1 @@
+// Normalising an expression to its semilinear form.
