@@ -34,6 +34,11 @@ unfoldable pub rowBits : ℕ → List ℕ → ℕ → ℕ → ℕ
 rowBits place [] i v = 0
 rowBits place (x ∷ l) i v = when (eqb x v) (λ _. bitAt i place) (λ _. rowBits (place + 1) l i v)
 
+-- the number of the assignment that gives the variables of the list the bits b: bit j is that of the j-th variable
+unfoldable pub rowOf : (ℕ → ℕ) → List ℕ → ℕ
+rowOf b [] = 0
+rowOf b (x ∷ l) = b x + 2 * rowOf b l
+
 -- the n low rows of the tree's table at place p over the variables vs: bit i is the tree's bit under assignment i
 unfoldable pub tableF : ℕ → ℕ → List ℕ → Tree → ℕ
 tableF zero p vs t = 0
