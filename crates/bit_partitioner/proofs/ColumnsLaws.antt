@@ -1,12 +1,14 @@
--- What the words of a valid form's partition say (specs/Columns.antt), and that they fit the result slice.
+-- What the words of a valid form's partition say (specs/Columns.antt): each place is in exactly one class, the atoms'
+-- bits stand in the profile words, and the words fit the result slice. `writtenOf len (partitionsOutcome f)` is the whole
+-- slice of len words.
 use mathlib.Core.Path.{_≡_, refl, ap, sym, subst, _∙_}
-use Prim.Native.Nat.{ℕ, zero, suc, _+_, _*_, _^_, _≤_, _<_}
+use Prim.Native.Nat.{ℕ, zero, suc, _+_, _-_, _*_, _^_, _≤_, _<_}
 use native.Mathlib.Omega.{arith}
-use native.Mathlib.Nat.{lt-of-lt-of-le}
-use native.Mathlib.Decide.{ℕ-discrete}
+use native.Mathlib.Nat.{lt-of-lt-of-le, mul-le-mul-left, zero-add}
+use native.Mathlib.Decide.{ℕ-discrete, decLt}
 use mathlib.Core.List.{List, [], _∷_, _++_}
 use mathlib.Core.Bool.{Bool, true, false, not, _&&_, _||_}
-use lib.ListN.{length, getD, length-append, List·getD-append}
+use lib.ListN.{length, getD, replicate, length-append, List·getD-append}
 use lib.Seq.{getD-append-add}
 use lib.Dec.{eqb, ltb, lit<, lit≤}
 use lib.Pow.{pow-mono, pow-pos}
@@ -15,6 +17,7 @@ use borrow.Author.Tests.{ltb-false, ne-eqb, eq-eqb, not-true}
 use Rattle.arith.specs.Bit.{bitAt}
 use Rattle.arith.proofs.BitLaws.{bit-lt, bit-past}
 use Rattle.record.specs.Choice.{when}
+use Rattle.record.specs.Put.{padded}
 use Rattle.record.specs.Tree.{Tree}
 use Rattle.record.proofs.SizedLaws.{false-true, and-true}
 use Rattle.expr.specs.Refusal.{isExpr}
@@ -22,92 +25,209 @@ use Rattle.expr.specs.Utils.{hasVarDep, hasArith}
 use Rattle.expr.specs.Value.{value}
 use Rattle.expr.specs.Vars.{support}
 use Rattle.semilinear.specs.Form.{Row, Form, isAtomTree, rowsOk, validForm}
+use Rattle.semilinear.specs.Outcome.{writtenOf}
 use Rattle.semilinear.proofs.FormLaws.{Good, rows-cons, Valid, form-parts}
 use Rattle.semilinear_normalizer.specs.Truth.{hasShift, bitOf, rowOf, table}
 use Rattle.semilinear_normalizer.proofs.CollectLaws.{or-false}
 use Rattle.semilinear_normalizer.proofs.TruthLaws.{Bitwise, bit-value, table-lt, table-row, occurs-support}
 use Rattle.semilinear_normalizer.proofs.TruthLaws.{row-of-lt, row-of-bit}
 use Rattle.bit_partitioner.specs.Partition.{columnVars, isOpaque, opaqueWord, profileWord, profileFrom}
-use Rattle.bit_partitioner.specs.Partition.{PartitionClass, classesF, classesOf, classWords}
-use Rattle.bit_partitioner.specs.Columns.{maskAt, wordAt, Holds, InOneClass, treeAt, IsRow}
-use Rattle.bit_partitioner.proofs.PartitionLaws.{classAt, Class, Each, each-at, profiles, classes-each}
-use Rattle.bit_partitioner.proofs.PartitionLaws.{classes-holders, classes-length, InClass, holder-of}
+use Rattle.bit_partitioner.specs.Partition.{PartitionClass, classesF, classesOf, classWords, partitionsOutcome}
+use Rattle.bit_partitioner.specs.Columns.{treeAt, atomTree, maskAt, wordAt, Holds, InOneClass, IsRow}
+use Rattle.bit_partitioner.proofs.PartitionLaws.{classAt, holders, Class, Each, each-at, each-map, profiles}
+use Rattle.bit_partitioner.proofs.PartitionLaws.{classes-each, classes-holders, classes-length, InClass, holder-of}
+use Rattle.bit_partitioner.proofs.ProfileLaws.{tabled, profile-length, profile-at, profile-lt, HasWords}
+use Rattle.bit_partitioner.proofs.ProfileLaws.{profile-word-tabled, profile-word-opaque, class-words-length}
+use Rattle.bit_partitioner.proofs.ProfileLaws.{class-words-at, class-words-lt, getD-padded}
 
--- ---- profiles
+-- ---- the classes of a form
 
--- what an atom that is not opaque has
-pub record Tabled (t : Tree) : Type 0 where
-  pub few : length (support t) ≤ columnVars
-  pub no-shift : hasShift t ≡ false
+pub classes-none : (f : Form) → length (f .rows) ≡ 0 → classesOf f ≡ []
+unfolding classesOf
+classes-none f e = simp (eq-eqb (length (f .rows)) 0 e)
 
-pub tabled : (t : Tree) → isOpaque t ≡ false → Tabled t
-unfolding isOpaque
-tabled t e =
-    let p = or-false (ltb columnVars (length (support t))) (hasShift t) e in
-    record { few = ltb-false _ _ (p .0); no-shift = p .1 }
+pub classes-some : (f : Form) → 0 < length (f .rows) → classesOf f ≡ classesF (f .bitwidth) (f .rows)
+unfolding classesOf
+classes-some f h = simp (ne-eqb (length (f .rows)) 0 (omega arith))
 
-pub profile-length : (p i : ℕ) (rows : List Row) → length (profileFrom p i rows) ≡ length rows
-unfolding profileFrom
-profile-length p i [] = refl
-profile-length p i (x ∷ l) = ap suc (profile-length p (i + 1) l)
+module _ (f : Form) (P : List PartitionClass → Type 0) (none : P []) (some : P (classesF (f .bitwidth) (f .rows))) where
+  classes-either : P (classesOf f)
+  classes-either = go (ℕ-discrete (length (f .rows)) 0)
+    where
+      go : Dec (length (f .rows) ≡ 0) → P (classesOf f)
+      go (yes e) = rw (classes-none f e) none
+      go (no d) = rw (classes-some f (omega arith)) some
 
-pub profile-at : (p i : ℕ) (rows : List Row) (j : ℕ) → j < length rows
-    → getD (profileFrom p i rows) j 0 ≡ profileWord p (i + j) (treeAt rows j)
-unfolding profileFrom treeAt
-profile-at p i [] j h = absurd (omega arith)
-profile-at p i (x ∷ l) zero h =
-    let e : i ≡ i + 0 = omega arith in
-    ap (λ (n : ℕ). profileWord p n (x .tree)) e
-profile-at p i (x ∷ l) (suc j) h =
-    let e : i + 1 + j ≡ i + suc j = omega arith in
-    profile-at p (i + 1) l j (omega arith) ∙ ap (λ (n : ℕ). profileWord p n (treeAt l j)) e
+module _ (f : Form) where
+  abbrev count : ℕ
+  count = length (classesOf f)
 
-pub profile-word-tabled : (p i : ℕ) (t : Tree) → isOpaque t ≡ false
-    → profileWord p i t ≡ table p (support t) (length (support t)) t
-unfolding profileWord
-profile-word-tabled p i t e = simp e
+  abbrev atoms : ℕ
+  atoms = length (f .rows)
 
-pub profile-word-opaque : (p i : ℕ) (t : Tree) → isOpaque t ≡ true → profileWord p i t ≡ opaqueWord i
-unfolding profileWord
-profile-word-opaque p i t e = simp e
+  abbrev IsClass : PartitionClass → Type 0
+  IsClass = Class (profiles (f .rows)) (f .bitwidth)
 
-profile-word-lt : (p i : ℕ) (t : Tree) → i < 2 ^ 64 → profileWord p i t < 2 ^ 64
-unfolding profileWord opaqueWord
-profile-word-lt p i t hi = go (isOpaque t) refl
-  where
-    go : (b : Bool) → isOpaque t ≡ b
-        → when b (λ _. opaqueWord i) (λ _. table p (support t) (length (support t)) t) < 2 ^ 64
-    go true e = or-lt 64 0xDEAD_0000_0000_0000 i (lit< tt) hi
-    go false e =
-        let few : 2 ^ length (support t) ≤ 2 ^ 5 = pow-mono (tabled t e .few) in
-        let rows : 2 ^ length (support t) ≤ 64 = omega arith in
-        lt-of-lt-of-le (table-lt p (support t) t (length (support t))) (pow-mono rows)
+  classes-ok : Each IsClass (classesOf f)
+  unfolding Each
+  classes-ok = classes-either f (Each IsClass) tt (classes-each (f .rows) (f .bitwidth))
 
--- ---- the words of classes, where each profile has n words
+  classes-words : Each (HasWords atoms) (classesOf f)
+  classes-words =
+      each-map IsClass (HasWords atoms)
+      (λ x c. ap length (c .own (c .some) (c .some-there)) ∙ profile-length (c .some) 0 (f .rows))
+      (classesOf f) classes-ok
 
-abbrev HasWords : ℕ → PartitionClass → Type 0
-HasWords n x = length (x .profile) ≡ n
+  -- there are at most as many classes as places
+  pub columns-count : count ≤ f .bitwidth
+  columns-count =
+      classes-either f (λ l. length l ≤ f .bitwidth) (omega arith) (classes-length (f .rows) (f .bitwidth))
 
-module _ (n : ℕ) where
-  pub class-words-length : (l : List PartitionClass) → Each (HasWords n) l
-      → length (classWords l) ≡ length l * (n + 1)
-  unfolding classWords Each
-  class-words-length [] e = omega arith
-  class-words-length (x ∷ l) e =
-      length-append (x .mask ∷ x .profile) (classWords l)
-      ∙ omega (arith, e .0, class-words-length l (e .1))
+  pub columns-length : length (classWords (classesOf f)) ≡ count * (atoms + 1)
+  columns-length = class-words-length atoms (classesOf f) classes-words
 
-  -- what stands from the words of class k on
-  class-words-at : (l : List PartitionClass) → Each (HasWords n) l → (k : ℕ) → k < length l → (j : ℕ) → j < n + 1
-      → getD (classWords l) (k * (n + 1) + j) 0 ≡ getD (classAt l k .mask ∷ classAt l k .profile) j 0
-  unfolding classWords Each
-  class-words-at [] e k h j hj = absurd (omega arith)
-  class-words-at (x ∷ l) e zero h j hj =
-      let z : 0 * (n + 1) + j ≡ j = omega arith in
-      ap (λ (i : ℕ). getD ((x .mask ∷ x .profile) ++ classWords l) i 0) z
-      ∙ List·getD-append (x .mask ∷ x .profile) (classWords l) 0 j (omega (arith, e .0))
-  class-words-at (x ∷ l) e (suc k) h j hj =
-      let z : suc k * (n + 1) + j ≡ suc (length (x .profile)) + (k * (n + 1) + j) = omega (arith, e .0) in
-      ap (λ (i : ℕ). getD ((x .mask ∷ x .profile) ++ classWords l) i 0) z
-      ∙ getD-append-add (x .mask ∷ x .profile) (classWords l) (k * (n + 1) + j) 0
-      ∙ class-words-at l (e .1) k (omega arith) j hj
+-- ---- valid forms
+
+-- the tree of an atom of valid rows
+good-at : (w : ℕ) (rows : List Row) → rowsOk w rows ≡ true → (i : ℕ) → i < length rows → isAtomTree (treeAt rows i) ≡ true
+unfolding treeAt
+good-at w [] e i h = absurd (omega arith)
+good-at w (x ∷ l) e zero h = rows-cons w x l e .0 .atom
+good-at w (x ∷ l) e (suc i) h = good-at w l (rows-cons w x l e .1) i (omega arith)
+
+bitwise-atom : (t : Tree) → isAtomTree t ≡ true → isOpaque t ≡ false → Bitwise t
+unfolding isAtomTree
+bitwise-atom t e o =
+    let p = and-true (isExpr t) (hasVarDep t && not (hasArith t)) e in
+    let q = and-true (hasVarDep t) (not (hasArith t)) (p .1) in
+    record { expr = p .0; no-arith = not-true _ (q .1); no-shift = tabled t o .no-shift }
+
+module _ (f : Form) (ok : validForm f ≡ true) where
+  -- the words fit the result slice of 16,448 words of 64 bits
+  pub columns-fit : length (classWords (classesOf f)) ≤ 16448
+  columns-fit =
+      let v = form-parts f ok in
+      let wide : count f * (atoms f + 1) ≤ count f * 257 = mul-le-mul-left (count f) (omega (arith, v .atoms-le)) in
+      omega (arith, columns-length f, columns-count f, v .width-le)
+
+  pub columns-lt : (j : ℕ) → getD (classWords (classesOf f)) j 0 < 2 ^ 64
+  columns-lt =
+      class-words-lt (atoms f) (classesOf f)
+      (each-map (IsClass f) _ (λ x c. (mask-word x c, profile-words x c)) (classesOf f) (classes-ok f))
+    where
+      mask-word : (x : PartitionClass) → IsClass f x → x .mask < 2 ^ 64
+      mask-word x c = lt-of-lt-of-le (c .low) (pow-mono (form-parts f ok .width-le))
+
+      profile-words : (x : PartitionClass) → IsClass f x → (j : ℕ) → getD (x .profile) j 0 < 2 ^ 64
+      profile-words x c j =
+          rw (c .own (c .some) (c .some-there))
+          (profile-lt (c .some) 0 (f .rows) (omega (arith, form-parts f ok .atoms-le)) j)
+
+  module _ (len : ℕ) where
+    -- the whole result slice
+    abbrev out : List ℕ
+    out = writtenOf len (partitionsOutcome f)
+
+    abbrev HoldsHere : ℕ → ℕ → Type 0
+    HoldsHere = Holds f out (count f)
+
+    out-at : (j : ℕ) → getD out j 0 ≡ getD (classWords (classesOf f)) j 0
+    unfolding writtenOf partitionsOutcome
+    out-at j = getD-padded len (classWords (classesOf f)) j
+
+    mask-at : (k : ℕ) → k < count f → maskAt f out k ≡ classAt (classesOf f) k .mask
+    mask-at k h =
+        let e : k * (atoms f + 1) ≡ k * (atoms f + 1) + 0 = omega arith in
+        out-at (k * (atoms f + 1))
+        ∙ ap (λ (j : ℕ). getD (classWords (classesOf f)) j 0) e
+        ∙ class-words-at (atoms f) (classesOf f) (classes-words f) k h 0 (omega arith)
+
+    word-at : (k i : ℕ) → k < count f → i < atoms f → wordAt f out k i ≡ getD (classAt (classesOf f) k .profile) i 0
+    word-at k i h hi =
+        let e : k * (atoms f + 1) + 1 + i ≡ k * (atoms f + 1) + suc i = omega arith in
+        out-at (k * (atoms f + 1) + 1 + i)
+        ∙ ap (λ (j : ℕ). getD (classWords (classesOf f)) j 0) e
+        ∙ class-words-at (atoms f) (classesOf f) (classes-words f) k h (suc i) (omega arith)
+
+    class-at : (k : ℕ) → k < count f → IsClass f (classAt (classesOf f) k)
+    class-at k h = each-at (IsClass f) (classesOf f) (classes-ok f) k h
+
+    -- a bit of a class's mask, and of the word written for it
+    holds-in : (k p : ℕ) → HoldsHere k p → bitAt (classAt (classesOf f) k .mask) p ≡ 1
+    holds-in k p h = ap (λ (m : ℕ). bitAt m p) (sym (mask-at k (h .below))) ∙ h .there
+
+    in-holds : (k p : ℕ) → k < count f → bitAt (classAt (classesOf f) k .mask) p ≡ 1 → HoldsHere k p
+    in-holds k p l b = record { below = l; there = ap (λ (m : ℕ). bitAt m p) (mask-at k l) ∙ b }
+
+    -- each class holds a place
+    some-place : (k : ℕ) (l : k < count f) → HoldsHere k (class-at k l .some)
+    some-place k l = in-holds k (class-at k l .some) l (class-at k l .some-there)
+
+    pub columns-mask-lt : (k : ℕ) → k < count f → maskAt f out k < 2 ^ f .bitwidth
+    columns-mask-lt k h = rw (mask-at k h) (class-at k h .low)
+
+    -- where there are atoms, each place is in exactly one class
+    pub columns-once : 0 < length (f .rows) → (p : ℕ) → p < f .bitwidth → InOneClass f out (count f) p
+    columns-once some p hp =
+        let one : holders p (classesOf f) ≡ 1 =
+        ap (holders p) (classes-some f some) ∙ classes-holders (f .rows) (f .bitwidth) p hp in
+        let i = holder-of p (classesOf f) one in
+        record {
+          class = i .at;
+          holds = in-holds (i .at) p (i .below) (i .there);
+          only = λ k h. i .only k (h .below) (holds-in k p h);
+        }
+
+    -- a place that a class holds is one of the form's
+    pub columns-place-lt : (k p : ℕ) → HoldsHere k p → p < f .bitwidth
+    columns-place-lt k p h = go (decLt p (f .bitwidth))
+      where
+        go : Dec (p < f .bitwidth) → p < f .bitwidth
+        go (yes l) = l
+        go (no l) =
+            let z = bit-past (maskAt f out k) (f .bitwidth) p (columns-mask-lt k (h .below)) (omega arith) in
+            absurd (omega (arith, h .there, z))
+
+    -- the profile words of a class are those of each place that it holds
+    pub columns-word : (k p : ℕ) → HoldsHere k p → (i : ℕ) → i < length (f .rows)
+        → wordAt f out k i ≡ profileWord p i (atomTree f i)
+    columns-word k p h i hi =
+        word-at k i (h .below) hi
+        ∙ ap (λ (l : List ℕ). getD l i 0) (class-at k (h .below) .own p (holds-in k p h))
+        ∙ profile-at p 0 (f .rows) i hi
+        ∙ ap (λ (n : ℕ). profileWord p n (atomTree f i)) (zero-add i)
+
+    -- an atom's bit at a place of class k is the bit of its profile word there at the row of the assignment
+    pub columns-bit : (i : ℕ) → i < length (f .rows) → isOpaque (atomTree f i) ≡ false
+        → (k p : ℕ) → Holds f out (count f) k p
+        → (vars : List ℕ) (row : ℕ) → IsRow (atomTree f i) p vars row
+        → bitAt (value (f .bitwidth) vars (atomTree f i)) p ≡ bitAt (wordAt f out k i) row
+    columns-bit i hi tab k p h vars row r =
+        let t : Tree = atomTree f i in
+        let b : Bitwise t = bitwise-atom t (good-at (f .bitwidth) (f .rows) (form-parts f ok .rows-ok) i hi) tab in
+        let bits : ℕ → ℕ = λ v. bitAt (getD vars v 0) p in
+        bit-value (f .bitwidth) p (columns-place-lt k p h) vars t b
+        ∙ sym
+        (table-row p (support t) (length (support t)) t bits row (r .low) (r .bits) (occurs-support t (b .expr)))
+        ∙ ap (λ (n : ℕ). bitAt n row) (sym (columns-word k p h i hi ∙ profile-word-tabled p i t tab))
+
+    pub columns-word-lt : (i : ℕ) → i < length (f .rows) → isOpaque (atomTree f i) ≡ false
+        → (k : ℕ) → k < count f → wordAt f out k i < 2 ^ (2 ^ length (support (atomTree f i)))
+    columns-word-lt i hi tab k l =
+        let t : Tree = atomTree f i in
+        let p : ℕ = class-at k l .some in
+        rw (columns-word k p (some-place k l) i hi ∙ profile-word-tabled p i t tab)
+        (table-lt p (support t) t (length (support t)))
+
+    pub columns-opaque : (i : ℕ) → i < length (f .rows) → isOpaque (atomTree f i) ≡ true
+        → (k : ℕ) → k < count f → wordAt f out k i ≡ opaqueWord i
+    columns-opaque i hi op k l =
+        let p : ℕ = class-at k l .some in
+        columns-word k p (some-place k l) i hi ∙ profile-word-opaque p i (atomTree f i) op
+
+-- every assignment has its row
+pub row-is : (t : Tree) (p : ℕ) (vars : List ℕ) → IsRow t p vars (rowOf (λ v. bitAt (getD vars v 0) p) (support t))
+row-is t p vars =
+    let bits : ℕ → ℕ = λ v. bitAt (getD vars v 0) p in
+    let small : (v : ℕ) → bits v < 2 = λ v. bit-lt (getD vars v 0) p in
+    record { low = row-of-lt bits small (support t); bits = row-of-bit bits small (support t) }

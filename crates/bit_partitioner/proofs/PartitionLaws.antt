@@ -46,6 +46,12 @@ each-at P [] e k h = absurd (omega arith)
 each-at P (x ∷ l) e zero h = e .0
 each-at P (x ∷ l) e (suc k) h = each-at P l (e .1) k (omega arith)
 
+pub each-map : (P Q : PartitionClass → Type 0) → ((x : PartitionClass) → P x → Q x)
+    → (l : List PartitionClass) → Each P l → Each Q l
+unfolding Each
+each-map P Q f [] e = tt
+each-map P Q f (x ∷ l) e = (f x (e .0), each-map P Q f l (e .1))
+
 -- ---- one place more
 
 module _ (profiles : ℕ → List ℕ) (p : ℕ) where
@@ -93,19 +99,17 @@ module _ (profiles : ℕ → List ℕ) (p : ℕ) where
       → Each (Class profiles (suc p)) (joinClass p (profiles p) l)
   unfolding Each joinClass
   join-each [] e = (opened, tt)
-  join-each (x ∷ l) e = go (eqList (x .profile) (profiles p)) refl (join-each l (e .1)) (each-kept l (e .1))
+  join-each (x ∷ l) e = go (eqList (x .profile) (profiles p)) refl (join-each l (e .1))
     where
-      each-kept : (m : List PartitionClass) → Each (Class profiles p) m → Each (Class profiles (suc p)) m
-      each-kept [] f = tt
-      each-kept (y ∷ m) f = (kept y (f .0), each-kept m (f .1))
-
       go : (b : Bool) → eqList (x .profile) (profiles p) ≡ b
-          → Each (Class profiles (suc p)) (joinClass p (profiles p) l) → Each (Class profiles (suc p)) l
+          → Each (Class profiles (suc p)) (joinClass p (profiles p) l)
           → Each (Class profiles (suc p))
           (when b (λ _. record { mask = bitOr (x .mask) (2 ^ p); profile = x .profile } ∷ l)
           (λ _. x ∷ joinClass p (profiles p) l))
-      go true f below same = (joined x (e .0) (eq-of-eq-list (x .profile) (profiles p) f), same)
-      go false f below same = (kept x (e .0), below)
+      go true f below =
+          (joined x (e .0) (eq-of-eq-list (x .profile) (profiles p) f),
+          each-map (Class profiles p) (Class profiles (suc p)) kept l (e .1))
+      go false f below = (kept x (e .0), below)
 
   -- the holders of another place stay, and p, which had none, has one
   join-other : (r : List ℕ) (q : ℕ) → (q ≡ p → ⊥) → (l : List PartitionClass) → holders q (joinClass p r l) ≡ holders q l
