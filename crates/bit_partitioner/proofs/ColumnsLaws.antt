@@ -33,9 +33,11 @@ use Rattle.semilinear_normalizer.proofs.TruthLaws.{Bitwise, bit-value, table-lt
 use Rattle.semilinear_normalizer.proofs.TruthLaws.{row-of-lt, row-of-bit}
 use Rattle.bit_partitioner.specs.Partition.{columnVars, isOpaque, opaqueWord, profileWord, profileFrom}
 use Rattle.bit_partitioner.specs.Partition.{PartitionClass, classesF, classesOf, classWords, partitionsOutcome}
-use Rattle.bit_partitioner.specs.Columns.{treeAt, atomTree, maskAt, wordAt, Holds, InOneClass, IsRow}
+use Rattle.bit_partitioner.specs.Columns.{treeAt, atomTree, maskAt, wordAt, Holds, InOneClass, HoldsBelow, IsRow}
+use Rattle.bit_partitioner.specs.Columns.{Columns}
 use Rattle.bit_partitioner.proofs.PartitionLaws.{classAt, holders, Class, Each, each-at, each-map, profiles}
 use Rattle.bit_partitioner.proofs.PartitionLaws.{classes-each, classes-holders, classes-length, InClass, holder-of}
+use Rattle.bit_partitioner.proofs.OrderLaws.{Before, classes-before}
 use Rattle.bit_partitioner.proofs.ProfileLaws.{tabled, profile-length, profile-at, profile-lt, HasWords}
 use Rattle.bit_partitioner.proofs.ProfileLaws.{profile-word-tabled, profile-word-opaque, class-words-length}
 use Rattle.bit_partitioner.proofs.ProfileLaws.{class-words-at, class-words-lt, getD-padded}
@@ -178,6 +180,16 @@ module _ (f : Form) (ok : validForm f ≡ true) where
           only = λ k h. i .only k (h .below) (holds-in k p h);
         }
 
+    -- each place of a class has a lower one in every class before it
+    pub columns-rising : (k j : ℕ) → k < j → (q : ℕ) → HoldsHere j q → HoldsBelow f out (count f) k q
+    columns-rising k j h q held =
+        let before =
+        classes-either f (λ l. j < length l → Before (classAt l k) (classAt l j)) (λ l. absurd (omega arith))
+        (classes-before (f .rows) (f .bitwidth) k j h) in
+        let l = before (held .below) q (holds-in j q held) in
+        let low : k < count f = omega (arith, held .below) in
+        record { place = l .place; less = l .less; holds = in-holds k (l .place) low (l .there) }
+
     -- a place that a class holds is one of the form's
     pub columns-place-lt : (k p : ℕ) → HoldsHere k p → p < f .bitwidth
     columns-place-lt k p h = go (decLt p (f .bitwidth))
@@ -224,6 +236,20 @@ module _ (f : Form) (ok : validForm f ≡ true) where
     columns-opaque i hi op k l =
         let p : ℕ = class-at k l .some in
         columns-word k p (some-place k l) i hi ∙ profile-word-opaque p i (atomTree f i) op
+
+    -- all that document 01 says of the words
+    pub columns : Columns f out (count f)
+    columns =
+        record {
+          none = λ e. ap length (classes-none f e);
+          once = columns-once;
+          mask-lt = columns-mask-lt;
+          count-le = columns-count f;
+          rising = columns-rising;
+          bit = columns-bit;
+          word-lt = columns-word-lt;
+          opaque = columns-opaque;
+        }
 
 -- every assignment has its row
 pub row-is : (t : Tree) (p : ℕ) (vars : List ℕ) → IsRow t p vars (rowOf (λ v. bitAt (getD vars v 0) p) (support t))

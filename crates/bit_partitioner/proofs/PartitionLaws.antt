@@ -55,7 +55,7 @@ each-map P Q f (x ∷ l) e = (f x (e .0), each-map P Q f l (e .1))
 -- ---- one place more
 
 module _ (profiles : ℕ → List ℕ) (p : ℕ) where
-  or-other : (m q : ℕ) → (q ≡ p → ⊥) → bitAt (bitOr m (2 ^ p)) q ≡ bitAt m q
+  pub or-other : (m q : ℕ) → (q ≡ p → ⊥) → bitAt (bitOr m (2 ^ p)) q ≡ bitAt m q
   or-other m q n = bit-or m (2 ^ p) q ∙ omega (arith, bit-pow-other p q n)
 
   or-self : (m : ℕ) → bitAt (bitOr m (2 ^ p)) p ≡ 1
