@@ -1,42 +1,36 @@
 -- What the words of a valid form's partition say (specs/Columns.antt): each place is in exactly one class, the atoms'
--- bits stand in the profile words, and the words fit the result slice. `writtenOf len (partitionsOutcome f)` is the whole
--- slice of len words.
-use mathlib.Core.Path.{_≡_, refl, ap, sym, subst, _∙_}
+-- bits stand in the profile words, and the words fit the result slice. The whole slice, of len words, is
+-- `writtenOf len (partitionsOutcome f)`.
+use mathlib.Core.Path.{_≡_, ap, sym, _∙_}
 use Prim.Native.Nat.{ℕ, zero, suc, _+_, _-_, _*_, _^_, _≤_, _<_}
 use native.Mathlib.Omega.{arith}
 use native.Mathlib.Nat.{lt-of-lt-of-le, mul-le-mul-left, zero-add}
 use native.Mathlib.Decide.{ℕ-discrete, decLt}
-use mathlib.Core.List.{List, [], _∷_, _++_}
-use mathlib.Core.Bool.{Bool, true, false, not, _&&_, _||_}
-use lib.ListN.{length, getD, replicate, length-append, List·getD-append}
-use lib.Seq.{getD-append-add}
-use lib.Dec.{eqb, ltb, lit<, lit≤}
-use lib.Pow.{pow-mono, pow-pos}
-use lib.Bits.{or-lt}
-use borrow.Author.Tests.{ltb-false, ne-eqb, eq-eqb, not-true}
+use mathlib.Core.List.{List, [], _∷_}
+use mathlib.Core.Bool.{true, false, not, _&&_}
+use lib.ListN.{length, getD}
+use lib.Pow.{pow-mono}
+use borrow.Author.Tests.{ne-eqb, eq-eqb, not-true}
 use Rattle.arith.specs.Bit.{bitAt}
 use Rattle.arith.proofs.BitLaws.{bit-lt, bit-past}
-use Rattle.record.specs.Choice.{when}
-use Rattle.record.specs.Put.{padded}
 use Rattle.record.specs.Tree.{Tree}
-use Rattle.record.proofs.SizedLaws.{false-true, and-true}
+use Rattle.record.proofs.SizedLaws.{and-true}
 use Rattle.expr.specs.Refusal.{isExpr}
 use Rattle.expr.specs.Utils.{hasVarDep, hasArith}
 use Rattle.expr.specs.Value.{value}
 use Rattle.expr.specs.Vars.{support}
 use Rattle.semilinear.specs.Form.{Row, Form, isAtomTree, rowsOk, validForm}
 use Rattle.semilinear.specs.Outcome.{writtenOf}
-use Rattle.semilinear.proofs.FormLaws.{Good, rows-cons, Valid, form-parts}
-use Rattle.semilinear_normalizer.specs.Truth.{hasShift, bitOf, rowOf, table}
-use Rattle.semilinear_normalizer.proofs.CollectLaws.{or-false}
-use Rattle.semilinear_normalizer.proofs.TruthLaws.{Bitwise, bit-value, table-lt, table-row, occurs-support}
-use Rattle.semilinear_normalizer.proofs.TruthLaws.{row-of-lt, row-of-bit}
-use Rattle.bit_partitioner.specs.Partition.{columnVars, isOpaque, opaqueWord, profileWord, profileFrom}
+use Rattle.semilinear.proofs.FormLaws.{rows-cons, form-parts}
+use Rattle.semilinear_normalizer.specs.Truth.{rowOf}
+use Rattle.semilinear_normalizer.proofs.BitOfLaws.{Bitwise, bit-value}
+use Rattle.semilinear_normalizer.proofs.TruthLaws.{table-lt, table-row, occurs-support, row-of-lt, row-of-bit}
+use Rattle.bit_partitioner.specs.Partition.{isOpaque, opaqueWord, profileWord}
 use Rattle.bit_partitioner.specs.Partition.{PartitionClass, classesF, classesOf, classWords, partitionsOutcome}
 use Rattle.bit_partitioner.specs.Columns.{treeAt, atomTree, maskAt, wordAt, Holds, InOneClass, HoldsBelow, IsRow}
 use Rattle.bit_partitioner.specs.Columns.{Columns}
-use Rattle.bit_partitioner.proofs.PartitionLaws.{classAt, holders, Class, Each, each-at, each-map, profiles}
-use Rattle.bit_partitioner.proofs.PartitionLaws.{classes-each, classes-holders, classes-length, InClass, holder-of}
+use Rattle.bit_partitioner.proofs.PartitionLaws.{classAt, holders, Class, Each, each-at, each-map}
+use Rattle.bit_partitioner.proofs.PartitionLaws.{profiles, classes-each, classes-holders, classes-length, holder-of}
 use Rattle.bit_partitioner.proofs.OrderLaws.{Before, classes-before}
 use Rattle.bit_partitioner.proofs.ProfileLaws.{tabled, profile-length, profile-at, profile-lt, HasWords}
 use Rattle.bit_partitioner.proofs.ProfileLaws.{profile-word-tabled, profile-word-opaque, class-words-length}
@@ -91,7 +85,8 @@ module _ (f : Form) where
 -- ---- valid forms
 
 -- the tree of an atom of valid rows
-good-at : (w : ℕ) (rows : List Row) → rowsOk w rows ≡ true → (i : ℕ) → i < length rows → isAtomTree (treeAt rows i) ≡ true
+good-at : (w : ℕ) (rows : List Row) → rowsOk w rows ≡ true → (i : ℕ) → i < length rows
+    → isAtomTree (treeAt rows i) ≡ true
 unfolding treeAt
 good-at w [] e i h = absurd (omega arith)
 good-at w (x ∷ l) e zero h = rows-cons w x l e .0 .atom

@@ -1,7 +1,7 @@
 -- Laws of the classes (specs/Partition.antt): each place is in exactly one, with its profile, and there are at most as
 -- many as places.
-use mathlib.Core.Path.{_≡_, refl, ap, ap₂, sym, _∙_}
-use Prim.Native.Nat.{ℕ, zero, suc, _+_, _*_, _^_, _≤_, _<_, max}
+use mathlib.Core.Path.{_≡_, refl, ap, sym, _∙_}
+use Prim.Native.Nat.{ℕ, zero, suc, _+_, _^_, _≤_, _<_}
 use native.Mathlib.Omega.{arith}
 use native.Mathlib.Nat.{lt-of-lt-of-le}
 use native.Mathlib.Decide.{ℕ-discrete}
@@ -112,7 +112,8 @@ module _ (profiles : ℕ → List ℕ) (p : ℕ) where
       go false f below = (kept x (e .0), below)
 
   -- the holders of another place stay, and p, which had none, has one
-  join-other : (r : List ℕ) (q : ℕ) → (q ≡ p → ⊥) → (l : List PartitionClass) → holders q (joinClass p r l) ≡ holders q l
+  join-other : (r : List ℕ) (q : ℕ) → (q ≡ p → ⊥) → (l : List PartitionClass)
+      → holders q (joinClass p r l) ≡ holders q l
   unfolding holders joinClass
   join-other r q n [] = omega (arith, bit-pow-other p q n)
   join-other r q n (x ∷ l) = go (eqList (x .profile) r) (join-other r q n l)
@@ -173,7 +174,8 @@ module _ (rows : List Row) where
       go : Dec (p ≡ n) → (p < n → holders p (classesF n rows) ≡ 1)
           → holders p (joinClass n (profiles n) (classesF n rows)) ≡ 1
       go (yes e) below =
-          rw e (join-self profiles n (profiles n) (classesF n rows) (none-yet profiles n (classesF n rows) (classes-each n)))
+          let none = none-yet profiles n (classesF n rows) (classes-each n) in
+          rw e (join-self profiles n (profiles n) (classesF n rows) none)
       go (no d) below =
           join-other profiles n (profiles n) p d (classesF n rows) ∙ below (omega arith)
 
@@ -192,7 +194,8 @@ pub record InClass (p : ℕ) (l : List PartitionClass) : Type 0 where
   pub there : bitAt (classAt l at .mask) p ≡ 1
   pub only : (k : ℕ) → k < length l → bitAt (classAt l k .mask) p ≡ 1 → k ≡ at
 
-no-holder : (p : ℕ) (l : List PartitionClass) → holders p l ≡ 0 → (k : ℕ) → k < length l → bitAt (classAt l k .mask) p ≡ 0
+no-holder : (p : ℕ) (l : List PartitionClass) → holders p l ≡ 0 → (k : ℕ) → k < length l
+    → bitAt (classAt l k .mask) p ≡ 0
 unfolding holders
 no-holder p [] z k h = absurd (omega arith)
 no-holder p (x ∷ l) z zero h = omega arith

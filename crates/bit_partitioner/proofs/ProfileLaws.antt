@@ -1,38 +1,28 @@
 -- Laws of the profiles of atoms, and of the words that classes are written as (specs/Partition.antt).
-use mathlib.Core.Path.{_≡_, refl, ap, sym, subst, _∙_}
+use mathlib.Core.Path.{_≡_, refl, ap, _∙_}
 use Prim.Native.Nat.{ℕ, zero, suc, _+_, _-_, _*_, _^_, _≤_, _<_}
 use native.Mathlib.Omega.{arith}
 use native.Mathlib.Nat.{lt-of-lt-of-le}
-use native.Mathlib.Decide.{ℕ-discrete}
 use mathlib.Core.List.{List, [], _∷_, _++_}
-use mathlib.Core.Bool.{Bool, true, false, not, _&&_, _||_}
+use mathlib.Core.Bool.{Bool, true, false}
 use lib.ListN.{length, getD, replicate, length-append, List·getD-append}
 use lib.Seq.{getD-append-add}
-use lib.Dec.{eqb, ltb, lit<, lit≤}
+use lib.Dec.{ltb, lit<}
 use lib.Pow.{pow-mono, pow-pos}
 use lib.Bits.{or-lt}
-use borrow.Author.Tests.{ltb-false, ne-eqb, eq-eqb, not-true}
-use Rattle.arith.specs.Bit.{bitAt}
-use Rattle.arith.proofs.BitLaws.{bit-lt, bit-past}
+use borrow.Author.Tests.{ltb-false}
 use Rattle.record.specs.Choice.{when}
 use Rattle.record.specs.Put.{padded}
 use Rattle.record.specs.Tree.{Tree}
-use Rattle.record.proofs.SizedLaws.{false-true, and-true}
-use Rattle.expr.specs.Refusal.{isExpr}
-use Rattle.expr.specs.Utils.{hasVarDep, hasArith}
-use Rattle.expr.specs.Value.{value}
 use Rattle.expr.specs.Vars.{support}
-use Rattle.semilinear.specs.Form.{Row, Form, isAtomTree, rowsOk, validForm}
-use Rattle.semilinear.proofs.FormLaws.{Good, rows-cons, Valid, form-parts}
-use Rattle.semilinear_normalizer.specs.Truth.{hasShift, bitOf, rowOf, table}
+use Rattle.semilinear.specs.Form.{Row}
+use Rattle.semilinear_normalizer.specs.Truth.{hasShift, table}
 use Rattle.semilinear_normalizer.proofs.CollectLaws.{or-false}
-use Rattle.semilinear_normalizer.proofs.TruthLaws.{Bitwise, bit-value, table-lt, table-row, occurs-support}
-use Rattle.semilinear_normalizer.proofs.TruthLaws.{row-of-lt, row-of-bit}
+use Rattle.semilinear_normalizer.proofs.TruthLaws.{table-lt}
 use Rattle.bit_partitioner.specs.Partition.{columnVars, isOpaque, opaqueWord, profileWord, profileFrom}
-use Rattle.bit_partitioner.specs.Partition.{PartitionClass, classesF, classesOf, classWords}
+use Rattle.bit_partitioner.specs.Partition.{PartitionClass, classWords}
 use Rattle.bit_partitioner.specs.Columns.{treeAt}
-use Rattle.bit_partitioner.proofs.PartitionLaws.{classAt, Class, Each, each-at, each-map, profiles}
-use Rattle.bit_partitioner.proofs.PartitionLaws.{classes-each, classes-holders, classes-length, InClass, holder-of}
+use Rattle.bit_partitioner.proofs.PartitionLaws.{classAt, Each}
 
 -- ---- profiles
 
@@ -84,7 +74,8 @@ profile-word-lt p i t hi = go (isOpaque t) refl
         let rows : 2 ^ length (support t) ≤ 64 = omega arith in
         lt-of-lt-of-le (table-lt p (support t) t (length (support t))) (pow-mono rows)
 
-pub profile-lt : (p i : ℕ) (rows : List Row) → i + length rows ≤ 2 ^ 64 → (j : ℕ) → getD (profileFrom p i rows) j 0 < 2 ^ 64
+pub profile-lt : (p i : ℕ) (rows : List Row) → i + length rows ≤ 2 ^ 64
+    → (j : ℕ) → getD (profileFrom p i rows) j 0 < 2 ^ 64
 unfolding profileFrom
 profile-lt p i [] h j = pow-pos 64
 profile-lt p i (x ∷ l) h zero = profile-word-lt p i (x .tree) (omega arith)
@@ -119,7 +110,8 @@ module _ (n : ℕ) where
       ∙ getD-append-add (x .mask ∷ x .profile) (classWords l) (k * (n + 1) + j) 0
       ∙ class-words-at l (e .1) k (omega arith) j hj
 
-  pub class-words-lt : (l : List PartitionClass) → Each (λ x. (x .mask < 2 ^ 64) × ((j : ℕ) → getD (x .profile) j 0 < 2 ^ 64)) l
+  pub class-words-lt : (l : List PartitionClass)
+      → Each (λ x. (x .mask < 2 ^ 64) × ((j : ℕ) → getD (x .profile) j 0 < 2 ^ 64)) l
       → (j : ℕ) → getD (classWords l) j 0 < 2 ^ 64
   unfolding classWords Each
   class-words-lt [] e j = pow-pos 64

@@ -1,4 +1,4 @@
--- What the words of a partition say (document 01, "Hint columns"), with no word of how the classes are made: which class
+-- What the words of a partition say (document 01, "Hint columns"), apart from how the classes are made: which class
 -- holds a place, and which bit of an atom's profile word there is the atom's bit under an assignment.
 use mathlib.Core.Path.{_≡_}
 use Prim.Native.Nat.{ℕ, zero, suc, _+_, _*_, _^_, _≤_, _<_}

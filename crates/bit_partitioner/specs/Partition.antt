@@ -1,9 +1,9 @@
 -- The classes of places at which every atom has the same table, their words, and what the entry point gives
 -- (document 01, "Hint columns"; bit_partitioner.rs 28-155). Difference 4: the classes stand by their lowest place.
-use Prim.Native.Nat.{ℕ, zero, suc, _+_, _*_, _^_}
+use Prim.Native.Nat.{ℕ, zero, suc, _+_, _^_}
 use mathlib.Core.List.{List, [], _∷_, _++_}
-use mathlib.Core.Bool.{Bool, true, false, _||_}
-use lib.ListN.{length, getD}
+use mathlib.Core.Bool.{Bool, _||_}
+use lib.ListN.{length}
 use lib.Dec.{eqb, ltb}
 use lib.Bits.{bitOr}
 use Rattle.record.specs.Choice.{when}

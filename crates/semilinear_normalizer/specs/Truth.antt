@@ -1,6 +1,6 @@
 -- The bit of a bitwise tree at one place, from the bits of its variables there, and the tables made of it (document 01,
 -- "Hint columns"; semilinear.rs 100-161, bit_partitioner.rs 29-90). The Rust's tables for sharing have w bits a row;
--- they are equal exactly when those at place 0 are.
+-- they are equal exactly when those at place 0 are (proofs/WordTableLaws.antt).
 use Prim.Native.Nat.{ℕ, zero, suc, _+_, _-_, _*_, _^_, min, max}
 use mathlib.Core.List.{List, [], _∷_}
 use mathlib.Core.Bool.{Bool, false, not, _&&_, _||_}
