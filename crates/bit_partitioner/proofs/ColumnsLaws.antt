@@ -2,19 +2,22 @@
 -- bits stand in the profile words, and the words fit the result slice. The whole slice, of len words, is
 -- `writtenOf len (partitionsOutcome f)`.
 use mathlib.Core.Path.{_≡_, ap, sym, _∙_}
-use Prim.Native.Nat.{ℕ, zero, suc, _+_, _-_, _*_, _^_, _≤_, _<_}
+use Prim.Native.Nat.{ℕ, zero, suc, _+_, _*_, _^_, _≤_, _<_}
 use native.Mathlib.Omega.{arith}
 use native.Mathlib.Nat.{lt-of-lt-of-le, mul-le-mul-left, zero-add}
-use native.Mathlib.Decide.{ℕ-discrete, decLt}
+use native.Mathlib.Decide.{decLt}
 use mathlib.Core.List.{List, [], _∷_}
 use mathlib.Core.Bool.{true, false, not, _&&_}
 use lib.ListN.{length, getD}
+use lib.Seq.{ext-getD}
 use lib.Pow.{pow-mono}
-use borrow.Author.Tests.{ne-eqb, eq-eqb, not-true}
+use borrow.Author.Tests.{not-true}
 use Rattle.arith.specs.Bit.{bitAt}
 use Rattle.arith.proofs.BitLaws.{bit-lt, bit-past}
+use Rattle.record.specs.Lists.{eqList}
 use Rattle.record.specs.Tree.{Tree}
-use Rattle.record.proofs.SizedLaws.{and-true}
+use Rattle.record.proofs.SizedLaws.{false-true, and-true}
+use Rattle.record.proofs.ListsLaws.{eq-list-self}
 use Rattle.expr.specs.Refusal.{isExpr}
 use Rattle.expr.specs.Utils.{hasVarDep, hasArith}
 use Rattle.expr.specs.Value.{value}
@@ -26,61 +29,17 @@ use Rattle.semilinear_normalizer.specs.Truth.{rowOf}
 use Rattle.semilinear_normalizer.proofs.BitOfLaws.{Bitwise, bit-value}
 use Rattle.semilinear_normalizer.proofs.TruthLaws.{table-lt, table-row, occurs-support, row-of-lt, row-of-bit}
 use Rattle.bit_partitioner.specs.Partition.{isOpaque, opaqueWord, profileWord}
-use Rattle.bit_partitioner.specs.Partition.{PartitionClass, classesF, classesOf, classWords, partitionsOutcome}
-use Rattle.bit_partitioner.specs.Columns.{treeAt, atomTree, maskAt, wordAt, Holds, InOneClass, HoldsBelow, IsRow}
-use Rattle.bit_partitioner.specs.Columns.{Columns}
-use Rattle.bit_partitioner.proofs.PartitionLaws.{classAt, holders, Class, Each, each-at, each-map}
-use Rattle.bit_partitioner.proofs.PartitionLaws.{profiles, classes-each, classes-holders, classes-length, holder-of}
-use Rattle.bit_partitioner.proofs.OrderLaws.{Before, classes-before}
-use Rattle.bit_partitioner.proofs.ProfileLaws.{tabled, profile-length, profile-at, profile-lt, HasWords}
-use Rattle.bit_partitioner.proofs.ProfileLaws.{profile-word-tabled, profile-word-opaque, class-words-length}
+use Rattle.bit_partitioner.specs.Partition.{PartitionClass, classesOf, classWords, partitionsOutcome}
+use Rattle.bit_partitioner.specs.Columns.{treeAt, atomTree, maskAt, wordAt, Holds, InOneClass, HoldsBelow}
+use Rattle.bit_partitioner.specs.Columns.{IsRow, Columns}
+use Rattle.bit_partitioner.proofs.PartitionLaws.{classAt, holders, each-at, each-map}
+use Rattle.bit_partitioner.proofs.PartitionLaws.{classes-holders, holder-of}
+use Rattle.bit_partitioner.proofs.OrderLaws.{Before, Unlike, classes-before, classes-unlike}
+use Rattle.bit_partitioner.proofs.ProfileLaws.{tabled, profile-at, profile-lt, HasWords}
+use Rattle.bit_partitioner.proofs.ProfileLaws.{profile-word-tabled, profile-word-opaque}
 use Rattle.bit_partitioner.proofs.ProfileLaws.{class-words-at, class-words-lt, getD-padded}
-
--- ---- the classes of a form
-
-pub classes-none : (f : Form) → length (f .rows) ≡ 0 → classesOf f ≡ []
-unfolding classesOf
-classes-none f e = simp (eq-eqb (length (f .rows)) 0 e)
-
-pub classes-some : (f : Form) → 0 < length (f .rows) → classesOf f ≡ classesF (f .bitwidth) (f .rows)
-unfolding classesOf
-classes-some f h = simp (ne-eqb (length (f .rows)) 0 (omega arith))
-
-module _ (f : Form) (P : List PartitionClass → Type 0) (none : P []) (some : P (classesF (f .bitwidth) (f .rows))) where
-  classes-either : P (classesOf f)
-  classes-either = go (ℕ-discrete (length (f .rows)) 0)
-    where
-      go : Dec (length (f .rows) ≡ 0) → P (classesOf f)
-      go (yes e) = rw (classes-none f e) none
-      go (no d) = rw (classes-some f (omega arith)) some
-
-module _ (f : Form) where
-  abbrev count : ℕ
-  count = length (classesOf f)
-
-  abbrev atoms : ℕ
-  atoms = length (f .rows)
-
-  abbrev IsClass : PartitionClass → Type 0
-  IsClass = Class (profiles (f .rows)) (f .bitwidth)
-
-  classes-ok : Each IsClass (classesOf f)
-  unfolding Each
-  classes-ok = classes-either f (Each IsClass) tt (classes-each (f .rows) (f .bitwidth))
-
-  classes-words : Each (HasWords atoms) (classesOf f)
-  classes-words =
-      each-map IsClass (HasWords atoms)
-      (λ x c. ap length (c .own (c .some) (c .some-there)) ∙ profile-length (c .some) 0 (f .rows))
-      (classesOf f) classes-ok
-
-  -- there are at most as many classes as places
-  pub columns-count : count ≤ f .bitwidth
-  columns-count =
-      classes-either f (λ l. length l ≤ f .bitwidth) (omega arith) (classes-length (f .rows) (f .bitwidth))
-
-  pub columns-length : length (classWords (classesOf f)) ≡ count * (atoms + 1)
-  columns-length = class-words-length atoms (classesOf f) classes-words
+use Rattle.bit_partitioner.proofs.ClassesLaws.{classes-none, classes-some, classes-either, count, atoms, IsClass}
+use Rattle.bit_partitioner.proofs.ClassesLaws.{classes-ok, classes-words, columns-count, columns-length}
 
 -- ---- valid forms
 
@@ -185,6 +144,34 @@ module _ (f : Form) (ok : validForm f ≡ true) where
         let low : k < count f = omega (arith, held .below) in
         record { place = l .place; less = l .less; holds = in-holds k (l .place) low (l .there) }
 
+    -- no two classes have the same profile words
+    later-unlike : (k j : ℕ) → k < j → j < count f
+        → ((i : ℕ) → i < length (f .rows) → wordAt f out k i ≡ wordAt f out j i) → ⊥
+    later-unlike k j h l e =
+        let unlike =
+        classes-either f (λ l. j < length l → Unlike (classAt l k) (classAt l j)) (λ l. absurd (omega arith))
+        (classes-unlike (f .rows) (f .bitwidth) k j h) in
+        let x : List ℕ = classAt (classesOf f) k .profile in
+        let y : List ℕ = classAt (classesOf f) j .profile in
+        let low : k < count f = omega arith in
+        let nx : length x ≡ atoms f = each-at (HasWords (atoms f)) (classesOf f) (classes-words f) k low in
+        let ny : length y ≡ atoms f = each-at (HasWords (atoms f)) (classesOf f) (classes-words f) j l in
+        let same : x ≡ y =
+        ext-getD 0 x y (nx ∙ sym ny)
+        (λ i hi.
+        let inside : i < atoms f = omega arith in
+        sym (word-at k i low inside) ∙ e i inside ∙ word-at j i l inside) in
+        false-true (sym (unlike l) ∙ ap (eqList x) (sym same) ∙ eq-list-self x)
+
+    pub columns-distinct : (k j : ℕ) → k < count f → j < count f
+        → ((i : ℕ) → i < length (f .rows) → wordAt f out k i ≡ wordAt f out j i) → k ≡ j
+    columns-distinct k j hk hj e = go (decLt k j) (decLt j k)
+      where
+        go : Dec (k < j) → Dec (j < k) → k ≡ j
+        go (yes h) d = absurd (later-unlike k j h hj e)
+        go (no n) (yes h) = absurd (later-unlike j k h hk (λ i hi. sym (e i hi)))
+        go (no n) (no m) = omega arith
+
     -- a place that a class holds is one of the form's
     pub columns-place-lt : (k p : ℕ) → HoldsHere k p → p < f .bitwidth
     columns-place-lt k p h = go (decLt p (f .bitwidth))
@@ -241,6 +228,7 @@ module _ (f : Form) (ok : validForm f ≡ true) where
           mask-lt = columns-mask-lt;
           count-le = columns-count f;
           rising = columns-rising;
+          distinct = columns-distinct;
           bit = columns-bit;
           word-lt = columns-word-lt;
           opaque = columns-opaque;

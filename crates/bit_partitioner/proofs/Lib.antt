@@ -2,4 +2,6 @@
 pub mod PartitionLaws
 mod OrderLaws
 pub mod ProfileLaws
+pub mod ClassesLaws
 pub mod ColumnsLaws
+pub mod ComputeLaws

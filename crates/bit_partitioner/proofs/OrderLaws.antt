@@ -1,5 +1,6 @@
--- The classes stand by their lowest place: each place of a class has a lower one in every class before it.
-use mathlib.Core.Path.{_≡_, sym, _∙_}
+-- The classes stand by their lowest place: each place of a class has a lower one in every class before it. And no two
+-- have the same profile.
+use mathlib.Core.Path.{_≡_, refl, sym, _∙_}
 use Prim.Native.Nat.{ℕ, zero, suc, _^_, _<_}
 use native.Mathlib.Omega.{arith}
 use native.Mathlib.Decide.{ℕ-discrete, decLt}
@@ -25,9 +26,23 @@ pub record Lower (x : PartitionClass) (q : ℕ) : Type 0 where
 abbrev pub Before : PartitionClass → PartitionClass → Type 0
 Before x y = (q : ℕ) → bitAt (y .mask) q ≡ 1 → Lower x q
 
-unfoldable Ordered : List PartitionClass → Type 0
-Ordered [] = Unit {0}
-Ordered (x ∷ l) = Each (Before x) l × Ordered l
+abbrev pub Unlike : PartitionClass → PartitionClass → Type 0
+Unlike x y = eqList (x .profile) (y .profile) ≡ false
+
+-- R holds of each class and each later one
+unfoldable Pairwise : (PartitionClass → PartitionClass → Type 0) → List PartitionClass → Type 0
+Pairwise R [] = Unit {0}
+Pairwise R (x ∷ l) = Each (R x) l × Pairwise R l
+
+pairwise-at : (R : PartitionClass → PartitionClass → Type 0) (l : List PartitionClass) → Pairwise R l
+    → (k j : ℕ) → k < j → j < length l → R (classAt l k) (classAt l j)
+unfolding Pairwise
+pairwise-at R [] o k j h l = absurd (omega arith)
+pairwise-at R (x ∷ m) o k zero h l = absurd (omega arith)
+pairwise-at R (x ∷ m) o zero (suc j) h l = each-at (R x) m (o .0) j (omega arith)
+pairwise-at R (x ∷ m) o (suc k) (suc j) h l = pairwise-at R m (o .1) k j (omega arith) (omega arith)
+
+-- ---- lowest places
 
 module _ (profiles : ℕ → List ℕ) (p : ℕ) where
   -- a class of lower places has one below p
@@ -72,32 +87,59 @@ module _ (profiles : ℕ → List ℕ) (p : ℕ) where
       go true below = (before-new x y c (e .0), e .1)
       go false below = (e .0, below)
 
-  join-ordered : (r : List ℕ) (l : List PartitionClass) → Each (Class profiles p) l → Ordered l
-      → Ordered (joinClass p r l)
-  unfolding Each Ordered joinClass
+  join-ordered : (r : List ℕ) (l : List PartitionClass) → Each (Class profiles p) l → Pairwise Before l
+      → Pairwise Before (joinClass p r l)
+  unfolding Each Pairwise joinClass
   join-ordered r [] c o = (tt, tt)
   join-ordered r (x ∷ l) c o = go (eqList (x .profile) r) (join-ordered r l (c .1) (o .1))
     where
-      go : (b : Bool) → Ordered (joinClass p r l)
-          → Ordered
+      go : (b : Bool) → Pairwise Before (joinClass p r l)
+          → Pairwise Before
           (when b (λ _. record { mask = bitOr (x .mask) (2 ^ p); profile = x .profile } ∷ l) (λ _. x ∷ joinClass p r l))
       go true below = (each-map (Before x) (Before _) (λ y. grown-before x y) l (o .0), o .1)
       go false below = (join-before r x (c .0) l (o .0), below)
 
-classes-ordered : (rows : List Row) (n : ℕ) → Ordered (classesF n rows)
-unfolding Ordered classesF
+-- ---- profiles
+
+join-unlike : (p : ℕ) (r : List ℕ) (x : PartitionClass) → eqList (x .profile) r ≡ false → (l : List PartitionClass)
+    → Each (Unlike x) l → Each (Unlike x) (joinClass p r l)
+unfolding Each joinClass
+join-unlike p r x d [] e = (d, tt)
+join-unlike p r x d (y ∷ l) e = go (eqList (y .profile) r) (join-unlike p r x d l (e .1))
+  where
+    go : (b : Bool) → Each (Unlike x) (joinClass p r l)
+        → Each (Unlike x)
+        (when b (λ _. record { mask = bitOr (y .mask) (2 ^ p); profile = y .profile } ∷ l) (λ _. y ∷ joinClass p r l))
+    go true below = e
+    go false below = (e .0, below)
+
+join-distinct : (p : ℕ) (r : List ℕ) (l : List PartitionClass) → Pairwise Unlike l → Pairwise Unlike (joinClass p r l)
+unfolding Each Pairwise joinClass
+join-distinct p r [] o = (tt, tt)
+join-distinct p r (x ∷ l) o = go (eqList (x .profile) r) refl (join-distinct p r l (o .1))
+  where
+    go : (b : Bool) → eqList (x .profile) r ≡ b → Pairwise Unlike (joinClass p r l)
+        → Pairwise Unlike
+        (when b (λ _. record { mask = bitOr (x .mask) (2 ^ p); profile = x .profile } ∷ l) (λ _. x ∷ joinClass p r l))
+    go true d below = o
+    go false d below = (join-unlike p r x d l (o .0), below)
+
+-- ---- all places
+
+classes-ordered : (rows : List Row) (n : ℕ) → Pairwise Before (classesF n rows)
+unfolding Pairwise classesF
 classes-ordered rows zero = tt
 classes-ordered rows (suc p) =
     join-ordered (profiles rows) p (profiles rows p) (classesF p rows) (classes-each rows p) (classes-ordered rows p)
 
-ordered-at : (l : List PartitionClass) → Ordered l → (k j : ℕ) → k < j → j < length l
-    → Before (classAt l k) (classAt l j)
-unfolding Ordered
-ordered-at [] o k j h l = absurd (omega arith)
-ordered-at (x ∷ m) o k zero h l = absurd (omega arith)
-ordered-at (x ∷ m) o zero (suc j) h l = each-at (Before x) m (o .0) j (omega arith)
-ordered-at (x ∷ m) o (suc k) (suc j) h l = ordered-at m (o .1) k j (omega arith) (omega arith)
+classes-distinct : (rows : List Row) (n : ℕ) → Pairwise Unlike (classesF n rows)
+unfolding Pairwise classesF
+classes-distinct rows zero = tt
+classes-distinct rows (suc p) = join-distinct p (profiles rows p) (classesF p rows) (classes-distinct rows p)
 
-pub classes-before : (rows : List Row) (n k j : ℕ) → k < j → j < length (classesF n rows)
-    → Before (classAt (classesF n rows) k) (classAt (classesF n rows) j)
-classes-before rows n k j h l = ordered-at (classesF n rows) (classes-ordered rows n) k j h l
+module _ (rows : List Row) (n k j : ℕ) (h : k < j) (l : j < length (classesF n rows)) where
+  pub classes-before : Before (classAt (classesF n rows) k) (classAt (classesF n rows) j)
+  classes-before = pairwise-at Before (classesF n rows) (classes-ordered rows n) k j h l
+
+  pub classes-unlike : Unlike (classAt (classesF n rows) k) (classAt (classesF n rows) j)
+  classes-unlike = pairwise-at Unlike (classesF n rows) (classes-distinct rows n) k j h l

@@ -106,9 +106,10 @@ module _ (profiles : ℕ → List ℕ) (p : ℕ) where
           → Each (Class profiles (suc p))
           (when b (λ _. record { mask = bitOr (x .mask) (2 ^ p); profile = x .profile } ∷ l)
           (λ _. x ∷ joinClass p (profiles p) l))
-      go true f below =
-          (joined x (e .0) (eq-of-eq-list (x .profile) (profiles p) f),
-          each-map (Class profiles p) (Class profiles (suc p)) kept l (e .1))
+      go true f below = (
+        joined x (e .0) (eq-of-eq-list (x .profile) (profiles p) f),
+        each-map (Class profiles p) (Class profiles (suc p)) kept l (e .1),
+      )
       go false f below = (kept x (e .0), below)
 
   -- the holders of another place stay, and p, which had none, has one

@@ -70,7 +70,7 @@ profile-word-lt p i t hi = go (isOpaque t) refl
         → when b (λ _. opaqueWord i) (λ _. table p (support t) (length (support t)) t) < 2 ^ 64
     go true e = or-lt 64 0xDEAD_0000_0000_0000 i (lit< tt) hi
     go false e =
-        let few : 2 ^ length (support t) ≤ 2 ^ 5 = pow-mono (tabled t e .few) in
+        let few : 2 ^ length (support t) ≤ 2 ^ columnVars = pow-mono (tabled t e .few) in
         let rows : 2 ^ length (support t) ≤ 64 = omega arith in
         lt-of-lt-of-le (table-lt p (support t) t (length (support t))) (pow-mono rows)
 
@@ -138,4 +138,3 @@ getD-padded len l j = behind l (len - length l) j
     behind [] m i = zeros m i
     behind (x ∷ s) m zero = refl
     behind (x ∷ s) m (suc i) = behind s m i
-

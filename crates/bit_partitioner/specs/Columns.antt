@@ -61,6 +61,9 @@ pub record Columns (f : Form) (out : List ℕ) (count : ℕ) : Type 0 where
   pub mask-lt : (k : ℕ) → k < count → maskAt f out k < 2 ^ f .bitwidth
   pub count-le : count ≤ f .bitwidth
   pub rising : (k j : ℕ) → k < j → (q : ℕ) → Holds f out count j q → HoldsBelow f out count k q
+  -- no two classes have the same profile words
+  pub distinct : (k j : ℕ) → k < count → j < count
+      → ((i : ℕ) → i < length (f .rows) → wordAt f out k i ≡ wordAt f out j i) → k ≡ j
   -- an atom's bit at a place of class k is the bit of its profile word there at the row of the assignment
   pub bit : (i : ℕ) → i < length (f .rows) → isOpaque (atomTree f i) ≡ false
       → (k p : ℕ) → Holds f out count k p

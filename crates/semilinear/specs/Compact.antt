@@ -19,14 +19,14 @@ compactForm f = record { bitwidth = f .bitwidth; constant = f .constant; rows = 
 
 -- what reads a form and has a result slice of len elements, which must be `whole`: refusals 1, 2 and 10 in this order,
 -- then what `given` says of the form
-unfoldable pub readOutcome : ℕ → (Form → Outcome) → List ℕ → ℕ → Outcome
+abbrev pub readOutcome : ℕ → (Form → Outcome) → List ℕ → ℕ → Outcome
 readOutcome whole given s len =
     when (lengthRefused s) (λ _. refused 1)
     (λ _. when (not (eqb len whole)) (λ _. refused 2)
     (λ _. when (isSemilinear s) (λ _. given (decodeForm s)) (λ _. refused 10)))
 
 -- a pass: the result slice has 57,360 bytes
-abbrev pub passOutcome : (Form → Outcome) → List ℕ → ℕ → Outcome
+unfoldable pub passOutcome : (Form → Outcome) → List ℕ → ℕ → Outcome
 passOutcome = readOutcome 57360
 
 -- what `compact_atom_table` gives for the bytes s and a result slice of len bytes

@@ -1,7 +1,7 @@
 -- Laws of the truth tables (specs/Truth.antt): a table's bits are those of its rows, and trees with the same table
 -- (specs/Register.antt) have the same value under every assignment.
 use mathlib.Core.Path.{_≡_, refl, ap, sym, _∙_}
-use Prim.Native.Nat.{ℕ, zero, suc, _+_, _-_, _*_, _/_, _^_, _≤_, _<_}
+use Prim.Native.Nat.{ℕ, zero, suc, _+_, _*_, _/_, _^_, _≤_, _<_}
 use native.Mathlib.Omega.{arith}
 use native.Mathlib.Nat.{mod-eq-of-lt, zero-add}
 use native.Mathlib.Decide.{ℕ-discrete}

@@ -1,7 +1,7 @@
 -- The Rust's truth tables have a word of w bits for each row (semilinear.rs 109-161). For trees without literal and Shr
 -- they are equal exactly when the tables of specs/Truth.antt at place 0 are.
 use mathlib.Core.Path.{_≡_, refl, ap, sym, _∙_}
-use Prim.Native.Nat.{ℕ, zero, suc, _-_, _^_, _≤_, _<_}
+use Prim.Native.Nat.{ℕ, zero, suc, _^_, _≤_, _<_}
 use native.Mathlib.Omega.{arith}
 use native.Mathlib.Nat.{mod-eq-of-lt}
 use mathlib.Core.Logic.{_↔_}
