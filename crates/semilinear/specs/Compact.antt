@@ -8,7 +8,7 @@ use lib.Dec.{eqb}
 use Rattle.record.specs.Choice.{when}
 use Rattle.record.specs.Put.{put, padded}
 use Rattle.semilinear.specs.declared.compact.Written.{Written}
-use Rattle.semilinear.specs.Form.{Row, Form, termCount, atomsBytes, termBytes, termsBytes}
+use Rattle.semilinear.specs.Form.{Row, Form, fitsTable, termCount, atomsBytes, termBytes, termsBytes}
 use Rattle.semilinear.specs.Items.{isTerm, frontWord}
 use Rattle.semilinear.specs.Valid.{lengthRefused, isSemilinear}
 use Rattle.semilinear.specs.DecodeForm.{decodeForm}
@@ -33,6 +33,10 @@ readOutcome whole given s len =
 -- a pass: the result slice has 57,360 bytes
 unfoldable pub passOutcome : (Form → Outcome) → List ℕ → ℕ → Outcome
 passOutcome = readOutcome 57360
+
+-- a form that a pass made, or 9 where its table passes a limit
+unfoldable pub limitOutcome : Form → Bool → Outcome
+limitOutcome f flag = when (fitsTable (f .rows)) (λ _. formOutcome f flag) (λ _. refused 9)
 
 -- what `compact_atom_table` gives for the bytes s and a result slice of len bytes
 unfoldable pub compactAtomTable : List ℕ → ℕ → Outcome
