@@ -55,7 +55,7 @@ fn check_value(entry: &Entry) -> Result<(), String> {
         refusal: u64::from(entry.refusal),
         value: entry.expected,
     };
-    let found = library::expr_value(&entry.expr, &entry.words);
+    let found = library::expr_value(&entry.bytes, &entry.words);
     if found == wanted {
         return Ok(());
     }
@@ -63,7 +63,7 @@ fn check_value(entry: &Entry) -> Result<(), String> {
         "hogzelt_expr_value differs: wanted {wanted:x?}, found {found:x?}\n\
          words {:x?}\nexpression {}",
         entry.words,
-        hex(&entry.expr)
+        hex(&entry.bytes)
     ))
 }
 

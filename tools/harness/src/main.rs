@@ -9,6 +9,10 @@ mod compare;
 mod dump;
 mod edges;
 mod entry;
+mod form;
+mod form_edges;
+mod form_model;
+mod form_random;
 #[cfg(feature = "library")]
 mod library;
 mod masks;
