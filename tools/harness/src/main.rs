@@ -16,6 +16,8 @@ mod form_random;
 #[cfg(feature = "library")]
 mod library;
 mod masks;
+#[cfg(feature = "library")]
+mod measure;
 mod model;
 mod prng;
 mod published;
