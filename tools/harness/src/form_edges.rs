@@ -8,6 +8,7 @@ use crate::form::{
 };
 use crate::form_random::{self, rehash, ZERO};
 use crate::prng::Prng;
+use crate::published;
 use crate::record::{
     self, arity, binary, left_chain, literal, nested, right_chain, unary, variable, Record,
     Records, AND, CONCAT, CONSTANT, NOT, OR, RECORD_BYTES, SHR, VARIABLE, XOR,
@@ -192,11 +193,17 @@ fn single_trees() -> Vec<Entry> {
         for kind in [SUM, ATOM, TERM] {
             let mut tree = below.clone();
             tree[at].kind = kind;
-            all.extend(both(with_tree(tree)));
+            all.extend(both(with_tree(tree, 0)));
         }
     }
-    all.extend(both(with_tree([variable(8, 0), variable(8, 1)].concat())));
-    all.extend(both(with_tree(Vec::new())));
+    let (first, last) = (variable(8, 0), unary(NOT, 0, variable(8, 1)));
+    for hash in [published::hash(&first), published::hash(&last)] {
+        all.extend(both(with_tree(
+            [first.clone(), last.clone()].concat(),
+            hash,
+        )));
+    }
+    all.extend(both(with_tree(Vec::new(), 0)));
     all
 }
 
@@ -207,12 +214,12 @@ fn of_tree(w: u8, tree: Records) -> Form {
     form
 }
 
-/// `1·tree` at 8 bits, with the hash 0: the tree need not be one.
-fn with_tree(tree: Records) -> Vec<u8> {
+/// `1·tree` at 8 bits, with a given hash: the tree need not be one.
+fn with_tree(tree: Records, hash: u64) -> Vec<u8> {
     let mut form = Form::new(8, 0);
     form.atoms.push(Atom {
         provenance: MIXED,
-        hash: 0,
+        hash,
         tree,
     });
     form.terms.push(Term { atom: 0, coeff: 1 });
