@@ -7,4 +7,5 @@ pub mod IsExprLaws
 pub mod ExprValueLaws
 pub mod AcceptLaws
 pub mod VarsLaws
+pub mod SupportLaws
 mod ExampleLaws

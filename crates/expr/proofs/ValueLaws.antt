@@ -1,4 +1,5 @@
--- Laws of specs/Value.antt: a value has w bits.
+-- Laws of specs/Value.antt: a value has w bits, and depends on the variables that occur, at w bits.
+use mathlib.Core.Path.{_≡_, refl, ap, ap₂}
 use Prim.Native.Nat.{ℕ, _+_, _-_, _*_, _/_, _%_, _^_, _<_}
 use native.Mathlib.Nat.{mod-lt, lt-of-le-of-lt}
 use lib.Pow.{pow-pos, ones-sub-lt, shr-le}
@@ -6,11 +7,14 @@ use mathlib.Core.List.{List}
 use mathlib.Core.Bool.{Bool, true, false}
 use lib.ListN.{getD}
 use lib.Dec.{eqb}
+use borrow.Author.Tests.{eq-eqb}
 use lib.Bits.{bitAnd, bitOr, bitXor, and-le-l, or-lt, xor-lt}
 use Rattle.record.specs.Choice.{when}
 use Rattle.record.specs.Tree.{Tree}
 use Rattle.record.specs.Tree.Tree.{Constant, Variable, Unary, Binary}
+use Rattle.record.proofs.SizedLaws.{or-of-l, or-of-r}
 use Rattle.expr.specs.Value.{unary, binary, value}
+use Rattle.expr.specs.Vars.{occurs}
 
 unary-lt : (w k a x : ℕ) → x < 2 ^ w → unary w k a x < 2 ^ w
 unfolding unary
@@ -47,3 +51,14 @@ value-lt w vars (Variable i) = mod-lt (getD vars i 0) (pow-pos w)
 value-lt w vars (Unary k a t) = unary-lt w k a (value w vars t) (value-lt w vars t)
 value-lt w vars (Binary k l r) =
     binary-lt w k (value w vars l) (value w vars r) (value-lt w vars l) (value-lt w vars r)
+
+-- two assignments that agree, at w bits, on every variable that occurs give the same value
+pub value-occurs : (w : ℕ) (a b : List ℕ) (t : Tree)
+    → ((i : ℕ) → occurs i t ≡ true → getD a i 0 % 2 ^ w ≡ getD b i 0 % 2 ^ w) → value w a t ≡ value w b t
+unfolding value occurs
+value-occurs w a b (Constant v) h = refl
+value-occurs w a b (Variable i) h = h i (eq-eqb i i refl)
+value-occurs w a b (Unary k n t) h = ap (unary w k n) (value-occurs w a b t h)
+value-occurs w a b (Binary k l r) h =
+    ap₂ (binary w k) (value-occurs w a b l (λ i e. h i (or-of-l (occurs i l) (occurs i r) e)))
+    (value-occurs w a b r (λ i e. h i (or-of-r (occurs i l) (occurs i r) e)))

@@ -4,7 +4,7 @@ use Prim.Native.Nat.{ℕ, _+_, _-_, _*_, _≤_, _<_}
 use native.Mathlib.Omega.{arith}
 use native.Mathlib.Decide.{decLt, ℕ-discrete}
 use mathlib.Core.List.{List}
-use mathlib.Core.Bool.{Bool, true, false, _&&_}
+use mathlib.Core.Bool.{Bool, true, false, _&&_, _||_, or-true}
 use lib.ListN.{length}
 use lib.Dec.{eqb}
 use borrow.Author.Tests.{eqb-true}
@@ -19,6 +19,17 @@ false-true e = let z : _≡_ {A = ℕ} 0 1 = cc in absurd (omega arith)
 pub and-true : (a b : Bool) → a && b ≡ true → (a ≡ true) × (b ≡ true)
 and-true true b e = (refl, e)
 and-true false b e = false-true e
+
+-- a disjunction of tests from one part, and one of its parts
+pub or-of-l : (a b : Bool) → a ≡ true → a || b ≡ true
+or-of-l a b e = simp e
+
+pub or-of-r : (a b : Bool) → b ≡ true → a || b ≡ true
+or-of-r a b e = simp e (or-true a)
+
+pub or-cases : {A : Type 0} (a b : Bool) → a || b ≡ true → (a ≡ true → A) → (b ≡ true → A) → A
+or-cases true b e p q = p refl
+or-cases false b e p q = q e
 
 abbrev rootSized : List ℕ → Bool
 rootSized s = eqb (size s * 16) (length s)

@@ -14,3 +14,7 @@ pub mod SumLaws
 pub mod TableLaws
 pub mod HoldsLaws
 pub mod ValueLaws
+pub mod RenumberLaws
+pub mod CompactLaws
+pub mod CopyLaws
+pub mod PassLaws

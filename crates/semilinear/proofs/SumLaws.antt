@@ -22,7 +22,7 @@ use Rattle.semilinear.specs.Items.{isAtom, frontNumber, frontWord, atomL
 use Rattle.semilinear.specs.Valid.{atomOk, atomsOk}
 use Rattle.semilinear.specs.DecodeForm.{hasTerm, coeffAt, afterTerm, rowAt, rowsOf}
 use Rattle.semilinear.specs.Scan.{AtomsEnd}
-use Rattle.semilinear.specs.Running.{RowAdded}
+use Rattle.semilinear.specs.Running.{RowPassed, RowAdded}
 use Rattle.semilinear.proofs.ItemsLaws.{atom-room, fold-atom, rows-atom, rows-end, term-big, has-term-is}
 use Rattle.semilinear.proofs.ValidLaws.{AtomParts, atom-parts}
 
@@ -83,13 +83,13 @@ module _ (w : ℕ) (vars f : List ℕ) where
       let s : ℕ = sumRows w vars (rowsOf (x .number + 1) (afterAtom r) (afterTerm (x .number) q)) in
       let all : (x .sum + (c + s)) % 2 ^ w ≡ total =
       ap (λ (l : List Row). (x .sum + sumRows w vars l) % 2 ^ w) (sym (rows-atom (x .number) r q e)) ∙ h .value in
-      let same : sumRows w vars (left f y) ≡ s = rw (a .number, a .rest, a .terms) in
+      let same : sumRows w vars (left f y) ≡ s = rw (a .passed .next-number, a .passed .rest, a .passed .terms) in
       record {
-        inside = a .inside;
-        terms-inside = a .terms-inside;
-        number-le = omega (arith, h .number-le, a .later, a .number);
+        inside = a .passed .inside;
+        terms-inside = a .passed .terms-inside;
+        number-le = omega (arith, h .number-le, a .passed .later, a .passed .next-number);
         fits = rw (a .sum) (mod-lt _ (pow-pos w));
-        atoms = rw (a .rest) (later-atoms-ok w r (h .atoms) e);
+        atoms = rw (a .passed .rest) (later-atoms-ok w r (h .atoms) e);
         value =
             ap₂ (λ (n m : ℕ). (n + m) % 2 ^ w) (a .sum) same
             ∙ mod-add-mod (x .sum + c) (2 ^ w) s
@@ -98,58 +98,60 @@ module _ (w : ℕ) (vars f : List ℕ) where
       }
 
 -- ---- one turn, by whether the atom has a term
-module _ (w : ℕ) (vars f : List ℕ) (x : Running) (ha : x .at ≤ length f) (hn : x .next ≤ length f) (hs : x .sum < 2 ^ w)
-    (e : isAtom (drop (x .at) f) ≡ true) {r q : List ℕ} (er : r ≡ drop (x .at) f) (eq : q ≡ drop (x .next) f)
-    {n : ℕ} (en : n ≡ atomLength r) where
-  at-inside : x .at + n ≤ length f
+module _ (f : List ℕ) (at next number : ℕ) (ha : at ≤ length f) (hn : next ≤ length f) (e : isAtom (drop at f) ≡ true)
+    {r q : List ℕ} (er : r ≡ drop at f) (eq : q ≡ drop next f) {n : ℕ} (en : n ≡ atomLength r) where
+  at-inside : at + n ≤ length f
   unfolding atomLength
-  at-inside = omega (arith, en, ap frontNumber er, atom-room (drop (x .at) f) e .fits, length-drop (x .at) f)
+  at-inside = omega (arith, en, ap frontNumber er, atom-room (drop at f) e .fits, length-drop at f)
 
-  at-later : x .at + 16 ≤ x .at + n
+  at-later : at + 16 ≤ at + n
   unfolding atomLength
   at-later = omega (arith, en)
 
-  at-rest : drop (x .at + n) f ≡ afterAtom (drop (x .at) f)
+  at-rest : drop (at + n) f ≡ afterAtom (drop at f)
   unfolding afterAtom
-  at-rest =
-      sym (drop-drop n (x .at) f) ∙ ap (λ (m : ℕ). drop m (drop (x .at) f)) (en ∙ ap atomLength er)
+  at-rest = sym (drop-drop n at f) ∙ ap (λ (m : ℕ). drop m (drop at f)) (en ∙ ap atomLength er)
 
-  pub row-without : hasTerm (x .number) q ≡ false
-      → RowAdded w vars f x (record { at = x .at + n; next = x .next; number = x .number + 1; sum = x .sum })
-  unfolding coeffAt afterTerm
-  row-without h =
-      let h′ : hasTerm (x .number) (drop (x .next) f) ≡ false = rw eq at h in
+  pub passed-without : hasTerm number q ≡ false → RowPassed f at next number (at + n) next (number + 1)
+  unfolding afterTerm
+  passed-without h =
+      let h′ : hasTerm number (drop next f) ≡ false = rw eq at h in
       record {
         inside = at-inside;
         later = at-later;
         rest = at-rest;
         terms-inside = hn;
         terms = sym (simp h′);
-        number = refl;
-        sum =
-            simp h′
-            (sym
-            (ap (λ (m : ℕ). (x .sum + m) % 2 ^ w) (zero-mul (value w vars (decode (treeSpan (drop (x .at) f)))))
-            ∙ ap (λ (m : ℕ). m % 2 ^ w) (add-zero (x .sum))
-            ∙ mod-eq-of-lt hs));
+        next-number = refl;
       }
 
-  pub row-with : hasTerm (x .number) q ≡ true → {s : ℕ}
-      → s ≡ (x .sum + frontWord q * value w vars (decode (treeSpan r))) % 2 ^ w
-      → RowAdded w vars f x (record { at = x .at + n; next = x .next + 16; number = x .number + 1; sum = s })
-  unfolding coeffAt afterTerm
-  row-with h {s} hsum =
-      let h′ : hasTerm (x .number) (drop (x .next) f) ≡ true = rw eq at h in
-      let big = term-big (drop (x .next) f) (has-term-is (x .number) (drop (x .next) f) h′ .0) in
+  pub passed-with : hasTerm number q ≡ true → RowPassed f at next number (at + n) (next + 16) (number + 1)
+  unfolding afterTerm
+  passed-with h =
+      let h′ : hasTerm number (drop next f) ≡ true = rw eq at h in
+      let big = term-big (drop next f) (has-term-is number (drop next f) h′ .0) in
       record {
         inside = at-inside;
         later = at-later;
         rest = at-rest;
-        terms-inside = omega (arith, big, length-drop (x .next) f);
-        terms = sym (drop-drop 16 (x .next) f) ∙ sym (simp h′);
-        number = refl;
-        sum = simp h′ (rw (eq, er) at hsum);
+        terms-inside = omega (arith, big, length-drop next f);
+        terms = sym (drop-drop 16 next f) ∙ sym (simp h′);
+        next-number = refl;
       }
+
+  -- the sum, where nothing is added and where a term is
+  pub sum-without : hasTerm number q ≡ false → (w v : ℕ) {s : ℕ} → s < 2 ^ w
+      → s ≡ (s + coeffAt number (drop next f) * v) % 2 ^ w
+  unfolding coeffAt
+  sum-without h w v {s} hs =
+      let h′ : hasTerm number (drop next f) ≡ false = rw eq at h in
+      simp h′
+      (sym
+      (ap (λ (m : ℕ). (s + m) % 2 ^ w) (zero-mul v) ∙ ap (λ (m : ℕ). m % 2 ^ w) (add-zero s) ∙ mod-eq-of-lt hs))
+
+  pub coeff-with : hasTerm number q ≡ true → frontWord q ≡ coeffAt number (drop next f)
+  unfolding coeffAt
+  coeff-with h = let h′ : hasTerm number (drop next f) ≡ true = rw eq at h in simp h′ (ap frontWord eq)
 
 -- the sum that the code makes of a term
 pub sum-step : (w : ℕ) → w ≤ 64 → (a c v : ℕ) {p s : ℕ} → p ≡ modMul c v w → s ≡ modAdd a p w → s ≡ (a + c * v) % 2 ^ w

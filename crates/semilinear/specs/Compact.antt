@@ -1,10 +1,15 @@
 -- Compacting the atom table (semilinear.rs 287-319): atoms without a term go, the others are renumbered in order.
-use Prim.Native.Nat.{ℕ}
-use mathlib.Core.List.{List, [], _∷_}
+use mathlib.Core.Path.{_≡_}
+use Prim.Native.Nat.{ℕ, zero, suc, _+_, _*_}
+use mathlib.Core.List.{List, [], _∷_, _++_}
 use mathlib.Core.Bool.{Bool, false, not}
+use lib.ListN.{length, drop}
 use lib.Dec.{eqb}
 use Rattle.record.specs.Choice.{when}
-use Rattle.semilinear.specs.Form.{Row, Form}
+use Rattle.record.specs.Put.{put, padded}
+use Rattle.semilinear.specs.declared.compact.Written.{Written}
+use Rattle.semilinear.specs.Form.{Row, Form, termCount, atomsBytes, termBytes, termsBytes}
+use Rattle.semilinear.specs.Items.{isTerm, frontWord}
 use Rattle.semilinear.specs.Valid.{lengthRefused, isSemilinear}
 use Rattle.semilinear.specs.DecodeForm.{decodeForm}
 use Rattle.semilinear.specs.Outcome.{Outcome, refused, formOutcome}
@@ -27,3 +32,26 @@ passOutcome pass s len =
 -- what `compact_atom_table` gives for the bytes s and a result slice of len bytes
 unfoldable pub compactAtomTable : List ℕ → ℕ → Outcome
 compactAtomTable = passOutcome (λ f. formOutcome (compactForm f) false)
+
+-- ---- how the bytes are made
+
+-- the terms at the front of q, numbered from j on in their order
+unfoldable pub renumberF : ℕ → ℕ → ℕ → List ℕ → List ℕ
+renumberF zero w j q = []
+renumberF (suc n) w j q =
+    when (isTerm q) (λ _. termBytes w j (frontWord q) ++ renumberF n w (j + 1) (drop 16 q)) (λ _. [])
+
+unfoldable pub renumber : ℕ → ℕ → List ℕ → List ℕ
+renumber w j q = renumberF (length q) w j q
+
+-- the terms q are put into the bytes from `to` on, renumbered; r says where they end and how many there are
+pub record TermsCopied (w to : ℕ) (q before after : List ℕ) (r : Written) : Type 0 where
+  pub place : r .used ≡ to + length (renumber w 0 q)
+  pub count : 16 * r .terms ≡ length (renumber w 0 q)
+  pub written : after ≡ put before to (renumber w 0 q)
+
+-- the rows that have a term, atoms and terms, from the start of a cleared slice on
+pub record FrontCopied (w len : ℕ) (rows : List Row) (after : List ℕ) (r : Written) : Type 0 where
+  pub place : r .used ≡ length (atomsBytes w (usedRows rows) ++ termsBytes w 0 (usedRows rows))
+  pub count : r .terms ≡ termCount (usedRows rows)
+  pub written : after ≡ padded len (atomsBytes w (usedRows rows) ++ termsBytes w 0 (usedRows rows))

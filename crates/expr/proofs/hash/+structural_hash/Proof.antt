@@ -4,7 +4,7 @@ use Rattle.record.specs.Fields.{size}
 use denote.Ref.{now}
 use native.Mathlib.Omega.{arith}
 use borrow.Author.Needs.{needs}
-use Rattle.expr.specs.Hash.{structuralHash, tagHash}
+use Rattle.expr.proofs.HashLaws.{hash-one, hash-two}
 use Prim.Native.Nat.{ℕ, _<_}
 use borrow.Fn.Kinds.{In}
 use borrow.Fn.PlainCycle.{Measures, is, falls, and}
@@ -73,8 +73,13 @@ structural-hash-mix-hash-requires : (t : ℕ) → structural-hash-lts.Need-mix-h
 structural-hash-mix-hash-requires t c κs = tt
 
 structural-hash-returns-2 : (t : ℕ) → structural-hash-lts.Need-returns-2 (claims t) (structural-hash-at t) structural-hash.Post
-unfolding structuralHash
-structural-hash-returns-2 t c = rw (decode-one (now (c .before .before .before .before .before .before .before .before .before .before .args .t)) (c .before .before .before .before .before .before .before .before .before .before .pre .1) (c .before .before .before .before .before .before .before .before .root-arity .ensures) (c .before .before .before .before .before .if2 .taken) (c .before .before .before .before .body .ensures)) (cc)
+structural-hash-returns-2 t c =
+    let at-start = c .before .before .before .before .before .before .before .before .before .before in
+    rw (decode-one (now (at-start .args .t)) (at-start .pre .1)
+    (c .before .before .before .before .before .before .before .before .root-arity .ensures)
+    (c .before .before .before .before .before .if2 .taken) (c .before .before .before .before .body .ensures))
+    (hash-one _ (c .before .before .before .before .before .before .kind .ensures) (c .before .before .amount .ensures .0)
+    (c .before .before .before .structural-hash .ensures) (c .before .tag-hash .ensures) (c .mix-hash .ensures))
 
 structural-hash-left-requires : (t : ℕ) → structural-hash-lts.Need-left-requires (claims t) (structural-hash-at t) structural-hash.Post
 structural-hash-left-requires t c κs = search needs
@@ -98,8 +103,16 @@ structural-hash-mix-hash-requires-3 : (t : ℕ) → structural-hash-lts.Need-mix
 structural-hash-mix-hash-requires-3 t c κs = tt
 
 structural-hash-returns-3 : (t : ℕ) → structural-hash-lts.Need-returns-3 (claims t) (structural-hash-at t) structural-hash.Post
-unfolding structuralHash
-structural-hash-returns-3 t c = rw (decode-two (now (c .before .before .before .before .before .before .before .before .before .before .before .args .t)) (c .before .before .before .before .before .before .before .before .before .before .before .pre .1) (c .before .before .before .before .before .before .before .before .before .root-arity .ensures) (c .before .before .before .before .before .before .before .before .if1 .left) (c .before .before .before .before .before .before .if2 .left) (c .before .before .before .before .before .left .ensures) (c .before .before .before .right .ensures)) (cc)
+structural-hash-returns-3 t c =
+    let at-start = c .before .before .before .before .before .before .before .before .before .before .before in
+    rw (decode-two (now (at-start .args .t)) (at-start .pre .1)
+    (c .before .before .before .before .before .before .before .before .before .root-arity .ensures)
+    (c .before .before .before .before .before .before .before .before .if1 .left)
+    (c .before .before .before .before .before .before .if2 .left)
+    (c .before .before .before .before .before .left .ensures) (c .before .before .before .right .ensures))
+    (hash-two _ _ (c .before .before .before .before .before .before .before .kind .ensures)
+    (c .before .before .before .before .structural-hash2 .ensures) (c .before .before .structural-hash3 .ensures)
+    (c .before .mix-hash2 .ensures) (c .mix-hash3 .ensures))
 
 pub +structural-hash-spec : {M : Type 1} → statement M
 +structural-hash-spec = close μ-structural-hash λ t. structural-hash-lts.spec (claims t)

@@ -38,7 +38,7 @@ add-row-requires : tie.Need-add-row-requires Inv-loop μ-loop
 add-row-requires c κs = (c .before .before .before .before .before .before .pre .0, c .before .before .before .loop .inv .inside, c .before .before .before .loop .inv .terms-inside, c .before .before .before .loop .inv .number-le, c .before .before .before .loop .inv .fits, (ap isAtom (sym (c .before .before .rest-from .ensures)) ∙ sym (c .before .is-atom .ensures) ∙ not-false _ (c .if1 .left)), c .before .before .before .loop .inv .atoms)
 
 loop-less : tie.Need-loop-less Inv-loop μ-loop
-loop-less c = omega (arith, c .add-row .ensures .inside, c .add-row .ensures .later)
+loop-less c = omega (arith, c .add-row .ensures .passed .inside, c .add-row .ensures .passed .later)
 
 loop-again : tie.Need-loop-again Inv-loop μ-loop
 loop-again c = summed-row _ _ _ _ (c .before .before .before .before .loop .x) (c .add-row .result) (c .before .before .before .before .loop .inv) (ap isAtom (sym (c .before .before .before .rest-from .ensures)) ∙ sym (c .before .before .is-atom .ensures) ∙ not-false _ (c .before .if1 .left)) (c .add-row .ensures)

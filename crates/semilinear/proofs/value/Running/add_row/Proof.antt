@@ -1,19 +1,15 @@
+use Rattle.semilinear.proofs.SumLaws.{first-tree-sized, passed-without, passed-with, sum-without, coeff-with, sum-step}
+use Rattle.semilinear.specs.Items.{isAtom, treeSpan}
+use Rattle.semilinear.proofs.ItemsLaws.{atom-room, term-big, has-term-is}
+use borrow.Author.Tests.{not-true, not-false}
+use mathlib.Core.Path.{_≡_, ap, ap₂, sym, _∙_}
+use denote.Ref.{now}
 use Prim.Native.Nat.{ℕ, _+_, _*_, _%_, _^_}
 use mathlib.Core.List.{List}
 use Rattle.expr.specs.Value.{value}
 use Rattle.record.specs.Decode.{decode}
-use Rattle.semilinear.proofs.SumLaws.{first-tree-sized, row-without, row-with}
-use Rattle.semilinear.specs.Items.{isAtom}
-use Rattle.semilinear.proofs.ItemsLaws.{atom-room, term-big, has-term-is}
-use borrow.Author.Tests.{not-true, not-false}
-use mathlib.Core.Path.{_≡_, ap, ap₂, sym, _∙_}
-use native.Mathlib.Omega.{arith}
-use denote.Ref.{now}
-use Rattle.arith.proofs.WidthLaws.{mod-add, mod-mul-eqm}
-use Rattle.arith.specs.Width.{modAdd, modMul}
 use lib.ListN.{length, drop}
 use mathlib.Core.Bool.{true}
-use Rattle.semilinear.proofs.SumLaws.{sum-step}
 use borrow.Author.Needs.{needs}
 use Rattle.semilinear.proofs.value.Running.add_row.Statement.{statement}
 use Rattle.semilinear.proofs.value.Running.add_row.Tie as tie
@@ -47,7 +43,7 @@ add-t17 : tie.Need-add-t17
 add-t17 c = search needs
 
 returns : tie.Need-returns
-returns c = row-without (c .before .before .before .before .before .before .before .args .w) (now (c .before .before .before .before .before .before .before .args .vars)) (now (c .before .before .before .before .before .before .before .args .f)) (c .before .before .before .before .before .before .before .args .self) (c .before .before .before .before .before .before .before .pre .1) (c .before .before .before .before .before .before .before .pre .2) (c .before .before .before .before .before .before .before .pre .4) (c .before .before .before .before .before .before .before .pre .5) (c .before .before .before .before .rest-from .ensures) (c .before .before .before .rest-from2 .ensures) (c .before .before .atom-length .ensures .0) (sym (c .before .has-term .ensures) ∙ not-true _ (c .if1 .taken))
+returns c = record { passed = passed-without (now (c .before .before .before .before .before .before .before .args .f)) (c .before .before .before .before .before .before .before .args .self .at) (c .before .before .before .before .before .before .before .args .self .next) (c .before .before .before .before .before .before .before .args .self .number) (c .before .before .before .before .before .before .before .pre .1) (c .before .before .before .before .before .before .before .pre .2) (c .before .before .before .before .before .before .before .pre .5) (c .before .before .before .before .rest-from .ensures) (c .before .before .before .rest-from2 .ensures) (c .before .before .atom-length .ensures .0) (sym (c .before .has-term .ensures) ∙ not-true _ (c .if1 .taken)); sum = sum-without (now (c .before .before .before .before .before .before .before .args .f)) (c .before .before .before .before .before .before .before .args .self .at) (c .before .before .before .before .before .before .before .args .self .next) (c .before .before .before .before .before .before .before .args .self .number) (c .before .before .before .before .before .before .before .pre .1) (c .before .before .before .before .before .before .before .pre .2) (c .before .before .before .before .before .before .before .pre .5) (c .before .before .before .before .rest-from .ensures) (c .before .before .before .rest-from2 .ensures) (c .before .before .atom-length .ensures .0) (sym (c .before .has-term .ensures) ∙ not-true _ (c .if1 .taken)) (c .before .before .before .before .before .before .before .args .w) _ (c .before .before .before .before .before .before .before .pre .4) }
 
 tree-span-requires : tie.Need-tree-span-requires
 tree-span-requires c κs = rw (c .before .before .before .before .rest-from .ensures) (c .before .before .before .before .before .before .before .pre .5)
@@ -71,7 +67,7 @@ mod-add-requires : tie.Need-mod-add-requires
 mod-add-requires c κs = search needs
 
 returns-2 : tie.Need-returns-2
-returns-2 c = row-with (c .before .before .before .before .before .before .before .before .before .before .before .before .args .w) (now (c .before .before .before .before .before .before .before .before .before .before .before .before .args .vars)) (now (c .before .before .before .before .before .before .before .before .before .before .before .before .args .f)) (c .before .before .before .before .before .before .before .before .before .before .before .before .args .self) (c .before .before .before .before .before .before .before .before .before .before .before .before .pre .1) (c .before .before .before .before .before .before .before .before .before .before .before .before .pre .2) (c .before .before .before .before .before .before .before .before .before .before .before .before .pre .4) (c .before .before .before .before .before .before .before .before .before .before .before .before .pre .5) (c .before .before .before .before .before .before .before .before .before .rest-from .ensures) (c .before .before .before .before .before .before .before .before .rest-from2 .ensures) (c .before .before .before .before .before .before .before .atom-length .ensures .0) (sym (c .before .before .before .before .before .before .has-term .ensures) ∙ not-false _ (c .before .before .before .before .before .if1 .left)) (sum-step (c .before .before .before .before .before .before .before .before .before .before .before .before .args .w) (c .before .before .before .before .before .before .before .before .before .before .before .before .pre .0) (c .before .before .before .before .before .before .before .before .before .before .before .before .args .self .sum) (c .before .before .front-word .result) (c .before .before .before .value-at .result) (c .before .mod-mul .ensures) (c .mod-add .ensures) ∙ ap₂ (λ (x y : ℕ). (c .before .before .before .before .before .before .before .before .before .before .before .before .args .self .sum + x * y) % 2 ^ (c .before .before .before .before .before .before .before .before .before .before .before .before .args .w)) (c .before .before .front-word .ensures) (c .before .before .before .value-at .ensures ∙ ap (λ (l : List ℕ). value (c .before .before .before .before .before .before .before .before .before .before .before .before .args .w) (now (c .before .before .before .before .before .before .before .before .before .before .before .before .args .vars)) (decode l)) (c .before .before .before .before .tree-span .ensures)))
+returns-2 c = record { passed = passed-with (now (c .before .before .before .before .before .before .before .before .before .before .before .before .args .f)) (c .before .before .before .before .before .before .before .before .before .before .before .before .args .self .at) (c .before .before .before .before .before .before .before .before .before .before .before .before .args .self .next) (c .before .before .before .before .before .before .before .before .before .before .before .before .args .self .number) (c .before .before .before .before .before .before .before .before .before .before .before .before .pre .1) (c .before .before .before .before .before .before .before .before .before .before .before .before .pre .2) (c .before .before .before .before .before .before .before .before .before .before .before .before .pre .5) (c .before .before .before .before .before .before .before .before .before .rest-from .ensures) (c .before .before .before .before .before .before .before .before .rest-from2 .ensures) (c .before .before .before .before .before .before .before .atom-length .ensures .0) (sym (c .before .before .before .before .before .before .has-term .ensures) ∙ not-false _ (c .before .before .before .before .before .if1 .left)); sum = sum-step (c .before .before .before .before .before .before .before .before .before .before .before .before .args .w) (c .before .before .before .before .before .before .before .before .before .before .before .before .pre .0) (c .before .before .before .before .before .before .before .before .before .before .before .before .args .self .sum) (c .before .before .front-word .result) (c .before .before .before .value-at .result) (c .before .mod-mul .ensures) (c .mod-add .ensures) ∙ ap₂ (λ (x y : ℕ). (c .before .before .before .before .before .before .before .before .before .before .before .before .args .self .sum + x * y) % 2 ^ (c .before .before .before .before .before .before .before .before .before .before .before .before .args .w)) (c .before .before .front-word .ensures ∙ coeff-with (now (c .before .before .before .before .before .before .before .before .before .before .before .before .args .f)) (c .before .before .before .before .before .before .before .before .before .before .before .before .args .self .at) (c .before .before .before .before .before .before .before .before .before .before .before .before .args .self .next) (c .before .before .before .before .before .before .before .before .before .before .before .before .args .self .number) (c .before .before .before .before .before .before .before .before .before .before .before .before .pre .1) (c .before .before .before .before .before .before .before .before .before .before .before .before .pre .2) (c .before .before .before .before .before .before .before .before .before .before .before .before .pre .5) (c .before .before .before .before .before .before .before .before .before .rest-from .ensures) (c .before .before .before .before .before .before .before .before .rest-from2 .ensures) (c .before .before .before .before .before .before .before .atom-length .ensures .0) (sym (c .before .before .before .before .before .before .has-term .ensures) ∙ not-false _ (c .before .before .before .before .before .if1 .left))) (c .before .before .before .value-at .ensures ∙ ap (λ (l : List ℕ). value (c .before .before .before .before .before .before .before .before .before .before .before .before .args .w) (now (c .before .before .before .before .before .before .before .before .before .before .before .before .args .vars)) (decode l)) (c .before .before .before .before .tree-span .ensures ∙ ap treeSpan (c .before .before .before .before .before .before .before .before .before .rest-from .ensures))) }
 
 pub add-row-spec : {M : Type 1} → statement M
 add-row-spec =
