@@ -1,7 +1,12 @@
 // What users link: every entry point, exported for C. include/hogzelt.h declares them.
 ghost use mathlib.Core.Path.{_≡_};
 ghost use Rattle.arith.specs.Effective.{reduceMask, canChangeMaskTo, canChangeCoefficientTo};
+ghost use mathlib.Core.List.{[], _∷_};
+ghost use lib.ListN.{length};
 ghost use Rattle.expr.specs.ExprValue.{IsExprValue};
+ghost use Rattle.semilinear.specs.Value.{IsSemilinearValue};
+ghost use Rattle.semilinear.specs.Outcome.{Gives};
+ghost use Rattle.semilinear.specs.Compact.{compactAtomTable};
 
 // The value of an expression under an assignment; returns the refusal, 0 where it is accepted.
 #[no_mangle]
@@ -43,4 +48,29 @@ pub extern "C" fn hogzelt_can_change_coefficient_to(
     ensures { λ r. ⌜ r ≡ canChangeCoefficientTo «old_coeff» «new_coeff» mask w ⌝ }
 {
     arith::can_change_coefficient_to(old_coeff, new_coeff, mask, w)
+}
+
+// The value of a semilinear form under an assignment; returns the refusal, 0 where it is accepted.
+#[no_mangle]
+pub extern "C" fn hogzelt_semilinear_value(s: &[u8], vars: &[u64], value: &mut u64) -> u64
+    ensures { λ r. ⌜ IsSemilinearValue (now (s .entry)) (now (vars .entry)) r (now (value .exit)) ⌝ }
+{
+    semilinear::value::semilinear_value(s, vars, value)
+}
+
+// The form s without the atoms that have no term; returns the refusal, 0 where it is accepted.
+#[no_mangle]
+pub extern "C" fn hogzelt_compact_atom_table(
+    s: &[u8],
+    out: &mut [u8],
+    used: &mut u64,
+    terms: &mut u64,
+) -> u64
+    ensures { λ r. ⌜ Gives (compactAtomTable (now (s .entry)) (length (now (out .entry))))
+        (length (now (out .entry))) r (now (used .exit) ∷ now (terms .exit) ∷ []) (now (out .exit)) ⌝ }
+{
+    let answer = semilinear::compact::compact_atom_table(s, out);
+    *used = answer.used;
+    *terms = answer.terms;
+    answer.refusal
 }

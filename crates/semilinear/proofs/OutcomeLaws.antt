@@ -1,13 +1,15 @@
 -- How a writer shows what it hands over: a refusal by the zeros, a form by its bytes with zeros behind.
-use mathlib.Core.Path.{_≡_, refl}
+use mathlib.Core.Path.{_≡_, refl, ap, _∙_}
 use Prim.Native.Nat.{ℕ}
-use mathlib.Core.List.{List}
+use mathlib.Core.List.{List, [], _∷_}
 use mathlib.Core.Bool.{Bool, false}
-use lib.ListN.{length, replicate}
+use lib.ListN.{length, take, replicate}
+use lib.Seq.{take-take}
+use native.Mathlib.Omega.{arith}
 use Rattle.record.specs.Put.{padded}
 use Rattle.semilinear.specs.declared.outcome.Answer.{Answer}
 use Rattle.semilinear.specs.Form.{Form, termCount, encodeForm}
-use Rattle.semilinear.specs.Outcome.{refused, refusalOf, numbersOf, writtenOf, formOutcome}
+use Rattle.semilinear.specs.Outcome.{Outcome, accepted, refused, refusalOf, numbersOf, writtenOf, Gives, formOutcome}
 use Rattle.semilinear.specs.Answers.{GivesForm}
 
 -- the answer of a refusal, and of a form that was written
@@ -27,3 +29,18 @@ pub gives-form : (f : Form) (flag : Bool) (len : ℕ) (r : Answer) (out : List �
     → out ≡ padded len (encodeForm f) → GivesForm (formOutcome f flag) len r out
 unfolding formOutcome refusalOf numbersOf writtenOf
 gives-form f flag len r out e h = rw e (record { number = refl; beside = refl; written = h })
+
+-- a caller that hands over the first two of the three numbers
+first-two : (o : Outcome) → take 2 (numbersOf 3 o) ≡ take 2 (numbersOf 2 o)
+unfolding numbersOf
+first-two (accepted l ns) = refl
+first-two (refused n) = refl
+
+pub gives-two : (o : Outcome) (len refusal used terms flag : ℕ) (out : List ℕ)
+    → Gives o len refusal (used ∷ terms ∷ flag ∷ []) out → Gives o len refusal (used ∷ terms ∷ []) out
+gives-two o len refusal used terms flag out h =
+    record {
+      number = h .number;
+      beside = ap (take 2) (h .beside) ∙ take-take 2 3 (numbersOf 3 o) (omega arith) ∙ first-two o;
+      written = h .written;
+    }

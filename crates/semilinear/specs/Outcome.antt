@@ -4,7 +4,7 @@ use mathlib.Core.Path.{_≡_}
 use Prim.Native.Nat.{ℕ}
 use mathlib.Core.List.{List, [], _∷_}
 use mathlib.Core.Bool.{Bool}
-use lib.ListN.{length, replicate}
+use lib.ListN.{length, take, replicate}
 use Rattle.record.specs.Choice.{when}
 use Rattle.record.specs.Put.{padded}
 use Rattle.semilinear.specs.Form.{Form, termCount, encodeForm}
@@ -29,10 +29,10 @@ unfoldable pub writtenOf : ℕ → Outcome → List ℕ
 writtenOf len (accepted l ns) = padded len l
 writtenOf len (refused n) = replicate len 0
 
--- all that a call hands over: the refusal, the numbers beside it, and every element of the result slice
+-- all that a call hands over: the refusal, the first numbers beside it, and every element of the result slice
 pub record Gives (o : Outcome) (len refusal : ℕ) (numbers : List ℕ) (out : List ℕ) : Type 0 where
   pub number : refusal ≡ refusalOf o
-  pub beside : numbers ≡ numbersOf (length numbers) o
+  pub beside : numbers ≡ take (length numbers) (numbersOf (length numbers) o)
   pub written : out ≡ writtenOf len o
 
 -- a flag as a number
