@@ -9,7 +9,7 @@ use crate::record::{
     self, balanced, binary, literal, nested, smallest, unary, variable, ADD, MAX_RECORDS, NEG, SHR,
     XOR,
 };
-use crate::{edges, form_edges, form_random, masks, published};
+use crate::{edges, form_edges, form_limits, form_random, masks, published};
 
 /// The seed of the vector file: the letters of "hogzelt".
 pub const SEED: u64 = 0x0068_6F67_7A65_6C74;
@@ -41,7 +41,8 @@ pub fn entries() -> Vec<Entry> {
             all.push(entry::mask(kind, call.numbers, call.w));
         }
     }
-    all.extend(form_edges::entries(rng));
+    all.extend(form_edges::entries());
+    all.extend(form_limits::entries(rng));
     all.extend(random_forms(rng));
     all
 }

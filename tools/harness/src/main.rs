@@ -11,6 +11,7 @@ mod edges;
 mod entry;
 mod form;
 mod form_edges;
+mod form_limits;
 mod form_model;
 mod form_random;
 #[cfg(feature = "library")]

@@ -21,19 +21,22 @@ const VARS: [u64; 3] = [1, 2, 3];
 
 pub fn run() -> Result<(), String> {
     println!("stack, no call: {} bytes", stack_used(&mut || {})?);
-    expression_stacks()?;
-    form_stacks()?;
+    let most = expression_stacks()?.max(form_stacks()?);
+    println!("stack, most: {most} bytes");
     expression_times();
     form_times();
     Ok(())
 }
 
-fn show(function: &str, shape: &str, file: &[u8], used: usize) {
+/// Prints what a call used, and gives the most of it and `most`.
+fn show_stack(function: &str, shape: &str, file: &[u8], used: usize, most: usize) -> usize {
     let records = file.len() / RECORD_BYTES;
     println!("stack, {function}, {shape} (records: {records}): {used} bytes");
+    most.max(used)
 }
 
-fn expression_stacks() -> Result<(), String> {
+fn expression_stacks() -> Result<usize, String> {
+    let mut most = 0;
     for (shape, file) in expressions() {
         let mut answer = None;
         let used = stack_used(&mut || answer = Some(library::expr_value(&file, &VARS)))?;
@@ -42,9 +45,9 @@ fn expression_stacks() -> Result<(), String> {
                 "hogzelt_expr_value differs from the model: {shape}"
             ));
         }
-        show("hogzelt_expr_value", shape, &file, used);
+        most = show_stack("hogzelt_expr_value", shape, &file, used, most);
     }
-    Ok(())
+    Ok(most)
 }
 
 /// One leaf, and the shapes that may use the most stack, as long as a file may be.
@@ -70,7 +73,8 @@ fn expressions() -> Vec<(&'static str, Vec<u8>)> {
         .collect()
 }
 
-fn form_stacks() -> Result<(), String> {
+fn form_stacks() -> Result<usize, String> {
+    let mut most = 0;
     for (shape, form) in forms() {
         let mut answer = None;
         let used = stack_used(&mut || answer = Some(library::semilinear_value(&form, &VARS)))?;
@@ -79,7 +83,7 @@ fn form_stacks() -> Result<(), String> {
                 "hogzelt_semilinear_value differs from the model: {shape}"
             ));
         }
-        show("hogzelt_semilinear_value", shape, &form, used);
+        most = show_stack("hogzelt_semilinear_value", shape, &form, used, most);
         // the result slice is the caller's and not counted
         let mut out = vec![1; RESULT_BYTES];
         let mut answer = None;
@@ -90,9 +94,9 @@ fn form_stacks() -> Result<(), String> {
                 "hogzelt_compact_atom_table differs from the model: {shape}"
             ));
         }
-        show("hogzelt_compact_atom_table", shape, &form, used);
+        most = show_stack("hogzelt_compact_atom_table", shape, &form, used, most);
     }
-    Ok(())
+    Ok(most)
 }
 
 /// Forms of one atom, whose tree is as deep as it may be, and the longest form.
