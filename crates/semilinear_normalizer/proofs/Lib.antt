@@ -1,3 +1,6 @@
 -- The laws of the definitions, for the crates above.
 pub mod CollectLaws
 pub mod EmittedLaws
+pub mod BitOfLaws
+pub mod TruthLaws
+pub mod WordTableLaws

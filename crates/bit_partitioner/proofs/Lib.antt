@@ -1,0 +1,5 @@
+-- The laws of the definitions, for the crates above.
+pub mod PartitionLaws
+mod OrderLaws
+pub mod ProfileLaws
+pub mod ColumnsLaws
