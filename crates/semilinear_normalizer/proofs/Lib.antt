@@ -4,3 +4,4 @@ pub mod EmittedLaws
 pub mod BitOfLaws
 pub mod TruthLaws
 pub mod WordTableLaws
+pub mod RegisterLaws
