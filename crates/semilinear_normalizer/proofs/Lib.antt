@@ -5,3 +5,4 @@ pub mod BitOfLaws
 pub mod TruthLaws
 pub mod WordTableLaws
 pub mod RegisterLaws
+pub mod NormalizeLaws
