@@ -6,3 +6,4 @@ pub mod TruthLaws
 pub mod WordTableLaws
 pub mod RegisterLaws
 pub mod NormalizeLaws
+pub mod RefusedLaws
