@@ -149,3 +149,90 @@ module _ (w : ℕ) (t : Tree) where
       go e (not-linear a b f) = absurd (omega (arith, same-refusal f e))
       go e (too-large a c l b x f) = (a, (c, l, b, x))
       go e (written a c l b x f) = absurd (omega (arith, same-refusal f e))
+
+-- ---- the bytes of an expression
+
+-- the bytes are an expression, and the result slice has the right length
+abbrev pub Reached : List ℕ → ℕ → Type 0
+Reached s len = (exprRefusal s ≡ 0) × (len ≡ 57360)
+
+module _ (s : List ℕ) (len : ℕ) where
+  -- the refusal n where it is none of an expression and not that of the slice
+  from-seven : (n : ℕ) → 7 ≤ n → normalizeToSemilinear s len ≡ refused n
+      → Reached s len × (normalizeTree (width s) (decode s) ≡ refused n)
+  unfolding refusalOf
+  from-seven n h e = go (file-case s len)
+    where
+      low : (exprRefusal s ≡ 1) ⊎ Range (exprRefusal s) → exprRefusal s ≡ n → ⊥
+      low (inl a) f = omega arith
+      low (inr (inl a)) f = omega arith
+      low (inr (inr a)) f = omega (arith, a .1)
+
+      go : FileCase s len → Reached s len × (normalizeTree (width s) (decode s) ≡ refused n)
+      go (wrong-length a f) = absurd (omega (arith, same-refusal f e))
+      go (wrong-slice a b f) = absurd (omega (arith, same-refusal f e))
+      go (no-expression a b c f) = absurd (low (expr-range s) (same-refusal f e))
+      go (expression z k f) = ((z, k), sym f ∙ e)
+
+  pub refused-one-iff : (normalizeToSemilinear s len ≡ refused 1) ↔ (exprRefusal s ≡ 1)
+  unfolding refusalOf
+  refused-one-iff = (λ e. go e (file-case s len), λ h. file-one s len h)
+    where
+      go : normalizeToSemilinear s len ≡ refused 1 → FileCase s len → exprRefusal s ≡ 1
+      go e (wrong-length a f) = a
+      go e (wrong-slice a b f) = absurd (omega (arith, same-refusal f e))
+      go e (no-expression a b c f) = same-refusal f e
+      go e (expression z k f) = absurd (tree-low (width s) (decode s) 1 (omega arith) (omega arith) (sym f ∙ e))
+
+  pub refused-two-iff : (normalizeToSemilinear s len ≡ refused 2)
+      ↔ ((exprRefusal s ≡ 1 → ⊥) × (len ≡ 57360 → ⊥))
+  unfolding refusalOf
+  refused-two-iff = (λ e. go e (file-case s len), λ h. file-two s len (h .0) (h .1))
+    where
+      low : (exprRefusal s ≡ 1) ⊎ Range (exprRefusal s) → exprRefusal s ≡ 2 → ⊥
+      low (inl a) f = omega arith
+      low (inr (inl a)) f = omega arith
+      low (inr (inr a)) f = omega (arith, a .0)
+
+      go : normalizeToSemilinear s len ≡ refused 2 → FileCase s len
+          → (exprRefusal s ≡ 1 → ⊥) × (len ≡ 57360 → ⊥)
+      go e (wrong-length a f) = absurd (omega (arith, same-refusal f e))
+      go e (wrong-slice a b f) = (a, b)
+      go e (no-expression a b c f) = absurd (low (expr-range s) (same-refusal f e))
+      go e (expression z k f) = absurd (tree-low (width s) (decode s) 2 (omega arith) (omega arith) (sym f ∙ e))
+
+  -- refusals 3 to 6
+  pub refused-expr-iff : (n : ℕ) → 3 ≤ n → n < 7
+      → (normalizeToSemilinear s len ≡ refused n) ↔ ((exprRefusal s ≡ n) × (len ≡ 57360))
+  unfolding refusalOf
+  refused-expr-iff n low high = (
+    λ e. go e (file-case s len),
+    λ h. file-refused s len (omega (arith, h .0)) (omega (arith, h .0)) (h .1) ∙ ap refused (h .0),
+  )
+    where
+      go : normalizeToSemilinear s len ≡ refused n → FileCase s len → (exprRefusal s ≡ n) × (len ≡ 57360)
+      go e (wrong-length a f) = absurd (omega (arith, same-refusal f e))
+      go e (wrong-slice a b f) = absurd (omega (arith, same-refusal f e))
+      go e (no-expression a b c f) = (same-refusal f e, c)
+      go e (expression z k f) = absurd (tree-low (width s) (decode s) n (omega arith) high (sym f ∙ e))
+
+  -- refusals 7 to 9 are those of the tree
+  from-tree : {P : Type 0} (n : ℕ) → 7 ≤ n → (normalizeTree (width s) (decode s) ≡ refused n) ↔ P
+      → (normalizeToSemilinear s len ≡ refused n) ↔ (Reached s len × P)
+  from-tree n h iff = (
+    λ e. (from-seven n h e .0, iff .0 (from-seven n h e .1)),
+    λ p. file-tree s len (p .0 .0) (p .0 .1) ∙ iff .1 (p .1),
+  )
+
+  pub refused-seven-iff : (normalizeToSemilinear s len ≡ refused 7)
+      ↔ (Reached s len × (hasConstantArith (decode s) ≡ true))
+  refused-seven-iff = from-tree 7 (omega arith) (tree-seven-iff (width s) (decode s))
+
+  pub refused-eight-iff : (normalizeToSemilinear s len ≡ refused 8)
+      ↔ (Reached s len
+      × ((hasConstantArith (decode s) ≡ false) × (collectTerms (width s) 1 (decode s) ≡ nonlinear)))
+  refused-eight-iff = from-tree 8 (omega arith) (tree-eight-iff (width s) (decode s))
+
+  pub refused-nine-iff : (normalizeToSemilinear s len ≡ refused 9)
+      ↔ (Reached s len × ((hasConstantArith (decode s) ≡ false) × TooLarge (width s) (decode s)))
+  refused-nine-iff = from-tree 9 (omega arith) (tree-nine-iff (width s) (decode s))
