@@ -34,14 +34,14 @@ pub or-false : (a b : Bool) → a || b ≡ false → (a ≡ false) × (b ≡ fal
 or-false true b e = false-true (sym e)
 or-false false b e = (refl, e)
 
-five-six : (k : ℕ) → 4 ≤ k → k < 7 → (k ≡ 4 → ⊥) → (k ≡ 5) ⊎ (k ≡ 6)
+pub five-six : (k : ℕ) → 4 ≤ k → k < 7 → (k ≡ 4 → ⊥) → (k ≡ 5) ⊎ (k ≡ 6)
 five-six k low high n = go (ℕ-discrete k 5)
   where
     go : Dec (k ≡ 5) → (k ≡ 5) ⊎ (k ≡ 6)
     go (yes e) = inl e
     go (no e) = inr (omega arith)
 
-four : (k : ℕ) → 2 ≤ k → (k ≡ 2 → ⊥) → (k ≡ 3 → ⊥) → 4 ≤ k
+pub four : (k : ℕ) → 2 ≤ k → (k ≡ 2 → ⊥) → (k ≡ 3 → ⊥) → 4 ≤ k
 four k low n m = omega arith
 
 -- a variable-free tree has one value

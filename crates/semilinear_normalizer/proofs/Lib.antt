@@ -4,3 +4,6 @@ pub mod EmittedLaws
 pub mod BitOfLaws
 pub mod TruthLaws
 pub mod WordTableLaws
+pub mod RegisterLaws
+pub mod NormalizeLaws
+pub mod RefusedLaws
