@@ -7,3 +7,4 @@ pub mod WordTableLaws
 pub mod RegisterLaws
 pub mod NormalizeLaws
 pub mod RefusedLaws
+mod ExampleLaws
