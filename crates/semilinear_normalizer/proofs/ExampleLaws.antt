@@ -1,7 +1,7 @@
--- Computed examples: one table, one test (document 01, "Starred puzzles" as far as they are about normalising, and cases
--- that are easily misread). Kinds: Add 2, Mul 3, And 4, Or 5, Xor 6, Not 7, Neg 8, Shr 9. The width is 8 unless said.
+-- Computed examples: one table, one test (document 01, "Starred puzzles" as far as they are about normalising, and
+-- cases that are easily misread). Kinds: Add 2, Mul 3, And 4, Or 5, Xor 6, Not 7, Neg 8, Shr 9. The width is 8 unless said.
 use mathlib.Core.Path.{_≡_, refl}
-use Prim.Native.Nat.{ℕ}
+use Prim.Native.Nat.{ℕ, zero, suc}
 use mathlib.Core.List.{List, [], _∷_}
 use mathlib.Core.Bool.{Bool, true, false, _&&_}
 use lib.Dec.{eqb}
@@ -26,7 +26,8 @@ use Rattle.semilinear_normalizer.specs.Register.{newestRow, firstRow, ha
 use Rattle.semilinear_normalizer.specs.Register.{registerAll}
 use Rattle.semilinear_normalizer.specs.Normalize.{collectedForm, collectedOutcome, normalizeTree}
 
--- a width, a tree, the constant and the rows of its form; a width, a tree and its refusal; trees with the same hash
+-- a width, a tree, the constant and the rows of its form; a width, a tree and its refusal, 0 for none; trees with the
+-- same hash
 data Example : Type 0 where
   gives : ℕ → Tree → ℕ → List Row → Example
   refuses : ℕ → Tree → ℕ → Example
@@ -113,6 +114,11 @@ starred =
     ∷ gives 1 (xor a (literal 1)) 1 (row 4 a 1 ∷ [])
     ∷ []
 
+-- a nested Xor with n literals, whose atoms have (n + 1) * (n + 1) tree records
+abbrev nested : ℕ → Tree
+nested zero = a
+nested (suc n) = xor (nested n) (literal n)
+
 abbrev others : List Example
 others =
     -- ~~a & 15 is lowered once; the And made of ~a ^ 15 is looked at again
@@ -136,6 +142,12 @@ others =
     -- 0 × (3 & (1 + 2)); (1 + 2) >> 1
     ∷ refuses 8 (mul (literal 0) maskedSum) 7
     ∷ gives 8 (shr 1 sum) 1 []
+    -- a table that fits, one that does not, also where all its atoms are unused; 8 comes before 9; a factor of 0
+    ∷ refuses 8 (nested 54) 0
+    ∷ refuses 8 (nested 55) 9
+    ∷ refuses 8 (add (nested 55) (neg (nested 55))) 9
+    ∷ refuses 8 (add (nested 55) (mul a b)) 8
+    ∷ gives 8 (mul (literal 0) (nested 55)) 0 []
     -- with t = a & 15 and a u of the same hash: t + u + t makes three atoms, t + u + u two
     ∷ alike low other
     ∷ gives 8 (add (add low other) low) 0 (row 0 low 1 ∷ row 0 other 1 ∷ row 0 low 1 ∷ [])
