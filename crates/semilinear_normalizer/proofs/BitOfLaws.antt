@@ -1,5 +1,5 @@
--- Laws of `bitOf` (specs/Truth.antt): it is the bit of a bitwise tree's value at a place, and depends on the bits of the
--- variables that occur, and on the place only through the literals.
+-- Laws of `bitOf` (specs/Truth.antt): it is the bit of a bitwise tree's value at a place, and depends on the bits of
+-- the variables that occur, and on the place only through the literals.
 use mathlib.Core.Path.{_≡_, refl, ap, ap₂, sym, _∙_}
 use Prim.Native.Nat.{ℕ, _-_, _^_, _≤_, _<_, min, max}
 use native.Mathlib.Omega.{arith}

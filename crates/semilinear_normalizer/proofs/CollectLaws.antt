@@ -3,34 +3,34 @@ use mathlib.Core.Path.{_≡_, refl, ap, ap₂, sym, subst, _∙_}
 use Prim.Native.Nat.{ℕ, _+_, _-_, _*_, _%_, _^_, _≤_, _<_}
 use native.Mathlib.Omega.{arith}
 use native.Mathlib.Nat.{lt-of-lt-of-le, mod-eq-of-lt, zero-mul, mul-assoc, mul-comm}
-use mathlib.Core.Logic.{_⊎_, inl, inr}
+use mathlib.Core.Logic.{_⊎_}
 use mathlib.Core.List.{List, [], _∷_, _++_}
 use mathlib.Core.Bool.{Bool, true, false, not, _&&_, _||_}
 use lib.Dec.{eqb}
 use lib.Pow.{pow-mono}
 use lib.Bits.{bitAnd, and-comm}
-use borrow.Author.Tests.{eqb-true, eqb-false, eq-eqb, ne-eqb, ltb-true, not-true}
+use borrow.Author.Tests.{eqb-true, eqb-false, ne-eqb, not-true}
 use Rattle.arith.specs.Congruence.{Eqm}
-use Rattle.arith.specs.Width.{modAdd, modMul, modNeg}
+use Rattle.arith.specs.Width.{modMul, modNeg}
 use Rattle.arith.proofs.CongruenceLaws.{eqm-of-eq, eqm-refl, eqm-sym, eqm-trans, eqm-add, eqm-mul-r}
 use Rattle.arith.proofs.WidthLaws.{mod-add-eqm, mod-mul-eqm, mod-mul-lt, mod-neg-eqm, mod-neg-lt}
 use Rattle.arith.proofs.MaskLaws.{not-minus}
 use Rattle.record.specs.Choice.{when}
 use Rattle.record.specs.Tree.{Tree}
 use Rattle.record.specs.Tree.Tree.{Constant, Variable, Unary, Binary}
-use Rattle.record.proofs.SizedLaws.{false-true, and-true}
+use Rattle.record.proofs.SizedLaws.{and-true}
 use Rattle.expr.specs.Refusal.{isExpr}
 use Rattle.expr.specs.Utils.{hasKind, hasVarDep, hasArith}
-use Rattle.expr.specs.Value.{unary, binary, value}
+use Rattle.expr.specs.Value.{binary, value}
 use Rattle.expr.proofs.ValueLaws.{value-lt}
 use Rattle.expr.proofs.IsExprLaws.{unary-of-expr, binary-of-expr}
 use Rattle.semilinear_normalizer.specs.Collect.{Emitted, Collected, nonlinear, linear}
 use Rattle.semilinear_normalizer.specs.Collect.{joinCollected, collectAtom, collectConstant, isNot, operand}
 use Rattle.semilinear_normalizer.specs.Collect.{collectNot, isMaskedNot, collectAnd, andCoeff, collectMasked}
 use Rattle.semilinear_normalizer.specs.Collect.{collectTerms}
-use Rattle.semilinear_normalizer.proofs.RootLaws.{five-six, four, value-closed, literal-value, orXor, or-xor-comm}
-use Rattle.semilinear_normalizer.proofs.RootLaws.{and-coeff, not-value, value-neg, value-add, value-mul, value-or-xor}
-use Rattle.semilinear_normalizer.proofs.RootLaws.{value-and}
+use Rattle.semilinear_normalizer.proofs.RootLaws.{five-six, four, value-closed, literal-value, orXor}
+use Rattle.semilinear_normalizer.proofs.RootLaws.{or-xor-comm, and-coeff, not-value, value-neg, value-add}
+use Rattle.semilinear_normalizer.proofs.RootLaws.{value-mul, value-or-xor, value-and}
 
 -- the coefficient times the atom, of all that was emitted
 unfoldable pub sumEmitted : ℕ → List ℕ → List Emitted → ℕ

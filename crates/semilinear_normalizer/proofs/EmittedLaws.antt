@@ -1,34 +1,32 @@
 -- What the descent collects of an expression: a constant of w bits, and atoms with a variable and without Add, Mul and
 -- Neg, each with a coefficient of w bits.
-use mathlib.Core.Path.{_≡_, refl, ap, ap₂, sym, subst, _∙_}
-use Prim.Native.Nat.{ℕ, _+_, _*_, _^_, _≤_, _<_}
+use mathlib.Core.Path.{_≡_, refl}
+use Prim.Native.Nat.{ℕ, _^_, _≤_, _<_}
 use native.Mathlib.Omega.{arith}
 use native.Mathlib.Nat.{lt-of-lt-of-le}
-use mathlib.Core.Logic.{_⊎_, inl, inr}
 use mathlib.Core.List.{List, [], _∷_, _++_}
 use mathlib.Core.Bool.{Bool, true, false, not, _&&_, _||_}
-use lib.Dec.{eqb, lit<}
+use lib.Dec.{eqb}
 use lib.Pow.{pow-pos, pow-mono}
-use borrow.Author.Tests.{eqb-true, eqb-false, eq-eqb, ne-eqb, not-true, not-false}
-use Rattle.arith.specs.Width.{modAdd, modMul, modNeg}
+use borrow.Author.Tests.{eqb-false, not-true, not-false}
+use Rattle.arith.specs.Width.{modMul, modNeg}
 use Rattle.arith.proofs.WidthLaws.{mod-add-lt, mod-mul-lt, mod-neg-lt}
 use Rattle.record.specs.Choice.{when}
 use Rattle.record.specs.Tree.{Tree}
 use Rattle.record.specs.Tree.Tree.{Constant, Variable, Unary, Binary}
-use Rattle.record.proofs.SizedLaws.{false-true, and-true}
+use Rattle.record.proofs.SizedLaws.{and-true}
 use Rattle.expr.specs.Refusal.{isExpr}
-use Rattle.expr.specs.Utils.{hasKind, hasVarDep, isArith, hasArith}
+use Rattle.expr.specs.Utils.{hasKind, hasVarDep, hasArith}
 use Rattle.expr.specs.Value.{value}
 use Rattle.expr.proofs.ValueLaws.{value-lt}
-use Rattle.expr.proofs.IsExprLaws.{unary-of-expr, binary-of-expr, expr-of-binary, expr-of-constant}
-use Rattle.semilinear.specs.Form.{isAtomTree}
+use Rattle.expr.proofs.IsExprLaws.{unary-of-expr, binary-of-expr}
 use Rattle.semilinear_normalizer.specs.Collect.{Emitted, Collected, nonlinear, linear}
 use Rattle.semilinear_normalizer.specs.Collect.{joinCollected, collectAtom, collectConstant, isNot, operand}
 use Rattle.semilinear_normalizer.specs.Collect.{collectNot, isMaskedNot, collectAnd, andCoeff, collectMasked}
 use Rattle.semilinear_normalizer.specs.Collect.{collectTerms}
 use Rattle.semilinear_normalizer.proofs.RootLaws.{four}
-use Rattle.semilinear_normalizer.proofs.AtomLaws.{Atom, bitwise-one, Sides, sides, sides-atom, left-atom, right-atom}
-use Rattle.semilinear_normalizer.proofs.AtomLaws.{literal-sides, masked-atom, operand-atom}
+use Rattle.semilinear_normalizer.proofs.AtomLaws.{Atom, bitwise-one, Sides, sides, sides-atom, left-atom}
+use Rattle.semilinear_normalizer.proofs.AtomLaws.{right-atom, literal-sides, masked-atom, operand-atom}
 
 pub when-both : (P : Collected → Type 0) (b : Bool) (x y : Collected) → (b ≡ true → P x) → (b ≡ false → P y)
     → P (when b (λ _. x) (λ _. y))

@@ -1,5 +1,5 @@
 -- Computed examples: one table, one test (document 01, "Starred puzzles" as far as they are about normalising, and
--- cases that are easily misread). Kinds: Add 2, Mul 3, And 4, Or 5, Xor 6, Not 7, Neg 8, Shr 9. The width is 8 unless said.
+-- cases that are easily misread). Kinds: Add 2, Mul 3, And 4, Or 5, Xor 6, Not 7, Neg 8, Shr 9.
 use mathlib.Core.Path.{_≡_, refl}
 use Prim.Native.Nat.{ℕ, zero, suc}
 use mathlib.Core.List.{List, [], _∷_}
@@ -14,7 +14,7 @@ use Rattle.expr.specs.Utils.{hasKind, isArith, isBitwise, hasArith, hasConstant
 use Rattle.expr.specs.Value.{unary, binary, value}
 use Rattle.expr.specs.Vars.{nextVar, supportF, support, sameVars}
 use Rattle.expr.specs.Hash.{mixHash, tagHash, varHash, structuralHash}
-use Rattle.semilinear.specs.Form.{Row, Form, termCount, atomBytes, atomsBytes, termBytes, termsBytes, sumBytes}
+use Rattle.semilinear.specs.Form.{Row, termCount, atomBytes, atomsBytes, termBytes, termsBytes, sumBytes}
 use Rattle.semilinear.specs.Form.{encodeForm, eqTree, treeRecords, fitsTable}
 use Rattle.semilinear.specs.Outcome.{Outcome, accepted, refused, refusalOf, formOutcome}
 use Rattle.semilinear_normalizer.specs.Collect.{joinCollected, collectAtom, collectConstant, isNot, operand}
@@ -119,6 +119,7 @@ abbrev nested : ℕ → Tree
 nested zero = a
 nested (suc n) = xor (nested n) (literal n)
 
+-- the other cases
 abbrev others : List Example
 others =
     -- ~~a & 15 is lowered once; the And made of ~a ^ 15 is looked at again

@@ -1,6 +1,6 @@
 -- Laws of the atom table (specs/Register.antt): a shared row has the value of the tree that shares it, whatever the
 -- hash does; so what is registered adds coefficient times value, and the rows stay valid.
-use mathlib.Core.Path.{_≡_, refl, ap, sym, _∙_}
+use mathlib.Core.Path.{_≡_, refl, ap, _∙_}
 use Prim.Native.Nat.{ℕ, zero, suc, _+_, _*_, _^_, _≤_, _<_}
 use native.Mathlib.Omega.{arith}
 use mathlib.Core.List.{List, [], _∷_}
@@ -14,7 +14,6 @@ use Rattle.arith.proofs.WidthLaws.{mod-add-eqm, mod-add-lt}
 use Rattle.record.specs.Choice.{when}
 use Rattle.record.specs.Tree.{Tree, encode}
 use Rattle.record.specs.Tree.Tree.{Constant, Variable, Unary, Binary}
-use Rattle.record.proofs.SizedLaws.{false-true}
 use Rattle.record.proofs.ListsLaws.{eq-of-eq-list}
 use Rattle.record.proofs.EncodeLaws.{encode-injective}
 use Rattle.expr.specs.Refusal.{isExpr}

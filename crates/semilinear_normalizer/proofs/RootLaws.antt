@@ -1,6 +1,6 @@
 -- The value of a root from its children's, times a coefficient, modulo 2 ^ w: what each case of the descent rests on.
 use mathlib.Core.Path.{_≡_, refl, ap, ap₂, sym, _∙_}
-use Prim.Native.Nat.{ℕ, _+_, _-_, _*_, _%_, _^_, _≤_, _<_}
+use Prim.Native.Nat.{ℕ, _+_, _-_, _*_, _^_, _≤_, _<_}
 use native.Mathlib.Omega.{arith}
 use native.Mathlib.Nat.{lt-of-lt-of-le, mod-eq-of-lt, zero-mul, add-mul}
 use native.Mathlib.Decide.{ℕ-discrete}
