@@ -157,7 +157,7 @@ abbrev pub Reached : List ℕ → ℕ → Type 0
 Reached s len = (exprRefusal s ≡ 0) × (len ≡ 57360)
 
 module _ (s : List ℕ) (len : ℕ) where
-  -- the refusal n where it is none of an expression and not that of the slice
+  -- a refusal of 7 or more is the tree's
   from-seven : (n : ℕ) → 7 ≤ n → normalizeToSemilinear s len ≡ refused n
       → Reached s len × (normalizeTree (width s) (decode s) ≡ refused n)
   unfolding refusalOf
