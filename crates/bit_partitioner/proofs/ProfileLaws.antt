@@ -17,7 +17,7 @@ use Rattle.record.specs.Tree.{Tree}
 use Rattle.expr.specs.Vars.{support}
 use Rattle.semilinear.specs.Form.{Row}
 use Rattle.semilinear_normalizer.specs.Truth.{hasShift, table}
-use Rattle.semilinear_normalizer.proofs.CollectLaws.{or-false}
+use Rattle.semilinear_normalizer.proofs.RootLaws.{or-false}
 use Rattle.semilinear_normalizer.proofs.TruthLaws.{table-lt}
 use Rattle.bit_partitioner.specs.Partition.{columnVars, isOpaque, opaqueWord, profileWord, profileFrom}
 use Rattle.bit_partitioner.specs.Partition.{PartitionClass, classWords}

@@ -26,7 +26,7 @@ use Rattle.semilinear.specs.Valid.{lengthRefused, sumOk, frontOk, isSemi
 use Rattle.semilinear.specs.DecodeForm.{rowsOf, decodeForm}
 use Rattle.semilinear.specs.Outcome.{Outcome, refused, formOutcome}
 use Rattle.semilinear.specs.Answers.{GivesForm}
-use Rattle.semilinear.specs.Compact.{usedRows, compactForm, readOutcome, passOutcome, FrontCopied}
+use Rattle.semilinear.specs.Compact.{usedRows, compactForm, passOutcome, FrontCopied}
 use Rattle.semilinear.proofs.FormLaws.{Valid, form-parts, parts-form, rows-cons, good-row, length-form-le}
 use Rattle.semilinear.proofs.AcceptLaws.{form-valid}
 use Rattle.semilinear.proofs.OutcomeLaws.{formAnswer, gives-form}
@@ -35,20 +35,20 @@ use Rattle.semilinear.proofs.OutcomeLaws.{formAnswer, gives-form}
 
 module _ (pass : Form → Outcome) (s : List ℕ) (len : ℕ) where
   pub pass-length : lengthRefused s ≡ true → passOutcome pass s len ≡ refused 1
-  unfolding readOutcome
+  unfolding passOutcome
   pass-length e = simp e
 
   pub pass-slice : lengthRefused s ≡ false → (len ≡ 57360 → ⊥) → passOutcome pass s len ≡ refused 2
-  unfolding readOutcome
+  unfolding passOutcome
   pass-slice e n = simp (e, ne-eqb len 57360 n)
 
   pub pass-refused : lengthRefused s ≡ false → len ≡ 57360 → isSemilinear s ≡ false → passOutcome pass s len ≡ refused 10
-  unfolding readOutcome
+  unfolding passOutcome
   pass-refused e n z = simp (e, eq-eqb len 57360 n, z)
 
   pub pass-accepted : lengthRefused s ≡ false → len ≡ 57360 → isSemilinear s ≡ true
       → passOutcome pass s len ≡ pass (decodeForm s)
-  unfolding readOutcome
+  unfolding passOutcome
   pass-accepted e n z = simp (e, eq-eqb len 57360 n, z)
 
 -- ---- the used rows

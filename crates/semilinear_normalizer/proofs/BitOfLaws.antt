@@ -26,7 +26,7 @@ use Rattle.expr.specs.Vars.{occurs}
 use Rattle.expr.proofs.ValueLaws.{value-lt}
 use Rattle.expr.proofs.IsExprLaws.{unary-of-expr, binary-of-expr}
 use Rattle.semilinear_normalizer.specs.Truth.{hasShift, bitBinary, bitOf}
-use Rattle.semilinear_normalizer.proofs.CollectLaws.{or-false}
+use Rattle.semilinear_normalizer.proofs.RootLaws.{or-false}
 
 -- ---- bitwise trees
 

@@ -1,125 +1,32 @@
 -- What the descent collects of an expression: a constant of w bits, and atoms with a variable and without Add, Mul and
 -- Neg, each with a coefficient of w bits.
-use mathlib.Core.Path.{_≡_, refl, ap, ap₂, sym, subst, _∙_}
-use Prim.Native.Nat.{ℕ, _+_, _*_, _^_, _≤_, _<_}
+use mathlib.Core.Path.{_≡_, refl}
+use Prim.Native.Nat.{ℕ, _^_, _≤_, _<_}
 use native.Mathlib.Omega.{arith}
 use native.Mathlib.Nat.{lt-of-lt-of-le}
-use mathlib.Core.Logic.{_⊎_, inl, inr}
 use mathlib.Core.List.{List, [], _∷_, _++_}
 use mathlib.Core.Bool.{Bool, true, false, not, _&&_, _||_}
-use lib.Dec.{eqb, lit<}
+use lib.Dec.{eqb}
 use lib.Pow.{pow-pos, pow-mono}
-use borrow.Author.Tests.{eqb-true, eqb-false, eq-eqb, ne-eqb, not-true, not-false}
-use Rattle.arith.specs.Width.{modAdd, modMul, modNeg}
+use borrow.Author.Tests.{eqb-false, not-true, not-false}
+use Rattle.arith.specs.Width.{modMul, modNeg}
 use Rattle.arith.proofs.WidthLaws.{mod-add-lt, mod-mul-lt, mod-neg-lt}
 use Rattle.record.specs.Choice.{when}
 use Rattle.record.specs.Tree.{Tree}
 use Rattle.record.specs.Tree.Tree.{Constant, Variable, Unary, Binary}
-use Rattle.record.proofs.SizedLaws.{false-true, and-true}
+use Rattle.record.proofs.SizedLaws.{and-true}
 use Rattle.expr.specs.Refusal.{isExpr}
-use Rattle.expr.specs.Utils.{hasKind, hasVarDep, isArith, hasArith}
+use Rattle.expr.specs.Utils.{hasKind, hasVarDep, hasArith}
 use Rattle.expr.specs.Value.{value}
 use Rattle.expr.proofs.ValueLaws.{value-lt}
-use Rattle.expr.proofs.IsExprLaws.{unary-of-expr, binary-of-expr, expr-of-binary, expr-of-constant}
-use Rattle.semilinear.specs.Form.{isAtomTree}
+use Rattle.expr.proofs.IsExprLaws.{unary-of-expr, binary-of-expr}
 use Rattle.semilinear_normalizer.specs.Collect.{Emitted, Collected, nonlinear, linear}
 use Rattle.semilinear_normalizer.specs.Collect.{joinCollected, collectAtom, collectConstant, isNot, operand}
 use Rattle.semilinear_normalizer.specs.Collect.{collectNot, isMaskedNot, collectAnd, andCoeff, collectMasked}
 use Rattle.semilinear_normalizer.specs.Collect.{collectTerms}
-use Rattle.semilinear_normalizer.proofs.CollectLaws.{or-false, four}
-
--- an atom by its parts
-pub record Atom (t : Tree) : Type 0 where
-  pub expr : isExpr t ≡ true
-  pub variable : hasVarDep t ≡ true
-  pub plain : hasArith t ≡ false
-
-pub atom-tree : (t : Tree) → Atom t → isAtomTree t ≡ true
-unfolding isAtomTree
-atom-tree t h = simp (h .expr, h .variable, h .plain)
-
--- an operator on atoms: And, Or, Xor, Not and Shr
-bitwise-one : (k a : ℕ) (t : Tree) → isExpr (Unary k a t) ≡ true → (k ≡ 8 → ⊥) → hasVarDep t ≡ true
-    → hasArith t ≡ false → Atom (Unary k a t)
-unfolding hasKind hasArith isArith
-bitwise-one k a t e n h p =
-    let u = unary-of-expr k a t e in
-    record {
-      expr = e;
-      variable = simp (ne-eqb k 1 (omega (arith, u .low)), h);
-      plain = simp (ne-eqb k 2 (omega (arith, u .low)), ne-eqb k 3 (omega (arith, u .low)), ne-eqb k 8 n, p);
-    }
-
-bitwise-two : (k : ℕ) (l r : Tree) → isExpr (Binary k l r) ≡ true → 4 ≤ k → hasVarDep l || hasVarDep r ≡ true
-    → hasArith l || hasArith r ≡ false → Atom (Binary k l r)
-unfolding hasKind hasArith isArith
-bitwise-two k l r e low h p =
-    let b = binary-of-expr k l r e in
-    record {
-      expr = e;
-      variable = simp (ne-eqb k 1 (omega arith), h);
-      plain = simp (ne-eqb k 2 (omega arith), ne-eqb k 3 (omega arith), ne-eqb k 8 (omega (arith, b .high)), p);
-    }
-
--- ---- the two sides of an And, Or or Xor
-
--- one of them has a variable, neither has an Add, Mul or Neg
-record Sides (l r : Tree) : Type 0 where
-  pub expr-l : isExpr l ≡ true
-  pub expr-r : isExpr r ≡ true
-  pub variable : hasVarDep l || hasVarDep r ≡ true
-  pub plain-l : hasArith l ≡ false
-  pub plain-r : hasArith r ≡ false
-
-sides : (l r : Tree) → isExpr l ≡ true → isExpr r ≡ true → hasVarDep l || hasVarDep r ≡ true
-    → hasArith l || hasArith r ≡ false → Sides l r
-sides l r el er h p =
-    let q = or-false (hasArith l) (hasArith r) p in
-    record { expr-l = el; expr-r = er; variable = h; plain-l = q .0; plain-r = q .1 }
-
-sides-atom : (k : ℕ) (l r : Tree) → 4 ≤ k → k < 7 → Sides l r → Atom (Binary k l r)
-sides-atom k l r low high s =
-    let two : 2 ≤ k = omega arith in
-    let e : isExpr (Binary k l r) ≡ true =
-    expr-of-binary k l r (record { low = two; high = high; child-l = s .expr-l; child-r = s .expr-r }) in
-    bitwise-two k l r e low (s .variable) (simp (s .plain-l, s .plain-r))
-
--- the side with a variable, where the other has none
-left-atom : (l r : Tree) → Sides l r → hasVarDep l ≡ true → Atom l
-left-atom l r s h = record { expr = s .expr-l; variable = h; plain = s .plain-l }
-
-right-atom : (l r : Tree) → Sides l r → hasVarDep l ≡ false → Atom r
-right-atom l r s h = record { expr = s .expr-r; variable = simp h at (s .variable); plain = s .plain-r }
-
--- an atom beside a literal
-literal-sides : (t : Tree) (m : ℕ) → m < 2 ^ 64 → Atom t → Sides t (Constant m)
-unfolding hasKind hasArith
-literal-sides t m hm h =
-    record {
-      expr-l = h .expr;
-      expr-r = expr-of-constant m hm;
-      variable = simp (h .variable);
-      plain-l = h .plain;
-      plain-r = refl;
-    }
-
-masked-atom : (t : Tree) (m : ℕ) → m < 2 ^ 64 → Atom t → Atom (Binary 4 t (Constant m))
-masked-atom t m hm h = sides-atom 4 t (Constant m) (omega arith) (omega arith) (literal-sides t m hm h)
-
--- the operand of a Not that is an atom
-operand-atom : (x : Tree) → isNot x ≡ true → isExpr x ≡ true → hasVarDep x ≡ true → hasArith x ≡ false
-    → Atom (operand x)
-unfolding isNot operand hasKind hasArith
-operand-atom (Constant v) n e h p = false-true n
-operand-atom (Variable i) n e h p = false-true n
-operand-atom (Unary k a t) n e h p =
-    let u = unary-of-expr k a t e in
-    record {
-      expr = u .child;
-      variable = simp (ne-eqb k 1 (omega (arith, u .low))) at h;
-      plain = or-false (isArith k) (hasArith t) p .1;
-    }
-operand-atom (Binary k l r) n e h p = false-true n
+use Rattle.semilinear_normalizer.proofs.RootLaws.{four}
+use Rattle.semilinear_normalizer.proofs.AtomLaws.{Atom, bitwise-one, Sides, sides, sides-atom, left-atom}
+use Rattle.semilinear_normalizer.proofs.AtomLaws.{right-atom, literal-sides, masked-atom, operand-atom}
 
 pub when-both : (P : Collected → Type 0) (b : Bool) (x y : Collected) → (b ≡ true → P x) → (b ≡ false → P y)
     → P (when b (λ _. x) (λ _. y))

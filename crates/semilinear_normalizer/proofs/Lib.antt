@@ -1,5 +1,7 @@
 -- The laws of the definitions, for the crates above.
+pub mod RootLaws
 pub mod CollectLaws
+pub mod AtomLaws
 pub mod EmittedLaws
 pub mod BitOfLaws
 pub mod TruthLaws
@@ -7,3 +9,4 @@ pub mod WordTableLaws
 pub mod RegisterLaws
 pub mod NormalizeLaws
 pub mod RefusedLaws
+mod ExampleLaws

@@ -1,9 +1,9 @@
 -- The refusals of normalising, both ways: which number is given exactly when (document 01, "Refusals", 1 to 9).
 use mathlib.Core.Path.{_≡_, refl, ap, sym, subst, _∙_}
-use Prim.Native.Nat.{ℕ, _%_, _^_, _≤_, _<_, min}
+use Prim.Native.Nat.{ℕ, _%_, _^_, _≤_, _<_}
 use native.Mathlib.Omega.{arith}
 use mathlib.Core.Logic.{_↔_, _⊎_, inl, inr}
-use mathlib.Core.List.{List, []}
+use mathlib.Core.List.{List}
 use mathlib.Core.Bool.{Bool, true, false, not, _&&_}
 use lib.ListN.{length}
 use lib.Dec.{eqb, ltb}
@@ -17,7 +17,7 @@ use Rattle.record.proofs.SpanLaws.{fold-none, fold-leaf, fold-one, fold-two, sp
 use Rattle.expr.specs.Refusal.{lowest, formOk, widthOk, rootRefusal, treeRefusal, exprRefusal}
 use Rattle.expr.specs.Utils.{hasConstantArith}
 use Rattle.semilinear.specs.Form.{fitsTable}
-use Rattle.semilinear.specs.Outcome.{Outcome, accepted, refused, refusalOf, formOutcome}
+use Rattle.semilinear.specs.Outcome.{Outcome, refused, refusalOf, formOutcome}
 use Rattle.semilinear_normalizer.specs.Collect.{Emitted, nonlinear, linear, collectTerms}
 use Rattle.semilinear_normalizer.specs.Normalize.{collectedForm, normalizeTree, normalizeToSemilinear}
 use Rattle.semilinear_normalizer.proofs.NormalizeLaws.{TreeCase, arithmetic, not-linear, too-large, written}
@@ -157,7 +157,7 @@ abbrev pub Reached : List ℕ → ℕ → Type 0
 Reached s len = (exprRefusal s ≡ 0) × (len ≡ 57360)
 
 module _ (s : List ℕ) (len : ℕ) where
-  -- the refusal n where it is none of an expression and not that of the slice
+  -- a refusal of 7 or more is the tree's
   from-seven : (n : ℕ) → 7 ≤ n → normalizeToSemilinear s len ≡ refused n
       → Reached s len × (normalizeTree (width s) (decode s) ≡ refused n)
   unfolding refusalOf

@@ -1,13 +1,12 @@
--- Laws of the atom table (specs/Register.antt): a shared row has the value of the tree that shares it, whatever the hash
--- does; so what is registered adds coefficient times value, and the rows stay valid.
-use mathlib.Core.Path.{_≡_, refl, ap, sym, _∙_}
+-- Laws of the atom table (specs/Register.antt): a shared row has the value of the tree that shares it, whatever the
+-- hash does; so what is registered adds coefficient times value, and the rows stay valid.
+use mathlib.Core.Path.{_≡_, refl, ap, _∙_}
 use Prim.Native.Nat.{ℕ, zero, suc, _+_, _*_, _^_, _≤_, _<_}
 use native.Mathlib.Omega.{arith}
 use mathlib.Core.List.{List, [], _∷_}
-use mathlib.Core.Bool.{Bool, true, false, not, _&&_, _||_}
+use mathlib.Core.Bool.{Bool, true, false, _&&_, _||_}
 use lib.ListN.{length}
 use lib.Dec.{eqb}
-use borrow.Author.Tests.{not-true}
 use Rattle.arith.specs.Congruence.{Eqm}
 use Rattle.arith.specs.Width.{modAdd}
 use Rattle.arith.proofs.CongruenceLaws.{eqm-of-eq, eqm-refl, eqm-trans, eqm-add, eqm-mul-r}
@@ -15,20 +14,19 @@ use Rattle.arith.proofs.WidthLaws.{mod-add-eqm, mod-add-lt}
 use Rattle.record.specs.Choice.{when}
 use Rattle.record.specs.Tree.{Tree, encode}
 use Rattle.record.specs.Tree.Tree.{Constant, Variable, Unary, Binary}
-use Rattle.record.proofs.SizedLaws.{false-true, and-true}
 use Rattle.record.proofs.ListsLaws.{eq-of-eq-list}
 use Rattle.record.proofs.EncodeLaws.{encode-injective}
 use Rattle.expr.specs.Refusal.{isExpr}
-use Rattle.expr.specs.Utils.{hasVarDep, hasArith}
 use Rattle.expr.specs.Value.{value}
 use Rattle.expr.proofs.IsExprLaws.{expr-encodable}
-use Rattle.semilinear.specs.Form.{Row, sumRows, eqTree, isAtomTree, rowOk, rowsOk}
+use Rattle.semilinear.specs.Form.{Row, sumRows, eqTree, rowsOk}
 use Rattle.semilinear.proofs.FormLaws.{Good, good-row, rows-cons}
 use Rattle.semilinear_normalizer.specs.Collect.{Emitted}
 use Rattle.semilinear_normalizer.specs.Register.{familyOf, detectProvenance, sameTable, sameSlot, newestRow}
 use Rattle.semilinear_normalizer.specs.Register.{firstRow, hasTree, sharedRow, addRow, registerAtom, registerAll}
 use Rattle.semilinear_normalizer.proofs.CollectLaws.{sumEmitted}
-use Rattle.semilinear_normalizer.proofs.EmittedLaws.{Atom, atom-tree, GoodEmitted, AllGood}
+use Rattle.semilinear_normalizer.proofs.AtomLaws.{Atom, atom-tree, tree-atom}
+use Rattle.semilinear_normalizer.proofs.EmittedLaws.{GoodEmitted, AllGood}
 use Rattle.semilinear_normalizer.proofs.TruthLaws.{table-value}
 
 -- ---- provenance
@@ -66,13 +64,6 @@ provenance-le (Binary k l r) = go (eqb k 4) (eqb k 5) (eqb k 6)
     go false false false = omega arith
 
 -- ---- the row that a tree shares
-
-pub tree-atom : (t : Tree) → isAtomTree t ≡ true → Atom t
-unfolding isAtomTree
-tree-atom t e =
-    let p = and-true (isExpr t) (hasVarDep t && not (hasArith t)) e in
-    let q = and-true (hasVarDep t) (not (hasArith t)) (p .1) in
-    record { expr = p .0; variable = q .0; plain = not-true _ (q .1) }
 
 -- trees of expressions with the same bytes are the same
 pub eq-of-eq-tree : (w : ℕ) (t u : Tree) → isExpr t ≡ true → isExpr u ≡ true → eqTree w t u ≡ true → t ≡ u

@@ -29,7 +29,7 @@ use Rattle.expr.proofs.SupportLaws.{support-occurs}
 use Rattle.semilinear_normalizer.specs.Truth.{hasShift, bitOf, rowBits, rowOf}
 use Rattle.semilinear_normalizer.specs.Truth.{tableF, table}
 use Rattle.semilinear_normalizer.specs.Register.{sharedVars, isPure, sameTable}
-use Rattle.semilinear_normalizer.proofs.CollectLaws.{or-false}
+use Rattle.semilinear_normalizer.proofs.RootLaws.{or-false}
 use Rattle.semilinear_normalizer.proofs.BitOfLaws.{Bitwise, bit-value, bit-of-agree, bit-of-place, bit-of-lt}
 
 -- ---- tables
