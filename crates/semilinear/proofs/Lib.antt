@@ -8,7 +8,6 @@ pub mod ValidLaws
 pub mod AcceptLaws
 pub mod RowsLaws
 pub mod EncodeFormLaws
-mod TestLaws
 mod ScanLaws
 pub mod SumLaws
 pub mod TableLaws
