@@ -18,3 +18,4 @@ pub mod CompactLaws
 pub mod CopyLaws
 pub mod PassLaws
 pub mod EntryLaws
+pub mod SettleLaws
