@@ -22,7 +22,7 @@ use Rattle.semilinear.specs.DecodeForm.{hasTerm, coeffAt, afterTerm, row
 use Rattle.semilinear.specs.Compact.{usedRows, renumber}
 use Rattle.semilinear.specs.Scan.{AtomsEnd}
 use Rattle.semilinear.specs.Running.{usedBytes, RowPassed, RowCopied}
-use Rattle.semilinear.proofs.ItemsLaws.{atom-room, fold-atom, fold-done, rows-atom, rows-end, atoms-ind, term-big, has-term-is}
+use Rattle.semilinear.proofs.ItemsLaws.{atom-room, fold-atom, fold-done, rows-atom, rows-end, atoms-ind, has-term-is, after-some, after-none}
 use Rattle.semilinear.proofs.ValidLaws.{terms-first, terms-nil, terms-later, term-parts}
 use Rattle.semilinear.proofs.AcceptLaws.{atom-bytes}
 use Rattle.semilinear.proofs.RenumberLaws.{put-none, renumber-term, renumber-end}
@@ -74,14 +74,6 @@ module _ (f : List ℕ) (x : Copying) (ha : x .at ≤ length f) (hn : x .next �
       }
 
 -- ---- the rows that are left
-
-after-some : (i : ℕ) (q : List ℕ) → hasTerm i q ≡ true → afterTerm i q ≡ drop 16 q
-unfolding afterTerm
-after-some i q h = simp h
-
-after-none : (i : ℕ) (q : List ℕ) → hasTerm i q ≡ false → afterTerm i q ≡ q
-unfolding afterTerm
-after-none i q h = simp h
 
 -- the first row, by whether it has a term
 module _ (w n i : ℕ) (r q : List ℕ) (e : isAtom r ≡ true) (ok : termsOk w n i q ≡ true) where

@@ -164,3 +164,12 @@ unfolding hasTerm
 has-term-is i q e =
     let p = and-true (isTerm q) (eqb (frontNumber q) i) e in
     (p .0, eqb-true _ _ (p .1))
+
+-- the terms after atom i, by whether it has one
+pub after-some : (i : ℕ) (q : List ℕ) → hasTerm i q ≡ true → afterTerm i q ≡ drop 16 q
+unfolding afterTerm
+after-some i q h = simp h
+
+pub after-none : (i : ℕ) (q : List ℕ) → hasTerm i q ≡ false → afterTerm i q ≡ q
+unfolding afterTerm
+after-none i q h = simp h

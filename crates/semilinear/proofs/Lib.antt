@@ -8,7 +8,6 @@ pub mod ValidLaws
 pub mod AcceptLaws
 pub mod RowsLaws
 pub mod EncodeFormLaws
-mod TestLaws
 mod ScanLaws
 pub mod SumLaws
 pub mod TableLaws
@@ -19,3 +18,4 @@ pub mod CompactLaws
 pub mod CopyLaws
 pub mod PassLaws
 pub mod EntryLaws
+pub mod SettleLaws

@@ -1,18 +1,46 @@
--- Laws of specs/Scan.antt and of the scans: what holds after some atoms, or some terms, were passed.
+-- Laws of specs/Scan.antt and of the scans: the test that a number has w bits, and what holds after some atoms, or
+-- some terms, were passed.
 use mathlib.Core.Path.{_≡_, refl, ap, sym, _∙_}
-use Prim.Native.Nat.{ℕ, _+_, _*_, _≤_}
+use Prim.Native.Nat.{ℕ, _+_, _-_, _*_, _^_, _≤_, _<_}
 use native.Mathlib.Omega.{arith}
+use native.Mathlib.Decide.{decLt}
+use native.Mathlib.Nat.{le-of-lt, min-eq-right}
 use mathlib.Core.List.{List}
 use mathlib.Core.Bool.{Bool, true, false, _&&_}
 use lib.ListN.{length, drop, length-drop}
 use lib.Seq.{drop-drop}
+use lib.Dec.{ltb, leb}
+use lib.Pow.{pow-pos, pow-mono}
+use borrow.Author.Tests.{le-leb, lt-leb, lt-ltb, le-ltb}
+use Rattle.arith.specs.Width.{bitmask}
+use Rattle.arith.proofs.WidthLaws.{bitmask-ones}
 use Rattle.semilinear.specs.declared.scan.AtomTable.{AtomTable}
 use Rattle.semilinear.specs.Items.{frontNumber, atomLength, isAtom, afterAtom, atomCount, atomRecords, afterAtoms}
 use Rattle.semilinear.specs.Items.{isTerm}
 use Rattle.semilinear.specs.Valid.{atomOk, atomsOk, termOk, termsOk}
 use Rattle.semilinear.specs.Scan.{AtomsEnd, IsAtomTable}
 use Rattle.semilinear.proofs.ItemsLaws.{Room, atom-room, fold-atom, fold-done, term-big}
-use Rattle.semilinear.proofs.TestLaws.{terms-ok-end, terms-ok-term}
+use Rattle.semilinear.proofs.ValidLaws.{terms-term}
+
+-- ---- numbers of w bits
+
+bitmask-word : (w : ℕ) → 64 < w → bitmask w ≡ 2 ^ 64 - 1
+unfolding bitmask
+bitmask-word w h = ap (λ (k : ℕ). 2 ^ k - 1) (min-eq-right (le-of-lt h))
+
+-- a 64-bit word has w bits where it is at most the mask of w bits, also for a width above 64
+pub leb-bitmask : (x w : ℕ) → x < 2 ^ 64 → leb x (bitmask w) ≡ ltb x (2 ^ w)
+leb-bitmask x w h = go (decLt 64 w) (decLt x (2 ^ w))
+  where
+    go : Dec (64 < w) → Dec (x < 2 ^ w) → leb x (bitmask w) ≡ ltb x (2 ^ w)
+    go (yes p) d =
+        le-leb x (bitmask w) (omega (arith, bitmask-word w p))
+        ∙ sym (lt-ltb x (2 ^ w) (omega (arith, pow-mono (le-of-lt p))))
+    go (no p) (yes q) =
+        le-leb x (bitmask w) (omega (arith, bitmask-ones w (omega arith))) ∙ sym (lt-ltb x (2 ^ w) q)
+    go (no p) (no q) =
+        lt-leb x (bitmask w) (omega (arith, bitmask-ones w (omega arith), pow-pos w))
+        ∙ sym (le-ltb x (2 ^ w) (omega arith))
 
 -- ---- atoms
 
@@ -87,9 +115,9 @@ module _ (w n next : ℕ) (q : List ℕ) (at : ℕ) (r : List ℕ) (er : r ≡ d
       → termsOk w n next (drop at q) ≡ termsOk w n (frontNumber r + 1) (drop (at + 16) q)
   terms-ok-next ok =
       ap (termsOk w n next) (sym er)
-      ∙ terms-ok-term w n next r et
+      ∙ terms-term w n next r et
       ∙ (simp ok)
       ∙ ap (termsOk w n (frontNumber r + 1)) (ap (drop 16) er ∙ drop-drop 16 at q)
 
   pub terms-ok-stop : termOk w n next r ≡ false → termsOk w n next (drop at q) ≡ false
-  terms-ok-stop ok = ap (termsOk w n next) (sym er) ∙ terms-ok-term w n next r et ∙ simp ok
+  terms-ok-stop ok = ap (termsOk w n next) (sym er) ∙ terms-term w n next r et ∙ simp ok

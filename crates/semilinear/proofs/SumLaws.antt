@@ -24,6 +24,7 @@ use Rattle.semilinear.specs.DecodeForm.{hasTerm, coeffAt, afterTerm, row
 use Rattle.semilinear.specs.Scan.{AtomsEnd}
 use Rattle.semilinear.specs.Running.{RowPassed, RowAdded}
 use Rattle.semilinear.proofs.ItemsLaws.{atom-room, fold-atom, rows-atom, rows-end, term-big, has-term-is}
+use Rattle.semilinear.proofs.ItemsLaws.{after-some, after-none}
 use Rattle.semilinear.proofs.ValidLaws.{AtomParts, atom-parts}
 
 -- an atom among good atoms is good, and those after it are
@@ -113,7 +114,6 @@ module _ (f : List ℕ) (at next number : ℕ) (ha : at ≤ length f) (hn : next
   at-rest = sym (drop-drop n at f) ∙ ap (λ (m : ℕ). drop m (drop at f)) (en ∙ ap atomLength er)
 
   pub passed-without : hasTerm number q ≡ false → RowPassed f at next number (at + n) next (number + 1)
-  unfolding afterTerm
   passed-without h =
       let h′ : hasTerm number (drop next f) ≡ false = rw eq at h in
       record {
@@ -121,12 +121,11 @@ module _ (f : List ℕ) (at next number : ℕ) (ha : at ≤ length f) (hn : next
         later = at-later;
         rest = at-rest;
         terms-inside = hn;
-        terms = sym (simp h′);
+        terms = sym (after-none number (drop next f) h′);
         next-number = refl;
       }
 
   pub passed-with : hasTerm number q ≡ true → RowPassed f at next number (at + n) (next + 16) (number + 1)
-  unfolding afterTerm
   passed-with h =
       let h′ : hasTerm number (drop next f) ≡ true = rw eq at h in
       let big = term-big (drop next f) (has-term-is number (drop next f) h′ .0) in
@@ -135,7 +134,7 @@ module _ (f : List ℕ) (at next number : ℕ) (ha : at ≤ length f) (hn : next
         later = at-later;
         rest = at-rest;
         terms-inside = omega (arith, big, length-drop next f);
-        terms = sym (drop-drop 16 next f) ∙ sym (simp h′);
+        terms = sym (drop-drop 16 next f) ∙ sym (after-some number (drop next f) h′);
         next-number = refl;
       }
 

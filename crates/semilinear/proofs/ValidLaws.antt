@@ -9,12 +9,13 @@ use lib.ListN.{length, drop, length-drop}
 use lib.Dec.{eqb, ltb, leb}
 use borrow.Author.Tests.{eqb-true, eqb-false, leb-true, ltb-true, eq-eqb, ne-eqb, le-leb, lt-ltb, not-true}
 use Rattle.record.specs.Fields.{kind, byte1, size, width, literal, spare}
-use Rattle.record.specs.Span.{body}
+use Rattle.record.specs.Span.{body, sized}
 use Rattle.record.specs.Decode.{decode}
 use Rattle.record.proofs.SizedLaws.{false-true, and-true}
 use Rattle.expr.specs.Refusal.{treeRefusal}
 use Rattle.expr.specs.Utils.{hasVarDep, hasArith}
 use Rattle.expr.specs.Hash.{structuralHash}
+use Rattle.expr.proofs.RefusalLaws.{sized-accepted}
 use Rattle.semilinear.specs.Items.{provenance, frontNumber, frontWidth, frontSpare, frontWord, treeSpan}
 use Rattle.semilinear.specs.Items.{atomCount, atomRecords, afterAtoms, isTerm}
 use Rattle.semilinear.specs.Valid.{atomTreeOk, atomOk, atomsOk, termOk, termsOkF, termsOk, sumOk, frontOk}
@@ -23,6 +24,13 @@ use Rattle.semilinear.specs.DecodeForm.{hasTerm}
 use Rattle.semilinear.proofs.ItemsLaws.{term-big}
 
 -- ---- the atom at the front
+
+-- the size fields of an atom's tree are right
+pub atom-tree-sized : (w : ℕ) (t : List ℕ) → atomTreeOk w t ≡ true → sized t ≡ true
+unfolding atomTreeOk
+atom-tree-sized w t e =
+    let b : Bool = hasVarDep (decode t) && not (hasArith (decode t)) in
+    sized-accepted w t (eqb-true _ _ (and-true (eqb (treeRefusal w t) 0) b e .0))
 
 pub record AtomParts (w : ℕ) (r : List ℕ) : Type 0 where
   pub known : provenance r ≤ 4

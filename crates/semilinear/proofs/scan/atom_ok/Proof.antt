@@ -1,6 +1,6 @@
 use Rattle.semilinear.specs.Valid.{atomOk}
 use Rattle.semilinear.proofs.ItemsLaws.{atom-room}
-use Rattle.semilinear.proofs.TestLaws.{atom-tree-sized}
+use Rattle.semilinear.proofs.ValidLaws.{atom-tree-sized}
 use borrow.Author.Tests.{eq-eqb, ne-eqb, le-leb, lt-leb, not-true, not-false}
 use mathlib.Core.Path.{sym, _∙_}
 use borrow.Author.Needs.{needs}

@@ -2,7 +2,7 @@ use mathlib.Core.Path.{_∙_, ap}
 use mathlib.Core.Bool.{Bool}
 use Prim.Native.Nat.{ℕ}
 use lib.Dec.{leb}
-use Rattle.semilinear.proofs.TestLaws.{leb-bitmask}
+use Rattle.semilinear.proofs.ScanLaws.{leb-bitmask}
 use borrow.Author.Needs.{needs}
 use Rattle.semilinear.proofs.scan.fits_width.Statement.{statement}
 use Rattle.semilinear.proofs.scan.fits_width.Tie as tie

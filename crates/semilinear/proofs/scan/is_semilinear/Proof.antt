@@ -1,5 +1,5 @@
 use Rattle.semilinear.specs.Valid.{isSemilinear}
-use Rattle.semilinear.proofs.TestLaws.{sum-big}
+use Rattle.semilinear.proofs.ValidLaws.{sum-parts}
 use borrow.Author.Tests.{not-true, not-false}
 use mathlib.Core.Path.{sym, _∙_}
 use borrow.Author.Needs.{needs}
@@ -20,7 +20,7 @@ unfolding isSemilinear
 returns c = simp (sym (c .before .sum-ok .ensures) ∙ not-true _ (c .if1 .taken))
 
 width-requires : tie.Need-width-requires
-width-requires c κs = sum-big _ (sym (c .before .sum-ok .ensures) ∙ not-false _ (c .if1 .left))
+width-requires c κs = sum-parts _ (sym (c .before .sum-ok .ensures) ∙ not-false _ (c .if1 .left)) .big
 
 body-requires : tie.Need-body-requires
 body-requires c κs = search needs

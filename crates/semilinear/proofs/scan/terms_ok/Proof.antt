@@ -8,7 +8,7 @@ use borrow.Author.Tests.{not-true, not-false}
 use Rattle.semilinear.specs.Items.{isTerm, frontNumber}
 use Rattle.semilinear.specs.Valid.{termOk, termsOk}
 use Rattle.semilinear.proofs.ItemsLaws.{term-big}
-use Rattle.semilinear.proofs.TestLaws.{terms-ok-end, terms-ok-other}
+use Rattle.semilinear.proofs.ValidLaws.{terms-end, terms-other}
 use Rattle.semilinear.proofs.ScanLaws.{term-inside, terms-ok-next, terms-ok-stop}
 use Rattle.semilinear.proofs.scan.terms_ok.Statement.{statement}
 use Rattle.semilinear.proofs.scan.terms_ok.Tie as tie
@@ -35,7 +35,7 @@ is-term-requires : tie.Need-is-term-requires Inv-loop μ-loop
 is-term-requires c κs = search needs
 
 returns : tie.Need-returns Inv-loop μ-loop
-returns c = sym (c .before .before .before .before .loop .inv .1 ∙ terms-ok-other _ _ _ (drop (c .before .before .before .before .loop .at) (now (c .before .before .before .before .before .before .args .q))) (omega (arith, length-drop (c .before .before .before .before .loop .at) (now (c .before .before .before .before .before .before .args .q)))) (ap isTerm (sym (c .before .before .rest-from .ensures)) ∙ sym (c .before .is-term .ensures) ∙ not-true _ (c .if1 .taken)))
+returns c = sym (c .before .before .before .before .loop .inv .1 ∙ terms-other _ _ _ (drop (c .before .before .before .before .loop .at) (now (c .before .before .before .before .before .before .args .q))) (omega (arith, length-drop (c .before .before .before .before .loop .at) (now (c .before .before .before .before .before .before .args .q)))) (ap isTerm (sym (c .before .before .rest-from .ensures)) ∙ sym (c .before .is-term .ensures) ∙ not-true _ (c .if1 .taken)))
 
 term-ok-requires : tie.Need-term-ok-requires Inv-loop μ-loop
 term-ok-requires c κs = (sym (c .before .is-term .ensures) ∙ not-false _ (c .if1 .left))
@@ -59,7 +59,7 @@ loop-again : tie.Need-loop-again Inv-loop μ-loop
 loop-again c = (term-inside (c .before .before .before .before .before .before .before .before .before .args .w) (c .before .before .before .before .before .before .before .before .before .args .n) (c .before .before .before .before .before .before .before .loop .next) (now (c .before .before .before .before .before .before .before .before .before .args .q)) (c .before .before .before .before .before .before .before .loop .at) _ (c .before .before .before .before .before .rest-from .ensures) (sym (c .before .before .before .before .is-term .ensures) ∙ not-false _ (c .before .before .before .if1 .left)) (c .before .before .before .before .before .before .before .loop .inv .0), rw (c .front-number .ensures .0) (c .before .before .before .before .before .before .before .loop .inv .1 ∙ terms-ok-next (c .before .before .before .before .before .before .before .before .before .args .w) (c .before .before .before .before .before .before .before .before .before .args .n) (c .before .before .before .before .before .before .before .loop .next) (now (c .before .before .before .before .before .before .before .before .before .args .q)) (c .before .before .before .before .before .before .before .loop .at) _ (c .before .before .before .before .before .rest-from .ensures) (sym (c .before .before .before .before .is-term .ensures) ∙ not-false _ (c .before .before .before .if1 .left)) (sym (c .before .before .term-ok .ensures) ∙ not-false _ (c .before .if2 .left))))
 
 returns-3 : tie.Need-returns-3 Inv-loop μ-loop
-returns-3 c = sym (c .before .loop .inv .1 ∙ terms-ok-end _ _ _ (drop (c .before .loop .at) (now (c .before .before .before .args .q))) (omega (arith, length-drop (c .before .loop .at) (now (c .before .before .before .args .q)))))
+returns-3 c = sym (c .before .loop .inv .1 ∙ terms-end _ _ _ (drop (c .before .loop .at) (now (c .before .before .before .args .q))) (omega (arith, length-drop (c .before .loop .at) (now (c .before .before .before .args .q)))))
 
 pub terms-ok-spec : {M : Type 1} → statement M
 terms-ok-spec =
