@@ -14,10 +14,10 @@ use borrow.Author.Tests.{ltb-false}
 use Rattle.record.specs.Choice.{when}
 use Rattle.record.specs.Put.{padded}
 use Rattle.record.specs.Tree.{Tree}
+use Rattle.record.proofs.SizedLaws.{or-false}
 use Rattle.expr.specs.Vars.{support}
 use Rattle.semilinear.specs.Form.{Row}
 use Rattle.semilinear_normalizer.specs.Truth.{hasShift, table}
-use Rattle.semilinear_normalizer.proofs.RootLaws.{or-false}
 use Rattle.semilinear_normalizer.proofs.TruthLaws.{table-lt}
 use Rattle.bit_partitioner.specs.Partition.{columnVars, isOpaque, opaqueWord, profileWord, profileFrom}
 use Rattle.bit_partitioner.specs.Partition.{PartitionClass, classWords}

@@ -1,10 +1,10 @@
 -- Laws of specs/Value.antt: a value has w bits, and depends on the variables that occur, at w bits.
-use mathlib.Core.Path.{_≡_, refl, ap, ap₂}
+use mathlib.Core.Path.{_≡_, refl, ap, ap₂, sym}
 use Prim.Native.Nat.{ℕ, _+_, _-_, _*_, _/_, _%_, _^_, _<_}
 use native.Mathlib.Nat.{mod-lt, lt-of-le-of-lt}
 use lib.Pow.{pow-pos, ones-sub-lt, shr-le}
-use mathlib.Core.List.{List}
-use mathlib.Core.Bool.{Bool, true, false}
+use mathlib.Core.List.{List, []}
+use mathlib.Core.Bool.{Bool, true, false, _||_}
 use lib.ListN.{getD}
 use lib.Dec.{eqb}
 use borrow.Author.Tests.{eq-eqb}
@@ -12,7 +12,8 @@ use lib.Bits.{bitAnd, bitOr, bitXor, and-le-l, or-lt, xor-lt}
 use Rattle.record.specs.Choice.{when}
 use Rattle.record.specs.Tree.{Tree}
 use Rattle.record.specs.Tree.Tree.{Constant, Variable, Unary, Binary}
-use Rattle.record.proofs.SizedLaws.{or-of-l, or-of-r}
+use Rattle.record.proofs.SizedLaws.{false-true, or-of-l, or-of-r, or-false}
+use Rattle.expr.specs.Utils.{hasKind, hasVarDep}
 use Rattle.expr.specs.Value.{unary, binary, value}
 use Rattle.expr.specs.Vars.{occurs}
 
@@ -62,3 +63,14 @@ value-occurs w a b (Unary k n t) h = ap (unary w k n) (value-occurs w a b t h)
 value-occurs w a b (Binary k l r) h =
     ap₂ (binary w k) (value-occurs w a b l (λ i e. h i (or-of-l (occurs i l) (occurs i r) e)))
     (value-occurs w a b r (λ i e. h i (or-of-r (occurs i l) (occurs i r) e)))
+
+-- a variable-free tree has one value
+pub value-closed : (w : ℕ) (vars : List ℕ) (t : Tree) → hasVarDep t ≡ false → value w vars t ≡ value w [] t
+unfolding value hasKind
+value-closed w vars (Constant v) e = refl
+value-closed w vars (Variable i) e = false-true (sym e)
+value-closed w vars (Unary k a t) e =
+    ap (unary w k a) (value-closed w vars t (or-false (eqb k 1) (hasVarDep t) e .1))
+value-closed w vars (Binary k l r) e =
+    let p = or-false (hasVarDep l) (hasVarDep r) (or-false (eqb k 1) (hasVarDep l || hasVarDep r) e .1) in
+    ap₂ (binary w k) (value-closed w vars l (p .0)) (value-closed w vars r (p .1))

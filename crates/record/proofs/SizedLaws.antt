@@ -20,6 +20,11 @@ pub and-true : (a b : Bool) → a && b ≡ true → (a ≡ true) × (b ≡ true)
 and-true true b e = (refl, e)
 and-true false b e = false-true e
 
+-- both parts of a disjunction of tests that fails
+pub or-false : (a b : Bool) → a || b ≡ false → (a ≡ false) × (b ≡ false)
+or-false true b e = false-true (sym e)
+or-false false b e = (refl, e)
+
 -- a disjunction of tests from one part, and one of its parts
 pub or-of-l : (a b : Bool) → a ≡ true → a || b ≡ true
 or-of-l a b e = simp e

@@ -6,6 +6,8 @@ pub mod FrontLaws
 pub mod FormLaws
 pub mod ValidLaws
 pub mod AcceptLaws
+pub mod AtomLaws
+pub mod ViewLaws
 pub mod RowsLaws
 pub mod EncodeFormLaws
 mod ScanLaws
@@ -18,4 +20,6 @@ pub mod CompactLaws
 pub mod CopyLaws
 pub mod PassLaws
 pub mod EntryLaws
+pub mod BasesLaws
+pub mod GroupsLaws
 pub mod SettleLaws

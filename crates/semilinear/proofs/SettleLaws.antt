@@ -21,7 +21,7 @@ unfoldable pub sumTo : (ℕ → ℕ) → ℕ → ℕ
 sumTo f zero = 0
 sumTo f (suc n) = sumTo f n + f n
 
-sum-next : (f : ℕ → ℕ) (i : ℕ) → sumTo f (i + 1) ≡ sumTo f i + f i
+pub sum-next : (f : ℕ → ℕ) (i : ℕ) → sumTo f (i + 1) ≡ sumTo f i + f i
 unfolding sumTo
 sum-next f i = ap (sumTo f) (let e : i + 1 ≡ suc i = omega arith in e)
 
@@ -32,6 +32,19 @@ unfoldable pub rowValue : ℕ → List ℕ → List Row → ℕ → ℕ
 rowValue w vars [] j = 0
 rowValue w vars (x ∷ l) zero = value w vars (x .tree)
 rowValue w vars (x ∷ l) (suc j) = rowValue w vars l j
+
+-- what an entry adds to the sum
+unfoldable pub owed : ℕ → List ℕ → List Row → Entry → ℕ
+owed w vars rows e = when (isLive e) (λ _. e .coeff * rowValue w vars rows (e .atom)) (λ _. 0)
+
+module _ (w : ℕ) (vars : List ℕ) (rows : List Row) (e : Entry) where
+  pub owed-live : isLive e ≡ true → owed w vars rows e ≡ e .coeff * rowValue w vars rows (e .atom)
+  unfolding owed
+  owed-live h = simp h
+
+  pub owed-consumed : isLive e ≡ false → owed w vars rows e ≡ 0
+  unfolding owed
+  owed-consumed h = simp h
 
 module _ (w : ℕ) (vars : List ℕ) (le : w ≤ 64) where
   pub add-sum : (c j : ℕ) (l : List Row) → j < length l
@@ -72,21 +85,9 @@ module _ (w : ℕ) (vars : List ℕ) (le : w ≤ 64) where
 
   -- ---- a group settled
 
-  -- what an entry adds to the sum
-  unfoldable pub owed : List Row → Entry → ℕ
-  owed rows e = when (isLive e) (λ _. e .coeff * rowValue w vars rows (e .atom)) (λ _. 0)
-
-  owed-live : (rows : List Row) (e : Entry) → isLive e ≡ true → owed rows e ≡ e .coeff * rowValue w vars rows (e .atom)
-  unfolding owed
-  owed-live rows e h = simp h
-
-  owed-consumed : (rows : List Row) (e : Entry) → isLive e ≡ false → owed rows e ≡ 0
-  unfolding owed
-  owed-consumed rows e h = simp h
-
   -- after the first i entries
   pub record Settled (g : Group) (rows : List Row) (i : ℕ) (t : List Row) : Type 0 where
-    pub sum : Eqm (2 ^ w) (sumRows w vars t) (sumRows w vars rows + sumTo (λ (k : ℕ). owed rows (at g k)) i)
+    pub sum : Eqm (2 ^ w) (sumRows w vars t) (sumRows w vars rows + sumTo (λ (k : ℕ). owed w vars rows (at g k)) i)
     pub same : (k : ℕ) → rowValue w vars t k ≡ rowValue w vars rows k
     pub count : length t ≡ length rows
     pub ok : rowsOk w rows ≡ true → rowsOk w t ≡ true
@@ -102,9 +103,9 @@ module _ (w : ℕ) (vars : List ℕ) (le : w ≤ 64) where
       c : ℕ
       c = at g i .coeff
 
-      next : sumTo (λ (k : ℕ). owed rows (at g k)) (i + 1)
-          ≡ sumTo (λ (k : ℕ). owed rows (at g k)) i + owed rows (at g i)
-      next = sum-next (λ (k : ℕ). owed rows (at g k)) i
+      next : sumTo (λ (k : ℕ). owed w vars rows (at g k)) (i + 1)
+          ≡ sumTo (λ (k : ℕ). owed w vars rows (at g k)) i + owed w vars rows (at g i)
+      next = sum-next (λ (k : ℕ). owed w vars rows (at g k)) i
 
       go : (b : Bool) → isLive (at g i) ≡ b
           → Settled g rows (i + 1) (when b (λ _. addCoeff w (at g i .coeff) (at g i .atom) t) (λ _. t))
@@ -113,14 +114,14 @@ module _ (w : ℕ) (vars : List ℕ) (le : w ≤ 64) where
             sum =
                 eqm-trans (add-sum c j t (let n = has e in omega (arith, n, h .count)))
                 (eqm-trans (eqm-add (h .sum) (eqm-of-eq (ap (λ (v : ℕ). c * v) (h .same j))))
-                (eqm-of-eq (omega (arith, next, owed-live rows (at g i) e))));
+                (eqm-of-eq (omega (arith, next, owed-live w vars rows (at g i) e))));
             same = λ k. add-value c j t k ∙ h .same k;
             count = add-length c j t ∙ h .count;
             ok = λ o. add-ok c j t (h .ok o);
           }
       go false e =
           record {
-            sum = eqm-trans (h .sum) (eqm-of-eq (omega (arith, next, owed-consumed rows (at g i) e)));
+            sum = eqm-trans (h .sum) (eqm-of-eq (omega (arith, next, owed-consumed w vars rows (at g i) e)));
             same = h .same;
             count = h .count;
             ok = h .ok;

@@ -18,7 +18,7 @@ use Rattle.arith.proofs.BitLaws.{differ-lt}
 use Rattle.record.specs.Choice.{when}
 use Rattle.record.specs.Tree.{Tree}
 use Rattle.record.specs.Tree.Tree.{Constant, Variable, Unary, Binary}
-use Rattle.record.proofs.SizedLaws.{false-true, or-of-l, or-of-r}
+use Rattle.record.proofs.SizedLaws.{false-true, or-of-l, or-of-r, or-false}
 use Rattle.expr.specs.Refusal.{isExpr}
 use Rattle.expr.specs.Utils.{hasKind, hasLiteral, isArith, hasArith}
 use Rattle.expr.specs.Value.{unary, binary, value}
@@ -26,7 +26,6 @@ use Rattle.expr.specs.Vars.{occurs}
 use Rattle.expr.proofs.ValueLaws.{value-lt}
 use Rattle.expr.proofs.IsExprLaws.{unary-of-expr, binary-of-expr}
 use Rattle.semilinear_normalizer.specs.Truth.{hasShift, bitBinary, bitOf}
-use Rattle.semilinear_normalizer.proofs.RootLaws.{or-false}
 
 -- ---- bitwise trees
 

@@ -22,13 +22,13 @@ use Rattle.record.proofs.SizedLaws.{and-true}
 use Rattle.expr.specs.Refusal.{isExpr}
 use Rattle.expr.specs.Utils.{hasKind, hasVarDep, hasArith}
 use Rattle.expr.specs.Value.{binary, value}
-use Rattle.expr.proofs.ValueLaws.{value-lt}
+use Rattle.expr.proofs.ValueLaws.{value-lt, value-closed}
 use Rattle.expr.proofs.IsExprLaws.{unary-of-expr, binary-of-expr}
 use Rattle.semilinear_normalizer.specs.Collect.{Emitted, Collected, nonlinear, linear}
 use Rattle.semilinear_normalizer.specs.Collect.{joinCollected, collectAtom, collectConstant, isNot, operand}
 use Rattle.semilinear_normalizer.specs.Collect.{collectNot, isMaskedNot, collectAnd, andCoeff, collectMasked}
 use Rattle.semilinear_normalizer.specs.Collect.{collectTerms}
-use Rattle.semilinear_normalizer.proofs.RootLaws.{five-six, four, value-closed, literal-value, orXor}
+use Rattle.semilinear_normalizer.proofs.RootLaws.{five-six, four, literal-value, orXor}
 use Rattle.semilinear_normalizer.proofs.RootLaws.{or-xor-comm, and-coeff, not-value, value-neg, value-add}
 use Rattle.semilinear_normalizer.proofs.RootLaws.{value-mul, value-or-xor, value-and}
 

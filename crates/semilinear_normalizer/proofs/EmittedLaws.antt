@@ -20,13 +20,13 @@ use Rattle.expr.specs.Utils.{hasKind, hasVarDep, hasArith}
 use Rattle.expr.specs.Value.{value}
 use Rattle.expr.proofs.ValueLaws.{value-lt}
 use Rattle.expr.proofs.IsExprLaws.{unary-of-expr, binary-of-expr}
+use Rattle.semilinear.proofs.AtomLaws.{Atom, bitwise-one, Sides, sides, sides-atom, left-atom, right-atom}
+use Rattle.semilinear.proofs.AtomLaws.{literal-sides, masked-atom}
 use Rattle.semilinear_normalizer.specs.Collect.{Emitted, Collected, nonlinear, linear}
 use Rattle.semilinear_normalizer.specs.Collect.{joinCollected, collectAtom, collectConstant, isNot, operand}
 use Rattle.semilinear_normalizer.specs.Collect.{collectNot, isMaskedNot, collectAnd, andCoeff, collectMasked}
 use Rattle.semilinear_normalizer.specs.Collect.{collectTerms}
-use Rattle.semilinear_normalizer.proofs.RootLaws.{four}
-use Rattle.semilinear_normalizer.proofs.AtomLaws.{Atom, bitwise-one, Sides, sides, sides-atom, left-atom}
-use Rattle.semilinear_normalizer.proofs.AtomLaws.{right-atom, literal-sides, masked-atom, operand-atom}
+use Rattle.semilinear_normalizer.proofs.RootLaws.{four, operand-atom}
 
 pub when-both : (P : Collected → Type 0) (b : Bool) (x y : Collected) → (b ≡ true → P x) → (b ≡ false → P y)
     → P (when b (λ _. x) (λ _. y))

@@ -1,7 +1,6 @@
 -- The laws of the definitions, for the crates above.
 pub mod RootLaws
 pub mod CollectLaws
-pub mod AtomLaws
 pub mod EmittedLaws
 pub mod BitOfLaws
 pub mod TruthLaws

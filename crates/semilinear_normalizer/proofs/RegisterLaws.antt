@@ -14,18 +14,15 @@ use Rattle.arith.proofs.WidthLaws.{mod-add-eqm, mod-add-lt}
 use Rattle.record.specs.Choice.{when}
 use Rattle.record.specs.Tree.{Tree, encode}
 use Rattle.record.specs.Tree.Tree.{Constant, Variable, Unary, Binary}
-use Rattle.record.proofs.ListsLaws.{eq-of-eq-list}
-use Rattle.record.proofs.EncodeLaws.{encode-injective}
 use Rattle.expr.specs.Refusal.{isExpr}
 use Rattle.expr.specs.Value.{value}
-use Rattle.expr.proofs.IsExprLaws.{expr-encodable}
 use Rattle.semilinear.specs.Form.{Row, sumRows, eqTree, rowsOk}
 use Rattle.semilinear.proofs.FormLaws.{Good, good-row, rows-cons}
+use Rattle.semilinear.proofs.AtomLaws.{Atom, atom-tree, tree-atom, eq-of-eq-tree}
 use Rattle.semilinear_normalizer.specs.Collect.{Emitted}
 use Rattle.semilinear_normalizer.specs.Register.{familyOf, detectProvenance, sameTable, sameSlot, newestRow}
 use Rattle.semilinear_normalizer.specs.Register.{firstRow, hasTree, sharedRow, addRow, registerAtom, registerAll}
 use Rattle.semilinear_normalizer.proofs.CollectLaws.{sumEmitted}
-use Rattle.semilinear_normalizer.proofs.AtomLaws.{Atom, atom-tree, tree-atom}
 use Rattle.semilinear_normalizer.proofs.EmittedLaws.{GoodEmitted, AllGood}
 use Rattle.semilinear_normalizer.proofs.TruthLaws.{table-value}
 
@@ -64,12 +61,6 @@ provenance-le (Binary k l r) = go (eqb k 4) (eqb k 5) (eqb k 6)
     go false false false = omega arith
 
 -- ---- the row that a tree shares
-
--- trees of expressions with the same bytes are the same
-pub eq-of-eq-tree : (w : ℕ) (t u : Tree) → isExpr t ≡ true → isExpr u ≡ true → eqTree w t u ≡ true → t ≡ u
-unfolding eqTree
-eq-of-eq-tree w t u et eu e =
-    encode-injective w t u (expr-encodable t et) (expr-encodable u eu) (eq-of-eq-list (encode w t) (encode w u) e)
 
 first-row-le : (test : Row → Bool) (i : ℕ) (l : List Row) → i ≤ firstRow test i l
 unfolding firstRow

@@ -9,6 +9,7 @@ use mathlib.Core.List.{List, []}
 use mathlib.Core.Bool.{Bool, true, false, _||_}
 use lib.Dec.{eqb}
 use lib.Pow.{pow-mono}
+use borrow.Author.Tests.{ne-eqb}
 use lib.Bits.{bitAnd, bitOr, bitXor, or-comm, xor-comm}
 use Rattle.arith.specs.Congruence.{Eqm}
 use Rattle.arith.specs.Width.{modMul, modNeg}
@@ -19,17 +20,16 @@ use Rattle.arith.proofs.MaskLaws.{or-minus, xor-minus}
 use Rattle.record.specs.Choice.{when}
 use Rattle.record.specs.Tree.{Tree}
 use Rattle.record.specs.Tree.Tree.{Constant, Variable, Unary, Binary}
-use Rattle.record.proofs.SizedLaws.{false-true}
-use Rattle.expr.specs.Utils.{hasKind, hasVarDep}
+use Rattle.record.proofs.SizedLaws.{false-true, or-false}
+use Rattle.expr.specs.Refusal.{isExpr}
+use Rattle.expr.specs.Utils.{hasKind, hasVarDep, isArith, hasArith}
 use Rattle.expr.specs.Value.{unary, binary, value}
-use Rattle.expr.proofs.ValueLaws.{value-lt}
+use Rattle.expr.proofs.IsExprLaws.{unary-of-expr}
+use Rattle.expr.proofs.ValueLaws.{value-lt, value-closed}
+use Rattle.semilinear.proofs.AtomLaws.{Atom}
 use Rattle.semilinear_normalizer.specs.Collect.{isNot, operand, andCoeff}
 
 -- ---- tests and kinds
-
-pub or-false : (a b : Bool) → a || b ≡ false → (a ≡ false) × (b ≡ false)
-or-false true b e = false-true (sym e)
-or-false false b e = (refl, e)
 
 pub five-six : (k : ℕ) → 4 ≤ k → k < 7 → (k ≡ 4 → ⊥) → (k ≡ 5) ⊎ (k ≡ 6)
 five-six k low high n = go (ℕ-discrete k 5)
@@ -43,18 +43,7 @@ four k low n m = omega arith
 
 -- ---- variable-free trees
 
--- a variable-free tree has one value
-pub value-closed : (w : ℕ) (vars : List ℕ) (t : Tree) → hasVarDep t ≡ false → value w vars t ≡ value w [] t
-unfolding value hasKind
-value-closed w vars (Constant v) e = refl
-value-closed w vars (Variable i) e = false-true (sym e)
-value-closed w vars (Unary k a t) e =
-    ap (unary w k a) (value-closed w vars t (or-false (eqb k 1) (hasVarDep t) e .1))
-value-closed w vars (Binary k l r) e =
-    let p = or-false (hasVarDep l) (hasVarDep r) (or-false (eqb k 1) (hasVarDep l || hasVarDep r) e .1) in
-    ap₂ (binary w k) (value-closed w vars l (p .0)) (value-closed w vars r (p .1))
-
--- and so has the literal of that value
+-- the literal of its value
 pub literal-value : (w : ℕ) (vars : List ℕ) (m : Tree) → hasVarDep m ≡ false
     → value w vars (Constant (value w [] m)) ≡ value w vars m
 unfolding value
@@ -143,3 +132,18 @@ module _ (w : ℕ) (vars : List ℕ) where
   pub value-and : (k : ℕ) (l r : Tree) → k ≡ 4 → bitAnd (v l) (v r) ≡ v (Binary k l r)
   unfolding value binary
   value-and k l r e = rw e
+
+-- the operand of a Not that is an atom
+pub operand-atom : (x : Tree) → isNot x ≡ true → isExpr x ≡ true → hasVarDep x ≡ true → hasArith x ≡ false
+    → Atom (operand x)
+unfolding isNot operand hasKind hasArith
+operand-atom (Constant v) n e h p = false-true n
+operand-atom (Variable i) n e h p = false-true n
+operand-atom (Unary k a t) n e h p =
+    let u = unary-of-expr k a t e in
+    record {
+      expr = u .child;
+      variable = simp (ne-eqb k 1 (omega (arith, u .low))) at h;
+      plain = or-false (isArith k) (hasArith t) p .1;
+    }
+operand-atom (Binary k l r) n e h p = false-true n

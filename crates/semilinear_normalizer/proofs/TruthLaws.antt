@@ -17,7 +17,7 @@ use Rattle.record.specs.Choice.{when}
 use Rattle.record.specs.Lists.{elem, eqList}
 use Rattle.record.specs.Tree.{Tree}
 use Rattle.record.specs.Tree.Tree.{Constant, Variable, Unary, Binary}
-use Rattle.record.proofs.SizedLaws.{false-true, and-true}
+use Rattle.record.proofs.SizedLaws.{false-true, and-true, or-false}
 use Rattle.record.proofs.ListsLaws.{eq-of-eq-list}
 use Rattle.expr.specs.Refusal.{isExpr}
 use Rattle.expr.specs.Utils.{hasKind, hasLiteral, hasShr, hasArith}
@@ -29,7 +29,6 @@ use Rattle.expr.proofs.SupportLaws.{support-occurs}
 use Rattle.semilinear_normalizer.specs.Truth.{hasShift, bitOf, rowBits, rowOf}
 use Rattle.semilinear_normalizer.specs.Truth.{tableF, table}
 use Rattle.semilinear_normalizer.specs.Register.{sharedVars, isPure, sameTable}
-use Rattle.semilinear_normalizer.proofs.RootLaws.{or-false}
 use Rattle.semilinear_normalizer.proofs.BitOfLaws.{Bitwise, bit-value, bit-of-agree, bit-of-place, bit-of-lt}
 
 -- ---- tables

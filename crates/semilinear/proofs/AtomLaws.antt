@@ -5,15 +5,15 @@ use Prim.Native.Nat.{ℕ, _^_, _≤_, _<_}
 use native.Mathlib.Omega.{arith}
 use mathlib.Core.Bool.{true, false, not, _&&_, _||_}
 use borrow.Author.Tests.{ne-eqb, not-true}
-use Rattle.record.specs.Tree.{Tree}
+use Rattle.record.specs.Tree.{Tree, encode}
 use Rattle.record.specs.Tree.Tree.{Constant, Variable, Unary, Binary}
-use Rattle.record.proofs.SizedLaws.{false-true, and-true}
+use Rattle.record.proofs.SizedLaws.{and-true, or-false}
+use Rattle.record.proofs.ListsLaws.{eq-of-eq-list}
+use Rattle.record.proofs.EncodeLaws.{encode-injective}
 use Rattle.expr.specs.Refusal.{isExpr}
 use Rattle.expr.specs.Utils.{hasKind, hasVarDep, isArith, hasArith}
-use Rattle.expr.proofs.IsExprLaws.{unary-of-expr, binary-of-expr, expr-of-binary, expr-of-constant}
-use Rattle.semilinear.specs.Form.{isAtomTree}
-use Rattle.semilinear_normalizer.specs.Collect.{isNot, operand}
-use Rattle.semilinear_normalizer.proofs.RootLaws.{or-false}
+use Rattle.expr.proofs.IsExprLaws.{unary-of-expr, binary-of-expr, expr-of-binary, expr-of-constant, expr-encodable}
+use Rattle.semilinear.specs.Form.{isAtomTree, eqTree}
 
 -- an atom by its parts
 pub record Atom (t : Tree) : Type 0 where
@@ -31,6 +31,12 @@ tree-atom t e =
     let p = and-true (isExpr t) (hasVarDep t && not (hasArith t)) e in
     let q = and-true (hasVarDep t) (not (hasArith t)) (p .1) in
     record { expr = p .0; variable = q .0; plain = not-true _ (q .1) }
+
+-- trees of expressions with the same bytes are the same
+pub eq-of-eq-tree : (w : ℕ) (t u : Tree) → isExpr t ≡ true → isExpr u ≡ true → eqTree w t u ≡ true → t ≡ u
+unfolding eqTree
+eq-of-eq-tree w t u et eu e =
+    encode-injective w t u (expr-encodable t et) (expr-encodable u eu) (eq-of-eq-list (encode w t) (encode w u) e)
 
 -- an operator on atoms: And, Or, Xor, Not and Shr
 pub bitwise-one : (k a : ℕ) (t : Tree) → isExpr (Unary k a t) ≡ true → (k ≡ 8 → ⊥) → hasVarDep t ≡ true
@@ -99,18 +105,3 @@ literal-sides t m hm h =
 
 pub masked-atom : (t : Tree) (m : ℕ) → m < 2 ^ 64 → Atom t → Atom (Binary 4 t (Constant m))
 masked-atom t m hm h = sides-atom 4 t (Constant m) (omega arith) (omega arith) (literal-sides t m hm h)
-
--- the operand of a Not that is an atom
-pub operand-atom : (x : Tree) → isNot x ≡ true → isExpr x ≡ true → hasVarDep x ≡ true → hasArith x ≡ false
-    → Atom (operand x)
-unfolding isNot operand hasKind hasArith
-operand-atom (Constant v) n e h p = false-true n
-operand-atom (Variable i) n e h p = false-true n
-operand-atom (Unary k a t) n e h p =
-    let u = unary-of-expr k a t e in
-    record {
-      expr = u .child;
-      variable = simp (ne-eqb k 1 (omega (arith, u .low))) at h;
-      plain = or-false (isArith k) (hasArith t) p .1;
-    }
-operand-atom (Binary k l r) n e h p = false-true n
