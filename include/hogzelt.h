@@ -1,9 +1,10 @@
 /*
  * Hogzelt: the functions of the static library libhogzelt.a.
  *
- * Every pointer must be valid for its length: expr for expr_len bytes, vars for vars_len words,
- * value for one word. A pointer with length 0 must not be null and must be aligned. `value` must
- * not overlap the inputs.
+ * Every pointer must be valid for its length: expr for expr_len bytes, s for s_len bytes, vars for
+ * vars_len words, out for out_len bytes, value, used and terms for one word. A pointer with length
+ * 0 must not be null and must be aligned. What is written to (value, out, used, terms) must overlap
+ * neither the inputs nor one another.
  */
 #ifndef HOGZELT_H
 #define HOGZELT_H
@@ -51,6 +52,31 @@ bool hogzelt_can_change_mask_to(uint64_t coeff, uint64_t old_mask, uint64_t new_
  */
 bool hogzelt_can_change_coefficient_to(uint64_t old_coeff, uint64_t new_coeff, uint64_t mask,
                                        uint32_t w);
+
+/*
+ * The value of a semilinear form (document 01: sheet) under an assignment: the constant plus each
+ * coefficient times its atom, modulo 2^w. Returns 0 for accepted, else the lowest refusal that
+ * applies:
+ *    1  length 0, not a multiple of 16 or above 57,360
+ *   10  not a form, a hash that is not the tree's, or bytes behind the sum record, zeros too
+ * *value is the value, below 2^w, and 0 beside a refusal. The assignment is as above.
+ */
+uint64_t hogzelt_semilinear_value(const uint8_t *s, size_t s_len, const uint64_t *vars,
+                                  size_t vars_len, uint64_t *value);
+
+/*
+ * A semilinear form without the atoms that have no term; the others keep their order and are
+ * numbered from 0. The value is that of the form given, under every assignment. out_len must be
+ * 57,360. Returns 0 for accepted, else the lowest refusal that applies:
+ *    1  s_len is 0, not a multiple of 16 or above 57,360
+ *    2  out_len is not 57,360
+ *   10  s is not a form, as above
+ * All of out is written. Where the form is accepted, its first *used bytes are the result, a form
+ * again, the rest is zero, and *terms is the count of the result's terms. Beside a refusal all
+ * out_len bytes are zero, and so are *used and *terms.
+ */
+uint64_t hogzelt_compact_atom_table(const uint8_t *s, size_t s_len, uint8_t *out, size_t out_len,
+                                    uint64_t *used, uint64_t *terms);
 
 #ifdef __cplusplus
 }

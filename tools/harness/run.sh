@@ -2,9 +2,9 @@
 # The Rust harness. It compiles the published Rust sources below the directory COBRA_SRC.
 #   run.sh vectors OUT       write the vector file OUT (docs/VECTORS.md) and print its counts
 #   run.sh dump FILE [N]     print a vector file, or its entry N, as text
-#   run.sh test              check the model against document 01's examples and the published Rust
-#   run.sh compare           compare the static library with the model and the published Rust
-#   run.sh stack             measure the stack and the time of hogzelt_expr_value
+#   run.sh test              check the models against document 01's examples and the published Rust
+#   run.sh compare           compare the static library with the models and the published Rust
+#   run.sh stack             measure the stack and the time of the functions that walk trees
 # compare and stack build target/staticlib/libhogzelt.a with rt. Where HOGZELT_LIB names an archive
 # libhogzelt.a, that one is taken and nothing is built.
 # Status: 0 done, 1 a difference or a failure, 2 something that the harness needs is missing.

@@ -6,6 +6,7 @@ use mathlib.Core.Path.{_≡_, sym, ap, _∙_}
 use Prim.Native.Nat.{ℕ, zero, suc, _+_, _-_, _*_, _/_, _%_, _^_, _≤_, _<_, min, max}
 use native.Mathlib.Nat.{zero-div, sub-zero, mod-lt, zero-lt-suc, div-one, div-eq-of-lt, lt-of-lt-of-le}
 use native.Mathlib.Numerals.{one-add}
+use native.Mathlib.Decide.{decLt}
 use native.Mathlib.Omega.{arith}
 use lib.Arith.{lt-one}
 use lib.Bits.{bitAnd, bitOr, bitXor, differ, and-mask, and-step, or-step, xor-step, and-shr, or-shr, xor-shr}
@@ -81,7 +82,7 @@ bit-or a b i = ap (λ (x : ℕ). x % 2) (or-shr a b i) ∙ lowest (a / 2 ^ i) (b
     lowest : (x y : ℕ) → bitOr x y % 2 ≡ max (x % 2) (y % 2)
     lowest x y = omega (arith, or-step x y)
 
-differ-lt : (x y : ℕ) → x < 2 → y < 2 → differ x y < 2
+pub differ-lt : (x y : ℕ) → x < 2 → y < 2 → differ x y < 2
 differ-lt zero y hx hy = hy
 differ-lt (suc x) zero hx hy = hx
 differ-lt (suc x) (suc y) hx hy = differ-lt x y (omega arith) (omega arith)
@@ -138,6 +139,21 @@ bit-under q k r i hr hi = sym (bit-mod (q * 2 ^ k + r) k i hi) ∙ ap (λ (x : �
 pub bit-top : (q k r : ℕ) → r < 2 ^ k → bitAt (q * 2 ^ k + r) k ≡ q % 2
 unfolding bitAt
 bit-top q k r hr = ap (λ (x : ℕ). x % 2) (high q k hr)
+
+-- of a power of two: set at its own place alone
+pub bit-pow : (k : ℕ) → bitAt (2 ^ k) k ≡ 1
+bit-pow k =
+    let e : 2 ^ k ≡ 1 * 2 ^ k + 0 = omega arith in
+    ap (λ (x : ℕ). bitAt x k) e ∙ bit-top 1 k 0 (pow-pos k)
+
+pub bit-pow-other : (k i : ℕ) → (i ≡ k → ⊥) → bitAt (2 ^ k) i ≡ 0
+bit-pow-other k i n = go (decLt i k)
+  where
+    go : Dec (i < k) → bitAt (2 ^ k) i ≡ 0
+    go (yes h) =
+        let e : 2 ^ k ≡ 1 * 2 ^ k + 0 = omega arith in
+        ap (λ (x : ℕ). bitAt x i) e ∙ bit-under 1 k 0 i (pow-pos k) h ∙ bit-of-zero i
+    go (no h) = bit-past (2 ^ k) (suc k) i (omega (arith, pow-pos k)) (omega arith)
 
 -- ---- a single bit taken out
 

@@ -12,10 +12,11 @@ use Rattle.record.specs.Tree.{Tree, sizeOf, encode, IsBytes, Encodable}
 use Rattle.record.specs.Tree.Tree.{Constant, Variable, Unary, Binary}
 use Rattle.record.specs.Decode.{decode}
 use Rattle.record.proofs.FieldsLaws.{arity-one-of-le, arity-two-of-le}
-use Rattle.record.proofs.SizedLaws.{and-true}
+use Rattle.record.proofs.SizedLaws.{false-true, and-true, or-cases}
 use Rattle.record.proofs.BytesLaws.{bytes-append, bytes-record}
 use Rattle.record.proofs.EncodeLaws.{encoded}
 use Rattle.expr.specs.Refusal.{isExpr}
+use Rattle.expr.specs.Vars.{occurs}
 
 pub constant-of-expr : (v : ℕ) → isExpr (Constant v) ≡ true → v < 2 ^ 64
 unfolding isExpr
@@ -143,3 +144,13 @@ bytes-encode w (Binary k l r) e hw hn =
     let er = bytes-encode w r (b .child-r) hw (omega arith) in
     bytes-append (encode w l ++ encode w r) _ (bytes-append (encode w l) (encode w r) el er)
     (bytes-record k 0 (sizeOf l + sizeOf r + 1) w 0 (omega (arith, b .high)) (lit< tt) hn hw)
+
+-- the variables of an expression have one byte
+pub occurs-lt : (i : ℕ) (t : Tree) → isExpr t ≡ true → occurs i t ≡ true → i < 256
+unfolding occurs
+occurs-lt i (Constant v) e o = false-true o
+occurs-lt i (Variable j) e o = let f : j ≡ i = eqb-true j i o in omega (arith, variable-of-expr j e)
+occurs-lt i (Unary k a t) e o = occurs-lt i t (unary-of-expr k a t e .child) o
+occurs-lt i (Binary k l r) e o =
+    let b = binary-of-expr k l r e in
+    or-cases (occurs i l) (occurs i r) o (occurs-lt i l (b .child-l)) (occurs-lt i r (b .child-r))

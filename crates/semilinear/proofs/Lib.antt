@@ -17,3 +17,4 @@ pub mod RenumberLaws
 pub mod CompactLaws
 pub mod CopyLaws
 pub mod PassLaws
+pub mod EntryLaws

@@ -10,5 +10,7 @@ pub mod Value
 pub mod Compact
 pub mod Decompose
 pub mod Basis
+pub mod Loop
+pub mod Group
 pub mod Scan
 pub mod Running

@@ -2,58 +2,35 @@
 use mathlib.Core.Path.{_≡_, refl, ap, ap₂, sym, subst, _∙_}
 use Prim.Native.Nat.{ℕ, _+_, _-_, _*_, _%_, _^_, _≤_, _<_}
 use native.Mathlib.Omega.{arith}
-use native.Mathlib.Nat.{lt-of-lt-of-le, mod-eq-of-lt, zero-mul, add-mul, mul-assoc, mul-comm}
-use native.Mathlib.Decide.{ℕ-discrete}
-use mathlib.Core.Logic.{_⊎_, inl, inr}
+use native.Mathlib.Nat.{lt-of-lt-of-le, mod-eq-of-lt, zero-mul, mul-assoc, mul-comm}
+use mathlib.Core.Logic.{_⊎_}
 use mathlib.Core.List.{List, [], _∷_, _++_}
 use mathlib.Core.Bool.{Bool, true, false, not, _&&_, _||_}
-use lib.Dec.{eqb, ltb}
+use lib.Dec.{eqb}
 use lib.Pow.{pow-mono}
-use lib.Bits.{bitAnd, bitOr, bitXor, and-comm, or-comm, xor-comm}
-use borrow.Author.Tests.{eqb-true, eqb-false, eq-eqb, ne-eqb, ltb-true, not-true}
+use lib.Bits.{bitAnd, and-comm}
+use borrow.Author.Tests.{eqb-true, eqb-false, ne-eqb, not-true}
 use Rattle.arith.specs.Congruence.{Eqm}
-use Rattle.arith.specs.Width.{modAdd, modMul, modNeg}
-use Rattle.arith.proofs.CongruenceLaws.{eqm-intro, eqm-of-eq, eqm-refl, eqm-sym, eqm-trans, eqm-mod}
-use Rattle.arith.proofs.CongruenceLaws.{eqm-add, eqm-mul-r, eqm-mul-l, eqm-cancel}
+use Rattle.arith.specs.Width.{modMul, modNeg}
+use Rattle.arith.proofs.CongruenceLaws.{eqm-of-eq, eqm-refl, eqm-sym, eqm-trans, eqm-add, eqm-mul-r}
 use Rattle.arith.proofs.WidthLaws.{mod-add-eqm, mod-mul-eqm, mod-mul-lt, mod-neg-eqm, mod-neg-lt}
-use Rattle.arith.proofs.MaskLaws.{or-minus, xor-minus, not-minus}
+use Rattle.arith.proofs.MaskLaws.{not-minus}
 use Rattle.record.specs.Choice.{when}
 use Rattle.record.specs.Tree.{Tree}
 use Rattle.record.specs.Tree.Tree.{Constant, Variable, Unary, Binary}
-use Rattle.record.proofs.SizedLaws.{false-true, and-true}
+use Rattle.record.proofs.SizedLaws.{and-true}
 use Rattle.expr.specs.Refusal.{isExpr}
 use Rattle.expr.specs.Utils.{hasKind, hasVarDep, hasArith}
-use Rattle.expr.specs.Value.{unary, binary, value}
+use Rattle.expr.specs.Value.{binary, value}
 use Rattle.expr.proofs.ValueLaws.{value-lt}
 use Rattle.expr.proofs.IsExprLaws.{unary-of-expr, binary-of-expr}
 use Rattle.semilinear_normalizer.specs.Collect.{Emitted, Collected, nonlinear, linear}
 use Rattle.semilinear_normalizer.specs.Collect.{joinCollected, collectAtom, collectConstant, isNot, operand}
-use Rattle.semilinear_normalizer.specs.Collect.{collectNot, isMaskedNot, collectAnd, andCoeff, collectMasked, collectTerms}
-
-or-false : (a b : Bool) → a || b ≡ false → (a ≡ false) × (b ≡ false)
-or-false true b e = false-true (sym e)
-or-false false b e = (refl, e)
-
-five-six : (k : ℕ) → 4 ≤ k → k < 7 → (k ≡ 4 → ⊥) → (k ≡ 5) ⊎ (k ≡ 6)
-five-six k low high n = go (ℕ-discrete k 5)
-  where
-    go : Dec (k ≡ 5) → (k ≡ 5) ⊎ (k ≡ 6)
-    go (yes e) = inl e
-    go (no e) = inr (omega arith)
-
-four : (k : ℕ) → 2 ≤ k → (k ≡ 2 → ⊥) → (k ≡ 3 → ⊥) → 4 ≤ k
-four k low n m = omega arith
-
--- a variable-free tree has one value
-pub value-closed : (w : ℕ) (vars : List ℕ) (t : Tree) → hasVarDep t ≡ false → value w vars t ≡ value w [] t
-unfolding value hasKind
-value-closed w vars (Constant v) e = refl
-value-closed w vars (Variable i) e = false-true (sym e)
-value-closed w vars (Unary k a t) e =
-    ap (unary w k a) (value-closed w vars t (or-false (eqb k 1) (hasVarDep t) e .1))
-value-closed w vars (Binary k l r) e =
-    let p = or-false (hasVarDep l) (hasVarDep r) (or-false (eqb k 1) (hasVarDep l || hasVarDep r) e .1) in
-    ap₂ (binary w k) (value-closed w vars l (p .0)) (value-closed w vars r (p .1))
+use Rattle.semilinear_normalizer.specs.Collect.{collectNot, isMaskedNot, collectAnd, andCoeff, collectMasked}
+use Rattle.semilinear_normalizer.specs.Collect.{collectTerms}
+use Rattle.semilinear_normalizer.proofs.RootLaws.{five-six, four, value-closed, literal-value, orXor}
+use Rattle.semilinear_normalizer.proofs.RootLaws.{or-xor-comm, and-coeff, not-value, value-neg, value-add}
+use Rattle.semilinear_normalizer.proofs.RootLaws.{value-mul, value-or-xor, value-and}
 
 -- the coefficient times the atom, of all that was emitted
 unfoldable pub sumEmitted : ℕ → List ℕ → List Emitted → ℕ
@@ -94,6 +71,15 @@ module _ (w : ℕ) (vars : List ℕ) (hw : w ≤ 64) where
   unfolding HasValue sumEmitted
   has-none c x e = eqm-of-eq (sym (ap (λ (y : ℕ). y * x) e ∙ zero-mul x))
 
+  has-when : (b : Bool) (x y : Collected) (a : ℕ) → (b ≡ true → HasValue x a) → (b ≡ false → HasValue y a)
+      → HasValue (when b (λ _. x) (λ _. y)) a
+  has-when true x y a p q = p refl
+  has-when false x y a p q = q refl
+
+  none-when : (c a : ℕ) (y : Collected) → HasValue y (c * a)
+      → HasValue (when (eqb c 0) (λ _. linear 0 []) (λ _. y)) (c * a)
+  none-when c a y h = has-when (eqb c 0) (linear 0 []) y (c * a) (λ e. has-none c a (eqb-true c 0 e)) (λ e. h)
+
   has-join : (x y : Collected) (a b : ℕ) → HasValue x a → HasValue y b → HasValue (joinCollected w x y) (a + b)
   unfolding HasValue joinCollected
   has-join nonlinear y a b h k = tt
@@ -110,7 +96,8 @@ module _ (w : ℕ) (vars : List ℕ) (hw : w ≤ 64) where
   unfolding HasValue collectConstant sumEmitted
   has-constant c t e =
       eqm-trans (eqm-of-eq (omega arith))
-      (eqm-trans (mod-mul-eqm c (value w [] t) w hw) (eqm-of-eq (ap (λ (y : ℕ). c * y) (sym (value-closed w vars t e)))))
+      (eqm-trans (mod-mul-eqm c (value w [] t) w hw)
+      (eqm-of-eq (ap (λ (y : ℕ). c * y) (sym (value-closed w vars t e)))))
 
   -- ~x & k, where k has w bits
   has-not : (c : ℕ) (x : Tree) (k : ℕ) → c < 2 ^ 64 → k < 2 ^ w
@@ -124,13 +111,6 @@ module _ (w : ℕ) (vars : List ℕ) (hw : w ≤ 64) where
       (eqm-trans (eqm-of-eq (omega arith))
       (eqm-sym (not-minus (2 ^ w) w c (v x) k (modNeg c w) (value-lt w vars x) hk n))))
 
-  not-value : (x : Tree) → isNot x ≡ true → v x ≡ 2 ^ w - 1 - v (operand x)
-  unfolding isNot operand value unary
-  not-value (Constant u) e = false-true e
-  not-value (Variable i) e = false-true e
-  not-value (Unary k a t) e = simp e
-  not-value (Binary k l r) e = false-true e
-
   masked-not : (c : ℕ) (x y : Tree) → c < 2 ^ 64 → isMaskedNot x y ≡ true
       → HasValue (collectNot w c (operand x) (value w [] y)) (c * bitAnd (v x) (v y))
   unfolding isMaskedNot
@@ -138,7 +118,7 @@ module _ (w : ℕ) (vars : List ℕ) (hw : w ≤ 64) where
       let p = and-true (isNot x) (hasVarDep x && not (hasVarDep y)) e in
       let q = and-true (hasVarDep x) (not (hasVarDep y)) (p .1) in
       let cl : v y ≡ value w [] y = value-closed w vars y (not-true _ (q .1)) in
-      has-eq _ (ap₂ (λ (a b : ℕ). c * bitAnd a b) (sym (not-value x (p .0))) (sym cl))
+      has-eq _ (ap₂ (λ (a b : ℕ). c * bitAnd a b) (sym (not-value w vars x (p .0))) (sym cl))
       (has-not c (operand x) (value w [] y) hc (value-lt w [] y))
 
   atom-and : (c : ℕ) (l r : Tree) → HasValue (collectAtom c (Binary 4 l r)) (c * bitAnd (v l) (v r))
@@ -147,115 +127,32 @@ module _ (w : ℕ) (vars : List ℕ) (hw : w ≤ 64) where
 
   pub has-and : (c : ℕ) (l r : Tree) → c < 2 ^ 64 → HasValue (collectAnd w c l r) (c * bitAnd (v l) (v r))
   unfolding collectAnd
-  has-and c l r hc = go (eqb c 0) (isMaskedNot l r) (isMaskedNot r l) refl refl refl
-    where
-      go : (a p q : Bool) → eqb c 0 ≡ a → isMaskedNot l r ≡ p → isMaskedNot r l ≡ q
-          → HasValue
-          (when a (λ _. linear 0 [])
-          (λ _. when p (λ _. collectNot w c (operand l) (value w [] r))
-          (λ _. when q (λ _. collectNot w c (operand r) (value w [] l)) (λ _. collectAtom c (Binary 4 l r)))))
-          (c * bitAnd (v l) (v r))
-      go true p q e f g = has-none c (bitAnd (v l) (v r)) (eqb-true c 0 e)
-      go false true q e f g = masked-not c l r hc f
-      go false false true e f g =
-          has-eq _ (ap (λ (x : ℕ). c * x) (and-comm (v r) (v l))) (masked-not c r l hc g)
-      go false false false e f g = atom-and c l r
-
-  -- the literal's side m and the other side t of an Or or Xor of kind k
-  abbrev orXor : ℕ → ℕ → ℕ → ℕ
-  orXor k x y = when (eqb k 6) (λ _. bitXor x y) (λ _. bitOr x y)
-
-  and-coeff : (k c : ℕ) (x y : ℕ) → c < 2 ^ 64
-      → (andCoeff w k c < 2 ^ 64) × Eqm (2 ^ w) (c * x + c * y + andCoeff w k c * bitAnd x y) (c * orXor k x y)
-  unfolding andCoeff
-  and-coeff k c x y hc = go (eqb k 6)
-    where
-      double : Eqm (2 ^ w) (modNeg (modMul c 2 w) w + 2 * c) 0
-      double =
-          eqm-trans
-          (eqm-add (eqm-refl (modNeg (modMul c 2 w) w))
-          (eqm-sym (eqm-trans (mod-mul-eqm c 2 w hw) (eqm-of-eq (omega arith)))))
-          (mod-neg-eqm (modMul c 2 w) w hw (word (mod-mul-lt c 2 w hw)))
-
-      go : (b : Bool)
-          → (when b (λ _. modNeg (modMul c 2 w) w) (λ _. modNeg c w) < 2 ^ 64)
-          × Eqm (2 ^ w) (c * x + c * y + when b (λ _. modNeg (modMul c 2 w) w) (λ _. modNeg c w) * bitAnd x y)
-          (c * when b (λ _. bitXor x y) (λ _. bitOr x y))
-      go true =
-          (word (mod-neg-lt (modMul c 2 w) w hw), eqm-sym (xor-minus (2 ^ w) c x y (modNeg (modMul c 2 w) w) double))
-      go false = (word (mod-neg-lt c w hw), eqm-sym (or-minus (2 ^ w) c x y (modNeg c w) (mod-neg-eqm c w hw hc)))
-
-  literal-value : (m : Tree) → hasVarDep m ≡ false → v (Constant (value w [] m)) ≡ v m
-  unfolding value
-  literal-value m hm = mod-eq-of-lt (value-lt w [] m) ∙ sym (value-closed w vars m hm)
+  has-and c l r hc =
+      none-when c (bitAnd (v l) (v r)) _
+      (has-when (isMaskedNot l r) _ _ (c * bitAnd (v l) (v r)) (λ e. masked-not c l r hc e)
+      (λ e. has-when (isMaskedNot r l) _ _ (c * bitAnd (v l) (v r))
+      (λ f. has-eq _ (ap (λ (x : ℕ). c * x) (and-comm (v r) (v l))) (masked-not c r l hc f))
+      (λ f. atom-and c l r)))
 
   has-masked : (k c : ℕ) (x : Collected) (t m : Tree) → c < 2 ^ 64 → hasVarDep m ≡ false → HasValue x (c * v t)
       → HasValue (collectMasked w k c x t m) (c * orXor k (v t) (v m))
   unfolding collectMasked
   has-masked k c x t m hc hm h =
-      let p = and-coeff k c (v t) (v m) hc in
+      let p = and-coeff w hw k c (v t) (v m) hc in
       let lit : Tree = Constant (value w [] m) in
       let j : ℕ = andCoeff w k c in
       has-eqm _ (p .1)
       (has-join _ _ (c * v t + c * v m) (j * bitAnd (v t) (v m))
       (has-join _ _ (c * v t) (c * v m) h (has-constant c m hm))
-      (has-eq _ (ap (λ (y : ℕ). j * bitAnd (v t) y) (literal-value m hm)) (has-and j t lit (p .0))))
-
-  -- ---- the value of a root from its children's
-
-  value-neg : (a : ℕ) (t : Tree) (c : ℕ) → c < 2 ^ 64 → Eqm (2 ^ w) (modNeg c w * v t) (c * v (Unary 8 a t))
-  unfolding value unary
-  value-neg a t c hc =
-      eqm-cancel (c * v t)
-      (eqm-trans (eqm-of-eq (sym (add-mul (modNeg c w) c (v t))))
-      (eqm-trans (eqm-mul-r (v t) (mod-neg-eqm c w hw hc))
-      (eqm-trans (eqm-of-eq (zero-mul (v t)))
-      (eqm-sym
-      (eqm-trans (eqm-add (eqm-mul-l c (eqm-mod (2 ^ w) (2 ^ w - v t))) (eqm-refl (c * v t)))
-      (eqm-intro 0 c (whole c (v t) (2 ^ w) (value-lt w vars t))))))))
-    where
-      whole : (c x m : ℕ) → x < m → c * (m - x) + c * x + 0 * m ≡ 0 + c * m
-      whole c x m h = let e : m - x + x ≡ m = omega arith in omega (arith, ap (λ (y : ℕ). c * y) e)
-
-  value-add : (l r : Tree) (c : ℕ) → Eqm (2 ^ w) (c * v l + c * v r) (c * v (Binary 2 l r))
-  unfolding value binary
-  value-add l r c =
-      eqm-trans (eqm-of-eq (omega arith)) (eqm-mul-l c (eqm-sym (eqm-mod (2 ^ w) (v l + v r))))
-
-  value-mul : (l r : Tree) (c : ℕ) → Eqm (2 ^ w) (c * (v l * v r)) (c * v (Binary 3 l r))
-  unfolding value binary
-  value-mul l r c = eqm-mul-l c (eqm-sym (eqm-mod (2 ^ w) (v l * v r)))
-
-  value-or-xor : (k : ℕ) (l r : Tree) → (k ≡ 5) ⊎ (k ≡ 6) → v (Binary k l r) ≡ orXor k (v l) (v r)
-  unfolding value binary
-  value-or-xor k l r (inl e) = rw e
-  value-or-xor k l r (inr e) = rw e
-
-  value-and : (k : ℕ) (l r : Tree) → k ≡ 4 → bitAnd (v l) (v r) ≡ v (Binary k l r)
-  unfolding value binary
-  value-and k l r e = rw e
-
-  or-xor-comm : (k x y : ℕ) → orXor k x y ≡ orXor k y x
-  or-xor-comm k x y = go (eqb k 6)
-    where
-      go : (b : Bool) → when b (λ _. bitXor x y) (λ _. bitOr x y) ≡ when b (λ _. bitXor y x) (λ _. bitOr y x)
-      go true = xor-comm x y
-      go false = or-comm x y
+      (has-eq _ (ap (λ (y : ℕ). j * bitAnd (v t) y) (literal-value w vars m hm)) (has-and j t lit (p .0))))
 
   -- ---- the descent
 
   Kept : Tree → Type 0
   Kept t = (c : ℕ) → c < 2 ^ 64 → HasValue (collectTerms w c t) (c * v t)
 
-  has-when : (b : Bool) (x y : Collected) (a : ℕ) → (b ≡ true → HasValue x a) → (b ≡ false → HasValue y a)
-      → HasValue (when b (λ _. x) (λ _. y)) a
-  has-when true x y a p q = p refl
-  has-when false x y a p q = q refl
-
-  none-when : (c a : ℕ) (y : Collected) → HasValue y (c * a) → HasValue (when (eqb c 0) (λ _. linear 0 []) (λ _. y)) (c * a)
-  none-when c a y h = has-when (eqb c 0) (linear 0 []) y (c * a) (λ e. has-none c a (eqb-true c 0 e)) (λ e. h)
-
-  closed-one : (k a : ℕ) (t : Tree) → isExpr (Unary k a t) ≡ true → hasVarDep t ≡ false → hasVarDep (Unary k a t) ≡ false
+  closed-one : (k a : ℕ) (t : Tree) → isExpr (Unary k a t) ≡ true → hasVarDep t ≡ false
+      → hasVarDep (Unary k a t) ≡ false
   unfolding hasKind
   closed-one k a t e h =
       let u = unary-of-expr k a t e in
@@ -269,7 +166,7 @@ module _ (w : ℕ) (vars : List ℕ) (hw : w ≤ 64) where
       (λ h. has-constant c (Unary k a t) (closed-one k a t e (not-true _ h)))
       (λ h. has-when (eqb k 8) _ _ (c * v (Unary k a t))
       (λ n. has-eqm _ (subst (λ (j : ℕ). Eqm (2 ^ w) (modNeg c w * v t) (c * v (Unary j a t))) (sym (eqb-true k 8 n))
-      (value-neg a t c hc)) (below (modNeg c w) (word (mod-neg-lt c w hw))))
+      (value-neg w vars a t c hw hc)) (below (modNeg c w) (word (mod-neg-lt c w hw))))
       (λ n. has-when (hasArith t) _ _ (c * v (Unary k a t)) (λ x. has-nonlinear _) (λ x. has-atom c (Unary k a t)))))
 
   closed-two : (k : ℕ) (l r : Tree) → 2 ≤ k → hasVarDep l || hasVarDep r ≡ false → hasVarDep (Binary k l r) ≡ false
@@ -293,7 +190,7 @@ module _ (w : ℕ) (vars : List ℕ) (hw : w ≤ 64) where
       (λ _. when (not (hasVarDep r)) (λ _. collectTerms w (modMul c (value w [] r) w) l) (λ _. nonlinear)))
       (c * v (Binary 3 l r))
   kept-mul l r c below-l below-r =
-      has-eqm _ (value-mul l r c)
+      has-eqm _ (value-mul w vars l r c)
       (has-when (not (hasVarDep l)) _ _ (c * (v l * v r)) (λ e. kept-factor l r c (not-true _ e) below-r)
       (λ e. has-when (not (hasVarDep r)) _ _ (c * (v l * v r))
       (λ f. has-eq _ (ap (λ (x : ℕ). c * x) (mul-comm (v r) (v l))) (kept-factor r l c (not-true _ f) below-l))
@@ -310,14 +207,14 @@ module _ (w : ℕ) (vars : List ℕ) (hw : w ≤ 64) where
   unfolding Kept
   kept-bitwise k l r c hc low high below-l below-r =
       has-when (eqb k 4) _ _ (c * v (Binary k l r))
-      (λ e. has-eq _ (ap (λ (x : ℕ). c * x) (value-and k l r (eqb-true k 4 e))) (has-and c l r hc))
+      (λ e. has-eq _ (ap (λ (x : ℕ). c * x) (value-and w vars k l r (eqb-true k 4 e))) (has-and c l r hc))
       (λ e.
       let ox : (k ≡ 5) ⊎ (k ≡ 6) = five-six k low high (eqb-false k 4 e) in
       has-when (not (hasVarDep l)) _ _ (c * v (Binary k l r))
-      (λ f. has-eq _ (ap (λ (x : ℕ). c * x) (or-xor-comm k (v r) (v l) ∙ sym (value-or-xor k l r ox)))
+      (λ f. has-eq _ (ap (λ (x : ℕ). c * x) (or-xor-comm k (v r) (v l) ∙ sym (value-or-xor w vars k l r ox)))
       (has-masked k c (collectTerms w c r) r l hc (not-true _ f) (below-r c hc)))
       (λ f. has-when (not (hasVarDep r)) _ _ (c * v (Binary k l r))
-      (λ g. has-eq _ (ap (λ (x : ℕ). c * x) (sym (value-or-xor k l r ox)))
+      (λ g. has-eq _ (ap (λ (x : ℕ). c * x) (sym (value-or-xor w vars k l r ox)))
       (has-masked k c (collectTerms w c l) l r hc (not-true _ g) (below-l c hc)))
       (λ g. has-atom c (Binary k l r))))
 
@@ -331,21 +228,17 @@ module _ (w : ℕ) (vars : List ℕ) (hw : w ≤ 64) where
       (λ h. has-constant c (Binary k l r) (closed-two k l r (b .low) (not-true _ h)))
       (λ h. has-when (eqb k 2) _ _ x
       (λ n. has-eqm _ (subst (λ (j : ℕ). Eqm (2 ^ w) (c * v l + c * v r) (c * v (Binary j l r))) (sym (eqb-true k 2 n))
-      (value-add l r c)) (has-join _ _ (c * v l) (c * v r) (below-l c hc) (below-r c hc)))
+      (value-add w vars l r c)) (has-join _ _ (c * v l) (c * v r) (below-l c hc) (below-r c hc)))
       (λ n. has-when (eqb k 3) _ _ x
       (λ m. has-eq _ (ap (λ (j : ℕ). c * v (Binary j l r)) (sym (eqb-true k 3 m))) (kept-mul l r c below-l below-r))
       (λ m. has-when (hasArith l || hasArith r) _ _ x (λ y. has-nonlinear _)
       (λ y. kept-bitwise k l r c hc (four k (b .low) (eqb-false k 2 n) (eqb-false k 3 m)) (b .high) below-l below-r)))))
 
-  kept-leaf : (t : Tree) (c : ℕ) (y : Collected) → HasValue y (c * v t)
-      → HasValue (when (eqb c 0) (λ _. linear 0 []) (λ _. y)) (c * v t)
-  kept-leaf t c y h = none-when c (v t) y h
-
   -- what is collected of an expression has its value times the coefficient
   pub collect-value : (t : Tree) → isExpr t ≡ true → (c : ℕ) → c < 2 ^ 64 → HasValue (collectTerms w c t) (c * v t)
   unfolding Kept collectTerms hasKind
-  collect-value (Constant u) e c hc = kept-leaf (Constant u) c _ (has-constant c (Constant u) refl)
-  collect-value (Variable i) e c hc = kept-leaf (Variable i) c _ (has-atom c (Variable i))
+  collect-value (Constant u) e c hc = none-when c (v (Constant u)) _ (has-constant c (Constant u) refl)
+  collect-value (Variable i) e c hc = none-when c (v (Variable i)) _ (has-atom c (Variable i))
   collect-value (Unary k a t) e c hc =
       kept-one k a t e (collect-value t (unary-of-expr k a t e .child)) c hc
   collect-value (Binary k l r) e c hc =

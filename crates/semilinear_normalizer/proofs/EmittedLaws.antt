@@ -1,72 +1,32 @@
 -- What the descent collects of an expression: a constant of w bits, and atoms with a variable and without Add, Mul and
 -- Neg, each with a coefficient of w bits.
-use mathlib.Core.Path.{_≡_, refl, ap, ap₂, sym, subst, _∙_}
-use Prim.Native.Nat.{ℕ, _+_, _*_, _^_, _≤_, _<_}
+use mathlib.Core.Path.{_≡_, refl}
+use Prim.Native.Nat.{ℕ, _^_, _≤_, _<_}
 use native.Mathlib.Omega.{arith}
 use native.Mathlib.Nat.{lt-of-lt-of-le}
-use mathlib.Core.Logic.{_⊎_, inl, inr}
 use mathlib.Core.List.{List, [], _∷_, _++_}
 use mathlib.Core.Bool.{Bool, true, false, not, _&&_, _||_}
-use lib.Dec.{eqb, lit<}
+use lib.Dec.{eqb}
 use lib.Pow.{pow-pos, pow-mono}
-use borrow.Author.Tests.{eqb-true, eqb-false, eq-eqb, ne-eqb, not-true, not-false}
-use Rattle.arith.specs.Width.{modAdd, modMul, modNeg}
+use borrow.Author.Tests.{eqb-false, not-true, not-false}
+use Rattle.arith.specs.Width.{modMul, modNeg}
 use Rattle.arith.proofs.WidthLaws.{mod-add-lt, mod-mul-lt, mod-neg-lt}
 use Rattle.record.specs.Choice.{when}
 use Rattle.record.specs.Tree.{Tree}
 use Rattle.record.specs.Tree.Tree.{Constant, Variable, Unary, Binary}
-use Rattle.record.proofs.SizedLaws.{false-true, and-true}
+use Rattle.record.proofs.SizedLaws.{and-true}
 use Rattle.expr.specs.Refusal.{isExpr}
-use Rattle.expr.specs.Utils.{hasKind, hasVarDep, isArith, hasArith}
+use Rattle.expr.specs.Utils.{hasKind, hasVarDep, hasArith}
 use Rattle.expr.specs.Value.{value}
 use Rattle.expr.proofs.ValueLaws.{value-lt}
-use Rattle.expr.proofs.IsExprLaws.{unary-of-expr, binary-of-expr, expr-of-binary, expr-of-constant}
-use Rattle.semilinear.specs.Form.{isAtomTree}
+use Rattle.expr.proofs.IsExprLaws.{unary-of-expr, binary-of-expr}
 use Rattle.semilinear_normalizer.specs.Collect.{Emitted, Collected, nonlinear, linear}
 use Rattle.semilinear_normalizer.specs.Collect.{joinCollected, collectAtom, collectConstant, isNot, operand}
-use Rattle.semilinear_normalizer.specs.Collect.{collectNot, isMaskedNot, collectAnd, andCoeff, collectMasked, collectTerms}
-
--- an atom by its parts
-pub record Atom (t : Tree) : Type 0 where
-  pub expr : isExpr t ≡ true
-  pub variable : hasVarDep t ≡ true
-  pub plain : hasArith t ≡ false
-
-pub atom-tree : (t : Tree) → Atom t → isAtomTree t ≡ true
-unfolding isAtomTree
-atom-tree t h = simp (h .expr, h .variable, h .plain)
-
--- an operator on atoms: And, Or, Xor, Not and Shr
-bitwise-one : (k a : ℕ) (t : Tree) → isExpr (Unary k a t) ≡ true → (k ≡ 8 → ⊥) → hasVarDep t ≡ true
-    → hasArith t ≡ false → Atom (Unary k a t)
-unfolding hasKind hasArith isArith
-bitwise-one k a t e n h p =
-    let u = unary-of-expr k a t e in
-    record {
-      expr = e;
-      variable = simp (ne-eqb k 1 (omega (arith, u .low)), h);
-      plain = simp (ne-eqb k 2 (omega (arith, u .low)), ne-eqb k 3 (omega (arith, u .low)), ne-eqb k 8 n, p);
-    }
-
-bitwise-two : (k : ℕ) (l r : Tree) → isExpr (Binary k l r) ≡ true → 4 ≤ k → hasVarDep l || hasVarDep r ≡ true
-    → hasArith l || hasArith r ≡ false → Atom (Binary k l r)
-unfolding hasKind hasArith isArith
-bitwise-two k l r e low h p =
-    let b = binary-of-expr k l r e in
-    record {
-      expr = e;
-      variable = simp (ne-eqb k 1 (omega arith), h);
-      plain = simp (ne-eqb k 2 (omega arith), ne-eqb k 3 (omega arith), ne-eqb k 8 (omega (arith, b .high)), p);
-    }
-
--- an atom under a literal mask
-masked-atom : (t : Tree) (m : ℕ) → m < 2 ^ 64 → Atom t → Atom (Binary 4 t (Constant m))
-unfolding hasKind hasArith
-masked-atom t m hm h =
-    let e : isExpr (Binary 4 t (Constant m)) ≡ true =
-    expr-of-binary 4 t (Constant m)
-    (record { low = omega arith; high = omega arith; child-l = h .expr; child-r = expr-of-constant m hm }) in
-    bitwise-two 4 t (Constant m) e (omega arith) (simp (h .variable)) (simp (h .plain))
+use Rattle.semilinear_normalizer.specs.Collect.{collectNot, isMaskedNot, collectAnd, andCoeff, collectMasked}
+use Rattle.semilinear_normalizer.specs.Collect.{collectTerms}
+use Rattle.semilinear_normalizer.proofs.RootLaws.{four}
+use Rattle.semilinear_normalizer.proofs.AtomLaws.{Atom, bitwise-one, Sides, sides, sides-atom, left-atom}
+use Rattle.semilinear_normalizer.proofs.AtomLaws.{right-atom, literal-sides, masked-atom, operand-atom}
 
 pub when-both : (P : Collected → Type 0) (b : Bool) (x y : Collected) → (b ≡ true → P x) → (b ≡ false → P y)
     → P (when b (λ _. x) (λ _. y))
@@ -120,3 +80,99 @@ module _ (w : ℕ) (hw : w ≤ 64) where
   unfolding GoodCollected AllGood collectNot
   good-not c x k hk h =
       (mod-mul-lt c k w hw, (record { atom = masked-atom x k (word hk) h; fits = mod-neg-lt c w hw }, tt))
+
+  -- ---- the cases of the descent
+
+  good-masked-not : (c : ℕ) (x y : Tree) → isMaskedNot x y ≡ true → isExpr x ≡ true → hasArith x ≡ false
+      → GoodCollected (collectNot w c (operand x) (value w [] y))
+  unfolding isMaskedNot
+  good-masked-not c x y e hx p =
+      let q = and-true (isNot x) (hasVarDep x && not (hasVarDep y)) e in
+      let v = and-true (hasVarDep x) (not (hasVarDep y)) (q .1) in
+      good-not c (operand x) (value w [] y) (value-lt w [] y) (operand-atom x (q .0) hx (v .0) p)
+
+  good-and : (c : ℕ) (l r : Tree) → c < 2 ^ w → Sides l r → GoodCollected (collectAnd w c l r)
+  unfolding collectAnd
+  good-and c l r hc s =
+      when-both GoodCollected (eqb c 0) _ _ (λ e. good-none)
+      (λ e. when-both GoodCollected (isMaskedNot l r) _ _
+      (λ f. good-masked-not c l r f (s .expr-l) (s .plain-l))
+      (λ f. when-both GoodCollected (isMaskedNot r l) _ _
+      (λ g. good-masked-not c r l g (s .expr-r) (s .plain-r))
+      (λ g. good-atom c (Binary 4 l r) hc (sides-atom 4 l r (omega arith) (omega arith) s))))
+
+  and-coeff-lt : (k c : ℕ) → andCoeff w k c < 2 ^ w
+  unfolding andCoeff
+  and-coeff-lt k c = go (eqb k 6)
+    where
+      go : (b : Bool) → when b (λ _. modNeg (modMul c 2 w) w) (λ _. modNeg c w) < 2 ^ w
+      go true = mod-neg-lt (modMul c 2 w) w hw
+      go false = mod-neg-lt c w hw
+
+  good-masked : (k c : ℕ) (x : Collected) (t m : Tree) → GoodCollected x → Atom t
+      → GoodCollected (collectMasked w k c x t m)
+  unfolding collectMasked
+  good-masked k c x t m h a =
+      good-join _ _ (good-join _ _ h (good-constant c m))
+      (good-and (andCoeff w k c) t (Constant (value w [] m)) (and-coeff-lt k c)
+      (literal-sides t (value w [] m) (word (value-lt w [] m)) a))
+
+  -- ---- the descent
+
+  Kept : Tree → Type 0
+  Kept t = (c : ℕ) → c < 2 ^ w → GoodCollected (collectTerms w c t)
+
+  none-when : (c : ℕ) (y : Collected) → GoodCollected y → GoodCollected (when (eqb c 0) (λ _. linear 0 []) (λ _. y))
+  none-when c y h = when-both GoodCollected (eqb c 0) (linear 0 []) y (λ e. good-none) (λ e. h)
+
+  kept-one : (k a : ℕ) (t : Tree) → isExpr (Unary k a t) ≡ true → Kept t → Kept (Unary k a t)
+  unfolding Kept collectTerms
+  kept-one k a t e below c hc =
+      none-when c _
+      (when-both GoodCollected (not (hasVarDep t)) _ _ (λ h. good-constant c (Unary k a t))
+      (λ h. when-both GoodCollected (eqb k 8) _ _ (λ n. below (modNeg c w) (mod-neg-lt c w hw))
+      (λ n. when-both GoodCollected (hasArith t) _ _ (λ p. good-nonlinear)
+      (λ p. good-atom c (Unary k a t) hc (bitwise-one k a t e (eqb-false k 8 n) (not-false _ h) p)))))
+
+  -- And, Or and Xor without Add, Mul and Neg
+  kept-bitwise : (k : ℕ) (l r : Tree) (c : ℕ) → c < 2 ^ w → 4 ≤ k → k < 7 → Sides l r → Kept l → Kept r
+      → GoodCollected
+      (when (eqb k 4) (λ _. collectAnd w c l r)
+      (λ _. when (not (hasVarDep l)) (λ _. collectMasked w k c (collectTerms w c r) r l)
+      (λ _. when (not (hasVarDep r)) (λ _. collectMasked w k c (collectTerms w c l) l r)
+      (λ _. collectAtom c (Binary k l r)))))
+  unfolding Kept
+  kept-bitwise k l r c hc low high s below-l below-r =
+      when-both GoodCollected (eqb k 4) _ _ (λ e. good-and c l r hc s)
+      (λ e. when-both GoodCollected (not (hasVarDep l)) _ _
+      (λ f. good-masked k c (collectTerms w c r) r l (below-r c hc) (right-atom l r s (not-true _ f)))
+      (λ f. when-both GoodCollected (not (hasVarDep r)) _ _
+      (λ g. good-masked k c (collectTerms w c l) l r (below-l c hc) (left-atom l r s (not-false _ f)))
+      (λ g. good-atom c (Binary k l r) hc (sides-atom k l r low high s))))
+
+  kept-two : (k : ℕ) (l r : Tree) → isExpr (Binary k l r) ≡ true → Kept l → Kept r → Kept (Binary k l r)
+  unfolding Kept collectTerms
+  kept-two k l r e below-l below-r c hc =
+      let b = binary-of-expr k l r e in
+      none-when c _
+      (when-both GoodCollected (not (hasVarDep l || hasVarDep r)) _ _ (λ h. good-constant c (Binary k l r))
+      (λ h. when-both GoodCollected (eqb k 2) _ _ (λ n. good-join _ _ (below-l c hc) (below-r c hc))
+      (λ n. when-both GoodCollected (eqb k 3) _ _
+      (λ m. when-both GoodCollected (not (hasVarDep l)) _ _
+      (λ f. below-r (modMul c (value w [] l) w) (mod-mul-lt c (value w [] l) w hw))
+      (λ f. when-both GoodCollected (not (hasVarDep r)) _ _
+      (λ g. below-l (modMul c (value w [] r) w) (mod-mul-lt c (value w [] r) w hw)) (λ g. good-nonlinear)))
+      (λ m. when-both GoodCollected (hasArith l || hasArith r) _ _ (λ p. good-nonlinear)
+      (λ p. kept-bitwise k l r c hc (four k (b .low) (eqb-false k 2 n) (eqb-false k 3 m)) (b .high)
+      (sides l r (b .child-l) (b .child-r) (not-false _ h) p) below-l below-r)))))
+
+  -- what is collected of an expression is good
+  pub collect-good : (t : Tree) → isExpr t ≡ true → (c : ℕ) → c < 2 ^ w → GoodCollected (collectTerms w c t)
+  unfolding Kept collectTerms hasKind hasArith
+  collect-good (Constant u) e c hc = none-when c _ (good-constant c (Constant u))
+  collect-good (Variable i) e c hc =
+      none-when c _ (good-atom c (Variable i) hc (record { expr = e; variable = refl; plain = refl }))
+  collect-good (Unary k a t) e c hc = kept-one k a t e (collect-good t (unary-of-expr k a t e .child)) c hc
+  collect-good (Binary k l r) e c hc =
+      let b = binary-of-expr k l r e in
+      kept-two k l r e (collect-good l (b .child-l)) (collect-good r (b .child-r)) c hc

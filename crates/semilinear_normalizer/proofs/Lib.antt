@@ -1,3 +1,12 @@
 -- The laws of the definitions, for the crates above.
+pub mod RootLaws
 pub mod CollectLaws
+pub mod AtomLaws
 pub mod EmittedLaws
+pub mod BitOfLaws
+pub mod TruthLaws
+pub mod WordTableLaws
+pub mod RegisterLaws
+pub mod NormalizeLaws
+pub mod RefusedLaws
+mod ExampleLaws

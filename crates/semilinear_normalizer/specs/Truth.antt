@@ -1,15 +1,22 @@
 -- The bit of a bitwise tree at one place, from the bits of its variables there, and the tables made of it (document 01,
 -- "Hint columns"; semilinear.rs 100-161, bit_partitioner.rs 29-90). The Rust's tables for sharing have w bits a row;
--- they are equal exactly when those at place 0 are.
+-- they are equal exactly when those at place 0 are (proofs/WordTableLaws.antt).
 use Prim.Native.Nat.{ℕ, zero, suc, _+_, _-_, _*_, _^_, min, max}
 use mathlib.Core.List.{List, [], _∷_}
-use mathlib.Core.Bool.{Bool, true, false, _&&_, _||_}
+use mathlib.Core.Bool.{Bool, false, not, _&&_, _||_}
 use lib.Dec.{eqb}
 use lib.Bits.{differ}
 use Rattle.arith.specs.Bit.{bitAt}
 use Rattle.record.specs.Choice.{when}
 use Rattle.record.specs.Tree.{Tree}
 use Rattle.record.specs.Tree.Tree.{Constant, Variable, Unary, Binary}
+
+-- a shift by an amount other than 0 occurs
+unfoldable pub hasShift : Tree → Bool
+hasShift (Constant v) = false
+hasShift (Variable i) = false
+hasShift (Unary k a t) = (eqb k 9 && not (eqb a 0)) || hasShift t
+hasShift (Binary k l r) = hasShift l || hasShift r
 
 -- And, Or and Xor of two bits
 unfoldable pub bitBinary : ℕ → ℕ → ℕ → ℕ
@@ -26,6 +33,11 @@ bitOf p b (Binary k l r) = bitBinary k (bitOf p b l) (bitOf p b r)
 unfoldable pub rowBits : ℕ → List ℕ → ℕ → ℕ → ℕ
 rowBits place [] i v = 0
 rowBits place (x ∷ l) i v = when (eqb x v) (λ _. bitAt i place) (λ _. rowBits (place + 1) l i v)
+
+-- the number of the assignment that gives the variables of the list the bits b: bit j is that of the j-th variable
+unfoldable pub rowOf : (ℕ → ℕ) → List ℕ → ℕ
+rowOf b [] = 0
+rowOf b (x ∷ l) = b x + 2 * rowOf b l
 
 -- the n low rows of the tree's table at place p over the variables vs: bit i is the tree's bit under assignment i
 unfoldable pub tableF : ℕ → ℕ → List ℕ → Tree → ℕ

@@ -1,15 +1,30 @@
-// The functions under test, each run on an entry's words and expression.
+// The functions under test, each run on an entry's words and bytes.
 pub struct Answer {
     pub refusal: u64,
     pub value: u64,
 }
 
-// The refusal of an entry whose words are not those of its type. No entry expects it.
+// The refusal of an entry whose words or lengths are not those of its type. No entry expects it.
 const MALFORMED: u64 = 256;
 
+// The refusal of an entry of type 7 with other result bytes than expected. No entry expects it.
+const OTHER_BYTES: u64 = 257;
+
+// What stands in a result before a call, so that one which is not written shows.
+const UNWRITTEN: u64 = 0xBAD0_BAD0_BAD0_BAD0;
+
+const UNWRITTEN_BYTE: u8 = 0xBA;
+
+fn malformed() -> Answer {
+    Answer {
+        refusal: MALFORMED,
+        value: 0,
+    }
+}
+
 // Type 1.
-fn value(expr: &[u8], words: &[u64]) -> Answer {
-    let mut value = 0;
+fn expr_value(expr: &[u8], words: &[u64]) -> Answer {
+    let mut value = UNWRITTEN;
     let refusal = hogzelt::hogzelt_expr_value(expr, words, &mut value);
     Answer { refusal, value }
 }
@@ -37,25 +52,114 @@ fn mask(kind: u8, a: u64, b: u64, c: u64, w: u32) -> u64 {
 
 // Types 3 to 5, which have four words, the last of them a 32-bit width.
 fn masks(kind: u8, words: &[u64]) -> Answer {
-    let malformed = Answer {
-        refusal: MALFORMED,
-        value: 0,
-    };
     if words.len() != 4 {
-        return malformed;
+        return malformed();
     }
     if 0xFFFF_FFFF < words[3] {
-        return malformed;
+        return malformed();
     }
     let value = mask(kind, words[0], words[1], words[2], words[3] as u32);
     Answer { refusal: 0, value }
 }
 
-// What the function of a type gives.
-pub fn answer_of(kind: u8, expr: &[u8], words: &[u64]) -> Answer {
+// Type 6.
+fn form_value(form: &[u8], words: &[u64]) -> Answer {
+    let mut value = UNWRITTEN;
+    let refusal = hogzelt::hogzelt_semilinear_value(form, words, &mut value);
+    Answer { refusal, value }
+}
+
+fn fill(out: &mut [u8]) {
+    let mut i = 0;
+    while i < out.len() {
+        out[i] = UNWRITTEN_BYTE;
+        i += 1;
+    }
+}
+
+fn all_zero(out: &[u8]) -> bool {
+    let mut i = 0;
+    while i < out.len() {
+        if out[i] != 0 {
+            return false;
+        }
+        i += 1;
+    }
+    true
+}
+
+// Whether out is the bytes of wanted and zeros behind them.
+fn is_padded(out: &[u8], wanted: &[u8]) -> bool {
+    let n = wanted.len();
+    if out.len() < n {
+        return false;
+    }
+    if !record::same_bytes(&out[..n], wanted) {
+        return false;
+    }
+    all_zero(&out[n..])
+}
+
+// Whether every byte of the result slice is right: on refusal all of them are zero.
+fn result_ok(refusal: u64, out: &[u8], wanted: &[u8]) -> bool {
+    if refusal != 0 {
+        return all_zero(out);
+    }
+    is_padded(out, wanted)
+}
+
+// The used length in the low half, the count of terms in the high half. Where one is too long for
+// its half, the answer is a number that no entry expects.
+fn packed(used: u64, terms: u64) -> u64 {
+    if 0xFFFF_FFFF < used {
+        return UNWRITTEN;
+    }
+    if 0xFFFF_FFFF < terms {
+        return UNWRITTEN;
+    }
+    (terms << 32) | used
+}
+
+// Type 7, over the result slice out: the refusal and the numbers found.
+fn compact(form: &[u8], wanted: &[u8], out: &mut [u8]) -> Answer {
+    fill(out);
+    let mut used = UNWRITTEN;
+    let mut terms = UNWRITTEN;
+    let refusal = hogzelt::hogzelt_compact_atom_table(form, out, &mut used, &mut terms);
+    let value = packed(used, terms);
+    if !result_ok(refusal, out, wanted) {
+        return Answer {
+            refusal: OTHER_BYTES,
+            value,
+        };
+    }
+    Answer { refusal, value }
+}
+
+// Type 7, which has one word, the length of the result slice: the last `used` bytes are the expected
+// result, those before them the form.
+fn compaction(bytes: &[u8], words: &[u64], used: usize, out: &mut [u8]) -> Answer {
+    if words.len() != 1 {
+        return malformed();
+    }
+    let length = words[0] as usize;
+    if out.len() < length {
+        return malformed();
+    }
+    if bytes.len() < used {
+        return malformed();
+    }
+    let n = bytes.len() - used;
+    compact(&bytes[..n], &bytes[n..], &mut out[..length])
+}
+
+// What the function of a type gives. `value` is the expected value, `out` room for a result slice.
+pub fn answer_of(kind: u8, value: u64, bytes: &[u8], words: &[u64], out: &mut [u8]) -> Answer {
     match kind {
-        1 => value(expr, words),
-        2 => hash(expr),
+        1 => expr_value(bytes, words),
+        2 => hash(bytes),
+        6 => form_value(bytes, words),
+        7 => compaction(bytes, words, (value % 0x1_0000_0000) as usize, out),
         _ => masks(kind, words),
     }
 }

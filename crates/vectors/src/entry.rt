@@ -6,19 +6,12 @@ use crate::answer;
 use crate::answer::Answer;
 use crate::report;
 
-// The head of an entry: its type, how many words and expression bytes follow, what is expected.
+// The head of an entry: its type, how many words and bytes follow, what is expected.
 pub struct Head {
     pub kind: u8,
     pub words: u16,
     pub size: u32,
     pub expected: Answer,
-}
-
-// Room for the longest payload.
-fn payload_buffer() -> [u8; 18448]
-    ensures { λ r. ⌜ 18448 ≡ length r ⌝ }
-{
-    [0; 18448]
 }
 
 // Room for the most words.
@@ -64,8 +57,8 @@ fn read_words(bytes: &[u8], words: &mut [u64], count: usize)
     }
 }
 
-// What the function under test gives for an entry whose words and expression stand in bytes.
-fn run(head: Head, bytes: &[u8]) -> Answer
+// What the function under test gives for an entry whose words and bytes stand in bytes.
+fn run(head: Head, bytes: &[u8], out: &mut [u8]) -> Answer
     requires { ⌜ (head .words ≤ 256) × (8 * head .words + head .size ≤ length (now bytes)) ⌝ }
 {
     let mut words = word_buffer();
@@ -73,20 +66,27 @@ fn run(head: Head, bytes: &[u8]) -> Answer
     let start = 8 * count;
     let stop = start + head.size as usize;
     read_words(bytes, &mut words, count);
-    answer::answer_of(head.kind, &bytes[start..stop], &words[..count])
+    let expected = head.expected;
+    answer::answer_of(
+        head.kind,
+        expected.value,
+        &bytes[start..stop],
+        &words[..count],
+        out,
+    )
 }
 
 // One more in the count of a type. It does not wrap, since the number of entries is bounded.
-fn count(counts: &mut [u64; 6], kind: u8)
-    requires { ⌜ kind < 6 ⌝ }
+fn count(counts: &mut [u64; 8], kind: u8)
+    requires { ⌜ kind < 8 ⌝ }
 {
     let k = kind as usize;
     counts[k] = std::num::wrapping_add_u64(counts[k], 1);
 }
 
 // Counts a difference; the first five of a type are printed.
-fn differ(at: u64, head: Head, found: Answer, differences: &mut [u64; 6])
-    requires { ⌜ head .kind < 6 ⌝ }
+fn differ(at: u64, head: Head, found: Answer, differences: &mut [u64; 8])
+    requires { ⌜ head .kind < 8 ⌝ }
 {
     let k = head.kind as usize;
     if differences[k] < 5 {
@@ -96,8 +96,8 @@ fn differ(at: u64, head: Head, found: Answer, differences: &mut [u64; 6])
 }
 
 // Counts an entry, and compares what was found with what is expected.
-fn compare(at: u64, head: Head, found: Answer, entries: &mut [u64; 6], differences: &mut [u64; 6])
-    requires { ⌜ head .kind < 6 ⌝ }
+fn compare(at: u64, head: Head, found: Answer, entries: &mut [u64; 8], differences: &mut [u64; 8])
+    requires { ⌜ head .kind < 8 ⌝ }
 {
     count(entries, head.kind);
     let expected = head.expected;
@@ -111,25 +111,31 @@ fn compare(at: u64, head: Head, found: Answer, entries: &mut [u64; 6], differenc
 }
 
 // Reads the rest of an entry, runs and compares it; false where it is not whole.
-fn body(at: u64, head: Head, entries: &mut [u64; 6], differences: &mut [u64; 6]) -> bool
-    requires { ⌜ head .kind < 6 ⌝ }
+fn body(
+    at: u64,
+    head: Head,
+    bytes: &mut [u8; 116784],
+    out: &mut [u8; 57376],
+    entries: &mut [u64; 8],
+    differences: &mut [u64; 8],
+) -> bool
+    requires { ⌜ head .kind < 8 ⌝ }
 {
     if 256 < head.words {
         report::malformed(at, b"too many words");
         return false;
     }
-    if 16400 < head.size {
-        report::malformed(at, b"the expression is too long");
+    if 114736 < head.size {
+        report::malformed(at, b"too many bytes");
         return false;
     }
-    let mut bytes = payload_buffer();
     let payload = 8 * (head.words as usize) + head.size as usize;
     let padded = (payload + 15) / 16 * 16;
-    if !read_payload(&mut bytes, padded) {
+    if !read_payload(bytes, padded) {
         report::malformed(at, b"the file ends in an entry");
         return false;
     }
-    compare(at, head, run(head, &bytes), entries, differences);
+    compare(at, head, run(head, bytes, out), entries, differences);
     true
 }
 
@@ -146,21 +152,27 @@ fn end(at: u64, value: u64) {
 }
 
 // Replays the entry with the number at; false after the end entry and on a malformed file.
-pub fn step(at: u64, entries: &mut [u64; 6], differences: &mut [u64; 6]) -> bool {
-    let mut bytes = [0u8; 16];
-    if io::read_full(0, &mut bytes) != 16 {
+pub fn step(
+    at: u64,
+    bytes: &mut [u8; 116784],
+    out: &mut [u8; 57376],
+    entries: &mut [u64; 8],
+    differences: &mut [u64; 8],
+) -> bool {
+    let mut front = [0u8; 16];
+    if io::read_full(0, &mut front) != 16 {
         report::malformed(at, b"the file ends without an end entry");
         return false;
     }
-    let head = read_head(&bytes);
+    let head = read_head(&front);
     if head.kind == 0 {
         let expected = head.expected;
         end(at, expected.value);
         return false;
     }
-    if 5 < head.kind {
+    if 7 < head.kind {
         report::malformed(at, b"unknown type");
         return false;
     }
-    body(at, head, entries, differences)
+    body(at, head, bytes, out, entries, differences)
 }

@@ -8,10 +8,15 @@ mod report;
 const MOST_ENTRIES: u64 = 1_000_000;
 
 // Replays entries up to the end entry, or to the first thing that is no entry.
-fn replay(entries: &mut [u64; 6], differences: &mut [u64; 6]) {
+fn replay(
+    bytes: &mut [u8; 116784],
+    out: &mut [u8; 57376],
+    entries: &mut [u64; 8],
+    differences: &mut [u64; 8],
+) {
     let mut at = 0;
     while at < MOST_ENTRIES {
-        if !entry::step(at, entries, differences) {
+        if !entry::step(at, bytes, out, entries, differences) {
             return;
         }
         at += 1;
@@ -20,17 +25,20 @@ fn replay(entries: &mut [u64; 6], differences: &mut [u64; 6]) {
 }
 
 // A line for each type.
-fn summary(entries: &[u64; 6], differences: &[u64; 6]) {
+fn summary(entries: &[u64; 8], differences: &[u64; 8]) {
     let mut kind = 1;
-    while kind < 6 {
+    while kind < 8 {
         report::summary(kind, entries[kind], differences[kind]);
         kind += 1;
     }
 }
 
+// Room for the longest payload and for the longest result slice is lent to every entry.
 fn main() {
-    let mut entries = [0u64; 6];
-    let mut differences = [0u64; 6];
-    replay(&mut entries, &mut differences);
+    let mut bytes = [0u8; 116784];
+    let mut out = [0u8; 57376];
+    let mut entries = [0u64; 8];
+    let mut differences = [0u64; 8];
+    replay(&mut bytes, &mut out, &mut entries, &mut differences);
     summary(&entries, &differences);
 }

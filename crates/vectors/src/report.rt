@@ -45,7 +45,9 @@ fn name(kind: usize) {
         2 => text(b"structural hash"),
         3 => text(b"reduce_mask"),
         4 => text(b"can_change_mask_to"),
-        _ => text(b"can_change_coefficient_to"),
+        5 => text(b"can_change_coefficient_to"),
+        6 => text(b"semilinear value"),
+        _ => text(b"compact_atom_table"),
     }
 }
 

@@ -1,14 +1,15 @@
-//! All cases of the vector file: the hand-chosen expression files, random and damaged ones, hashes
-//! and calls of the mask functions.
+//! All cases of the vector file: the hand-chosen expression files, random and damaged ones, hashes,
+//! calls of the mask functions, and semilinear forms.
 
 use crate::entry::{self, Entry, CHANGE_COEFFICIENT, CHANGE_MASK, REDUCE_MASK};
+use crate::form::{Form, RESULT_BYTES};
 use crate::prng::Prng;
 use crate::random::{self, Kinds};
 use crate::record::{
     self, balanced, binary, literal, nested, smallest, unary, variable, ADD, MAX_RECORDS, NEG, SHR,
     XOR,
 };
-use crate::{edges, masks};
+use crate::{edges, form_edges, form_limits, form_random, masks, published};
 
 /// The seed of the vector file: the letters of "hogzelt".
 pub const SEED: u64 = 0x0068_6F67_7A65_6C74;
@@ -18,6 +19,9 @@ const RANDOM_ALL_KINDS: usize = 200;
 const DAMAGED_TREES: usize = 400;
 const RANDOM_HASHES: usize = 300;
 const RANDOM_MASKS: usize = 300;
+const RANDOM_FORMS: usize = 30;
+const NORMALISED_FORMS: usize = 20;
+const DAMAGED_FORMS: usize = 150;
 
 /// All entries of the vector file, in order.
 pub fn entries() -> Vec<Entry> {
@@ -37,7 +41,57 @@ pub fn entries() -> Vec<Entry> {
             all.push(entry::mask(kind, call.numbers, call.w));
         }
     }
+    all.extend(form_edges::entries());
+    all.extend(form_limits::entries(rng));
+    all.extend(random_forms(rng));
     all
+}
+
+/// Random forms, forms that the Rust's normaliser makes, and damaged ones, for both functions.
+fn random_forms(rng: &mut Prng) -> Vec<Entry> {
+    let mut all = Vec::new();
+    let mut push = |rng: &mut Prng, form: &Form, bytes: Vec<u8>| {
+        all.push(form_value(rng, form, bytes.clone()));
+        all.push(entry::compact(bytes, RESULT_BYTES));
+    };
+    for _ in 0..RANDOM_FORMS {
+        let form = random_form(rng, 40);
+        push(rng, &form, form.bytes());
+    }
+    for _ in 0..NORMALISED_FORMS {
+        let form = normalised_form(rng);
+        push(rng, &form, form.bytes());
+    }
+    for _ in 0..DAMAGED_FORMS {
+        let form = random_form(rng, 4);
+        let bytes = form_random::damaged(rng, &form);
+        push(rng, &form, bytes);
+    }
+    all
+}
+
+/// The form that the Rust's normaliser makes of a random expression which it takes.
+pub fn normalised_form(rng: &mut Prng) -> Form {
+    loop {
+        let w = random::width(rng);
+        let count = 8 + rng.below(24);
+        let records = random::expression(rng, count, w, Kinds::Accepted);
+        if let Some(form) = published::normalized(&records) {
+            return form;
+        }
+    }
+}
+
+/// A random valid form of 1 to `most` atoms.
+pub fn random_form(rng: &mut Prng, most: usize) -> Form {
+    let w = random::width(rng);
+    let atoms = 1 + rng.below(most);
+    form_random::form(rng, atoms, 8, w)
+}
+
+/// The value of `bytes`, which come from `form`, under a random assignment.
+pub fn form_value(rng: &mut Prng, form: &Form, bytes: Vec<u8>) -> Entry {
+    entry::form_value(bytes, random::assignment(rng, form.width))
 }
 
 /// A random expression of 1 to 40 records under a random assignment.

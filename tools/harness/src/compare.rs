@@ -1,15 +1,22 @@
-//! The static library beside the model (values and refusals) and the published Rust (masks): first
-//! on the cases of the vector file, then on random ones. Stops at the first difference.
+//! The static library beside the models (values and refusals) and the published Rust (masks and
+//! compaction): first on the cases of the vector file, then on random ones. Stops at the first
+//! difference.
 
 use crate::cases::{self, SEED};
-use crate::entry::{self, Entry, CHANGE_COEFFICIENT, CHANGE_MASK, REDUCE_MASK, TYPE_NAMES, VALUE};
+use crate::entry::{
+    self, Entry, CHANGE_COEFFICIENT, CHANGE_MASK, COMPACT, FORM_VALUE, REDUCE_MASK, TYPE_NAMES,
+    VALUE,
+};
+use crate::form::RESULT_BYTES;
+use crate::form_model::Written;
 use crate::model::Answer;
 use crate::prng::Prng;
-use crate::random::Kinds;
-use crate::{library, masks};
+use crate::random::{self, Kinds};
+use crate::{form_random, library, masks};
 
 /// Random inputs for each function, beside the cases of the vector file.
 const RANDOM_INPUTS: usize = 250_000;
+const RANDOM_FORMS: usize = 125_000;
 
 pub fn run() -> Result<(), String> {
     // another seed than the vector file's, so that the random inputs are new ones
@@ -19,14 +26,38 @@ pub fn run() -> Result<(), String> {
     for kind in [REDUCE_MASK, CHANGE_MASK, CHANGE_COEFFICIENT] {
         compare_masks(rng, &edges, kind)?;
     }
-    Ok(())
+    compare_form_values(rng, &edges)?;
+    compare_compactions(rng, &edges)
+}
+
+/// How many inputs had which refusal.
+#[derive(Default)]
+struct Counts([usize; 11]);
+
+impl Counts {
+    fn add(&mut self, refusal: u64) {
+        self.0[refusal as usize] += 1;
+    }
+
+    /// The line of a function without differences.
+    fn show(&self, function: &str, refusals: &[usize]) {
+        let refused: Vec<String> = refusals
+            .iter()
+            .map(|&refusal| format!("{} refused by {refusal}", self.0[refusal]))
+            .collect();
+        println!(
+            "{function}: {} inputs ({} accepted, {}), 0 differences",
+            self.0.iter().sum::<usize>(),
+            self.0[0],
+            refused.join(", ")
+        );
+    }
 }
 
 fn compare_values(rng: &mut Prng, edges: &[Entry]) -> Result<(), String> {
-    let mut counts = [0usize; 7];
+    let mut counts = Counts::default();
     for entry in edges.iter().filter(|entry| entry.kind == VALUE) {
-        check_value(entry)?;
-        counts[usize::from(entry.refusal)] += 1;
+        counts.add(check_value(entry)?);
     }
     for i in 0..RANDOM_INPUTS {
         let entry = match i % 5 {
@@ -34,36 +65,33 @@ fn compare_values(rng: &mut Prng, edges: &[Entry]) -> Result<(), String> {
             3 => cases::random_value(rng, Kinds::All),
             _ => cases::damaged_value(rng),
         };
-        check_value(&entry)?;
-        counts[usize::from(entry.refusal)] += 1;
+        counts.add(check_value(&entry)?);
     }
-    let outcomes: Vec<String> = [1, 3, 4, 5, 6]
-        .iter()
-        .map(|&refusal| format!("{} refused by {refusal}", counts[refusal]))
-        .collect();
-    println!(
-        "hogzelt_expr_value: {} inputs ({} accepted, {}), 0 differences",
-        counts.iter().sum::<usize>(),
-        counts[0],
-        outcomes.join(", ")
-    );
+    counts.show("hogzelt_expr_value", &[1, 3, 4, 5, 6]);
     Ok(())
 }
 
-fn check_value(entry: &Entry) -> Result<(), String> {
+/// The refusal that both give.
+fn check_value(entry: &Entry) -> Result<u64, String> {
     let wanted = Answer {
         refusal: u64::from(entry.refusal),
         value: entry.expected,
     };
-    let found = library::expr_value(&entry.expr, &entry.words);
+    let (function, found) = match entry.kind {
+        VALUE => ("expr", library::expr_value(&entry.bytes, &entry.words)),
+        _ => (
+            "semilinear",
+            library::semilinear_value(&entry.bytes, &entry.words),
+        ),
+    };
     if found == wanted {
-        return Ok(());
+        return Ok(found.refusal);
     }
     Err(format!(
-        "hogzelt_expr_value differs: wanted {wanted:x?}, found {found:x?}\n\
-         words {:x?}\nexpression {}",
+        "hogzelt_{function}_value differs: wanted {wanted:x?}, found {found:x?}\n\
+         words {:x?}\nbytes {}",
         entry.words,
-        hex(&entry.expr)
+        hex(&entry.bytes)
     ))
 }
 
@@ -105,5 +133,90 @@ fn check_mask(kind: u8, numbers: [u64; 3], w: u32) -> Result<u64, String> {
     Err(format!(
         "hogzelt_{} differs: wanted {wanted:x}, found {found:x}\nnumbers {numbers:x?}, width {w}",
         TYPE_NAMES[usize::from(kind)]
+    ))
+}
+
+/// Random bytes: valid forms of a few and of many atoms, forms that the Rust's normaliser makes, and
+/// damaged ones.
+fn form_bytes(rng: &mut Prng, number: usize) -> Vec<u8> {
+    if number.is_multiple_of(1000) {
+        let w = random::width(rng);
+        return form_random::full(rng, w).bytes();
+    }
+    match number % 8 {
+        0..=2 => cases::random_form(rng, 12).bytes(),
+        3 => cases::random_form(rng, 40).bytes(),
+        4 => cases::normalised_form(rng).bytes(),
+        5 => {
+            let form = cases::normalised_form(rng);
+            form_random::damaged(rng, &form)
+        }
+        _ => {
+            let form = cases::random_form(rng, 6);
+            form_random::damaged(rng, &form)
+        }
+    }
+}
+
+fn compare_form_values(rng: &mut Prng, edges: &[Entry]) -> Result<(), String> {
+    let mut counts = Counts::default();
+    for entry in edges.iter().filter(|entry| entry.kind == FORM_VALUE) {
+        counts.add(check_value(entry)?);
+    }
+    for i in 0..RANDOM_FORMS {
+        let bytes = form_bytes(rng, i);
+        let w = bytes.get(4).map_or(8, |w| (*w).clamp(1, 64));
+        let entry = entry::form_value(bytes, random::assignment(rng, w));
+        counts.add(check_value(&entry)?);
+    }
+    counts.show("hogzelt_semilinear_value", &[1, 10]);
+    Ok(())
+}
+
+fn compare_compactions(rng: &mut Prng, edges: &[Entry]) -> Result<(), String> {
+    let mut counts = Counts::default();
+    for entry in edges.iter().filter(|entry| entry.kind == COMPACT) {
+        let used = entry.expected as u32 as usize;
+        let form = &entry.bytes[..entry.bytes.len() - used];
+        counts.add(check_compaction(form, entry.words[0] as usize)?);
+    }
+    for i in 0..RANDOM_FORMS {
+        let bytes = form_bytes(rng, i);
+        let length = match rng.below(64) {
+            0 => rng.pick(&[0, 1, RESULT_BYTES - 16, RESULT_BYTES - 1, RESULT_BYTES + 1]),
+            1 => rng.below(2 * RESULT_BYTES),
+            _ => RESULT_BYTES,
+        };
+        counts.add(check_compaction(&bytes, length)?);
+    }
+    counts.show("hogzelt_compact_atom_table", &[1, 2, 10]);
+    Ok(())
+}
+
+/// The refusal that both give; every byte of the result slice is compared too.
+fn check_compaction(form: &[u8], length: usize) -> Result<u64, String> {
+    let wanted = entry::compact_answer(form, length);
+    let found = library::compact(form, length);
+    if found == wanted {
+        return Ok(found.refusal);
+    }
+    let line = |w: &Written| {
+        let used = w
+            .out
+            .iter()
+            .rposition(|byte| *byte != 0)
+            .map_or(0, |at| at + 1);
+        let (refusal, used_length, terms) = (w.refusal, w.used, w.terms);
+        format!(
+            "refusal {refusal}, used {used_length}, terms {terms}, {used} bytes up to the last \
+             that is not 0: {}",
+            hex(&w.out[..used])
+        )
+    };
+    Err(format!(
+        "hogzelt_compact_atom_table differs at length {length}\nwanted {}\nfound {}\nbytes {}",
+        line(&wanted),
+        line(&found),
+        hex(form)
     ))
 }

@@ -1,8 +1,8 @@
 //! A vector file as text, one block of lines for each entry.
 
-use crate::entry::{Entry, HASH, REDUCE_MASK, TYPE_NAMES, VALUE};
+use crate::entry::{Entry, COMPACT, FORM_VALUE, HASH, REDUCE_MASK, TYPE_NAMES, VALUE};
 use crate::record::{split, RECORD_BYTES};
-use crate::{model, published};
+use crate::{form_model, model, published};
 
 /// The entries `first` to `last`.
 pub fn text(entries: &[Entry], first: usize, last: usize) -> String {
@@ -20,27 +20,61 @@ fn entry_text(number: usize, entry: &Entry) -> String {
         .unwrap_or(&"unknown type");
     let (refusal, expected) = (entry.refusal, entry.expected);
     let words: Vec<String> = entry.words.iter().map(|word| format!("{word:x}")).collect();
-    let expression = if entry.kind == VALUE || entry.kind == HASH {
-        expression_text(&entry.expr)
-    } else {
-        String::new()
+    let bytes = match entry.kind {
+        VALUE | HASH => expression_text(&entry.bytes),
+        FORM_VALUE => form_text("form", &entry.bytes),
+        COMPACT => compact_text(entry),
+        _ => String::new(),
     };
     format!(
         "{number}: {name}, refusal {refusal}, expected {expected:016x}\n\
-         \x20   words: {}\n{expression}",
+         \x20   words: {}\n{bytes}",
         words.join(" ")
     )
 }
 
+/// The form and, behind it, the expected result.
+fn compact_text(entry: &Entry) -> String {
+    let used = entry.expected as u32 as usize;
+    let (form, result) = entry.bytes.split_at(entry.bytes.len().saturating_sub(used));
+    let result = match used {
+        0 => String::new(),
+        _ => form_text("result", result),
+    };
+    form_text("form", form) + &result
+}
+
+/// Atoms and terms where the bytes are a valid form, else the bytes, a record to a line.
+fn form_text(name: &str, bytes: &[u8]) -> String {
+    let mut text = format!("    {name}: {} bytes\n", bytes.len());
+    let Ok(form) = form_model::read(bytes) else {
+        return text + &lines(bytes);
+    };
+    text += &format!("    width {}, constant {:x}\n", form.width, form.constant);
+    for (number, atom) in form.atoms.iter().enumerate() {
+        let infix = published::text(&atom.tree);
+        text += &format!("    #{number}, provenance {}: {infix}\n", atom.provenance);
+    }
+    for term in &form.terms {
+        text += &format!("    {:x} * #{}\n", term.coeff, term.atom);
+    }
+    text
+}
+
 /// Infix text where the file is well formed, else its bytes, a record to a line.
 fn expression_text(file: &[u8]) -> String {
-    let mut text = format!("    expression: {} bytes\n", file.len());
+    let text = format!("    expression: {} bytes\n", file.len());
     let whole = !file.is_empty() && file.len().is_multiple_of(RECORD_BYTES);
     if whole && model::well_formed(&split(file)) {
         let infix = published::text(&split(file));
         return text + &format!("    width {}: {infix}\n", file[4]);
     }
-    for line in file.chunks(RECORD_BYTES) {
+    text + &lines(file)
+}
+
+fn lines(bytes: &[u8]) -> String {
+    let mut text = String::new();
+    for line in bytes.chunks(RECORD_BYTES) {
         let digits: Vec<String> = line.iter().map(|byte| format!("{byte:02x}")).collect();
         text += &format!("    {}\n", digits.join(" "));
     }
@@ -66,6 +100,8 @@ fn outcomes(kind: u8) -> Vec<&'static str> {
     match kind {
         VALUE => [0, 1, 3, 4, 5, 6].map(refusal_name).to_vec(),
         HASH => vec!["hash"],
+        FORM_VALUE => [0, 1, 10].map(refusal_name).to_vec(),
+        COMPACT => [0, 1, 2, 10].map(refusal_name).to_vec(),
         REDUCE_MASK => vec!["mask 0", "another mask"],
         _ => vec!["false", "true"],
     }
@@ -73,7 +109,7 @@ fn outcomes(kind: u8) -> Vec<&'static str> {
 
 fn outcome(entry: &Entry) -> &'static str {
     match (entry.kind, entry.expected) {
-        (VALUE, _) => refusal_name(entry.refusal),
+        (VALUE | FORM_VALUE | COMPACT, _) => refusal_name(entry.refusal),
         (HASH, _) => "hash",
         (REDUCE_MASK, 0) => "mask 0",
         (REDUCE_MASK, _) => "another mask",
@@ -86,10 +122,12 @@ fn refusal_name(refusal: u8) -> &'static str {
     match refusal {
         0 => "accepted",
         1 => "refusal 1",
+        2 => "refusal 2",
         3 => "refusal 3",
         4 => "refusal 4",
         5 => "refusal 5",
         6 => "refusal 6",
+        10 => "refusal 10",
         _ => "another refusal",
     }
 }

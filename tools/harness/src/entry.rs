@@ -1,11 +1,14 @@
-//! The vector file (docs/VECTORS.md): entries of a 16-byte head, words, expression bytes and zero
-//! padding to a multiple of 16 bytes, all numbers little-endian; an end entry closes the file.
+//! The vector file (docs/VECTORS.md): entries of a 16-byte head, words, bytes and zero padding to a
+//! multiple of 16 bytes, all numbers little-endian; an end entry closes the file.
 
-use crate::{model, published, record};
+use crate::form_model::{self, Written};
+use crate::record::RECORD_BYTES;
+use crate::{form, model, published, record};
 
 pub const HEAD_BYTES: usize = 16;
 pub const MAX_WORDS: usize = 256;
-pub const MAX_EXPR_BYTES: usize = 16_400;
+/// A form of one record more than there may be, and a whole result slice.
+pub const MAX_BYTES: usize = 2 * form::RESULT_BYTES + RECORD_BYTES;
 
 pub const END: u8 = 0;
 pub const VALUE: u8 = 1;
@@ -13,15 +16,19 @@ pub const HASH: u8 = 2;
 pub const REDUCE_MASK: u8 = 3;
 pub const CHANGE_MASK: u8 = 4;
 pub const CHANGE_COEFFICIENT: u8 = 5;
+pub const FORM_VALUE: u8 = 6;
+pub const COMPACT: u8 = 7;
 
 /// The names of the entry types, by number.
-pub const TYPE_NAMES: [&str; 6] = [
+pub const TYPE_NAMES: [&str; 8] = [
     "end",
     "expression value",
     "structural hash",
     "reduce_mask",
     "can_change_mask_to",
     "can_change_coefficient_to",
+    "semilinear value",
+    "compact_atom_table",
 ];
 
 #[derive(Clone, Debug, PartialEq, Eq)]
@@ -30,7 +37,8 @@ pub struct Entry {
     pub refusal: u8,
     pub expected: u64,
     pub words: Vec<u64>,
-    pub expr: Vec<u8>,
+    /// the expression or the form; in type 7 the used part of the result stands behind it
+    pub bytes: Vec<u8>,
 }
 
 /// An entry whose expected refusal and value are the model's.
@@ -41,7 +49,7 @@ pub fn value(expr: Vec<u8>, words: Vec<u64>) -> Entry {
         refusal: answer.refusal as u8,
         expected: answer.value,
         words,
-        expr,
+        bytes: expr,
     }
 }
 
@@ -58,7 +66,7 @@ pub fn hash(records: &[record::Record]) -> Entry {
         refusal: 0,
         expected: published::hash(records),
         words: Vec::new(),
-        expr,
+        bytes: expr,
     }
 }
 
@@ -69,7 +77,7 @@ pub fn mask(kind: u8, numbers: [u64; 3], w: u32) -> Entry {
         refusal: 0,
         expected: mask_answer(kind, numbers, w),
         words: vec![numbers[0], numbers[1], numbers[2], u64::from(w)],
-        expr: Vec::new(),
+        bytes: Vec::new(),
     }
 }
 
@@ -83,6 +91,42 @@ pub fn mask_answer(kind: u8, [a, b, c]: [u64; 3], w: u32) -> u64 {
     }
 }
 
+/// An entry whose expected refusal and value of a form are the model's.
+pub fn form_value(bytes: Vec<u8>, words: Vec<u64>) -> Entry {
+    let answer = form_model::answer(&bytes, &words);
+    Entry {
+        kind: FORM_VALUE,
+        refusal: answer.refusal as u8,
+        expected: answer.value,
+        words,
+        bytes,
+    }
+}
+
+/// An entry of compaction into a result slice of `length` bytes. Model and Rust must agree.
+pub fn compact(mut bytes: Vec<u8>, length: usize) -> Entry {
+    let written = compact_answer(&bytes, length);
+    bytes.extend(&written.out[..written.used as usize]);
+    Entry {
+        kind: COMPACT,
+        refusal: written.refusal as u8,
+        expected: written.terms << 32 | written.used,
+        words: vec![length as u64],
+        bytes,
+    }
+}
+
+/// What compaction gives: refusals are the model's, an accepted form's bytes also the Rust's.
+pub fn compact_answer(bytes: &[u8], length: usize) -> Written {
+    let written = form_model::compact(bytes, length);
+    if written.refusal == 0 {
+        let form = form_model::read(bytes).expect("an accepted form");
+        let rust = form_model::written(&published::compacted(&form));
+        assert_eq!(written, rust, "the model compacts as the Rust does");
+    }
+    written
+}
+
 /// The bytes of a vector file.
 pub fn write(entries: &[Entry]) -> Vec<u8> {
     let mut out = Vec::new();
@@ -94,23 +138,23 @@ pub fn write(entries: &[Entry]) -> Vec<u8> {
         refusal: 0,
         expected: entries.len() as u64,
         words: Vec::new(),
-        expr: Vec::new(),
+        bytes: Vec::new(),
     };
     write_entry(&mut out, &end);
     out
 }
 
 fn write_entry(out: &mut Vec<u8>, entry: &Entry) {
-    assert!(entry.words.len() <= MAX_WORDS && entry.expr.len() <= MAX_EXPR_BYTES);
+    assert!(entry.words.len() <= MAX_WORDS && entry.bytes.len() <= MAX_BYTES);
     out.push(entry.kind);
     out.push(entry.refusal);
     out.extend((entry.words.len() as u16).to_le_bytes());
-    out.extend((entry.expr.len() as u32).to_le_bytes());
+    out.extend((entry.bytes.len() as u32).to_le_bytes());
     out.extend(entry.expected.to_le_bytes());
     for word in &entry.words {
         out.extend(word.to_le_bytes());
     }
-    out.extend(&entry.expr);
+    out.extend(&entry.bytes);
     out.resize(out.len().next_multiple_of(HEAD_BYTES), 0);
 }
 
@@ -151,20 +195,20 @@ fn check_end(
 fn read_entry(file: &[u8], at: usize) -> Option<(Entry, usize)> {
     let head = file.get(at..at + HEAD_BYTES)?;
     let word_count = usize::from(u16::from_le_bytes(head[2..4].try_into().ok()?));
-    let expr_len = u32::from_le_bytes(head[4..8].try_into().ok()?) as usize;
+    let length = u32::from_le_bytes(head[4..8].try_into().ok()?) as usize;
     let words_at = at + HEAD_BYTES;
-    let expr_at = words_at + 8 * word_count;
-    let next = (expr_at + expr_len).next_multiple_of(HEAD_BYTES);
+    let bytes_at = words_at + 8 * word_count;
+    let next = (bytes_at + length).next_multiple_of(HEAD_BYTES);
     let payload = file.get(..next)?;
     let entry = Entry {
         kind: head[0],
         refusal: head[1],
         expected: u64::from_le_bytes(head[8..16].try_into().ok()?),
-        words: payload[words_at..expr_at]
+        words: payload[words_at..bytes_at]
             .chunks_exact(8)
             .map(|b| u64::from_le_bytes(b.try_into().expect("eight bytes")))
             .collect(),
-        expr: payload[expr_at..expr_at + expr_len].to_vec(),
+        bytes: payload[bytes_at..bytes_at + length].to_vec(),
     };
     Some((entry, next))
 }

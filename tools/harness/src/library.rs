@@ -12,16 +12,37 @@ mod raw {
         pub fn hogzelt_reduce_mask(coeff: u64, mask: u64, w: u32) -> u64;
         pub fn hogzelt_can_change_mask_to(coeff: u64, old: u64, new: u64, w: u32) -> bool;
         pub fn hogzelt_can_change_coefficient_to(old: u64, new: u64, mask: u64, w: u32) -> bool;
+        pub fn hogzelt_semilinear_value(
+            s: *const u8,
+            s_len: usize,
+            vars: *const u64,
+            vars_len: usize,
+            value: *mut u64,
+        ) -> u64;
+        pub fn hogzelt_compact_atom_table(
+            s: *const u8,
+            s_len: usize,
+            out: *mut u8,
+            out_len: usize,
+            used: *mut u64,
+            terms: *mut u64,
+        ) -> u64;
     }
 }
 
 use crate::entry::{CHANGE_COEFFICIENT, CHANGE_MASK, REDUCE_MASK};
+use crate::form_model::Written;
 use crate::model::Answer;
 
-/// The library's answer for an expression file. The value's place holds another number before the
-/// call, so that a value which is not written shows.
+/// What stands in a result before a call, so that one which is not written shows.
+const UNWRITTEN: u64 = 0xBAD0_BAD0_BAD0_BAD0;
+const UNWRITTEN_BYTE: u8 = 0xBA;
+/// The bytes behind a result slice that a call must leave alone.
+const GUARD_BYTES: usize = 64;
+
+/// The library's answer for an expression file.
 pub fn expr_value(file: &[u8], vars: &[u64]) -> Answer {
-    let mut value = 0xBAD0_BAD0_BAD0_BAD0;
+    let mut value = UNWRITTEN;
     // SAFETY: both slices are valid for their lengths, and `value` lies in neither.
     let refusal = unsafe {
         raw::hogzelt_expr_value(
@@ -46,4 +67,54 @@ pub fn mask_answer(kind: u8, [a, b, c]: [u64; 3], w: u32) -> u64 {
             _ => unreachable!("not a mask function"),
         }
     }
+}
+
+/// The library's value of a form.
+pub fn semilinear_value(form: &[u8], vars: &[u64]) -> Answer {
+    let mut value = UNWRITTEN;
+    // SAFETY: both slices are valid for their lengths, and `value` lies in neither.
+    let refusal = unsafe {
+        raw::hogzelt_semilinear_value(
+            form.as_ptr(),
+            form.len(),
+            vars.as_ptr(),
+            vars.len(),
+            &mut value,
+        )
+    };
+    Answer { refusal, value }
+}
+
+/// The library's compaction of a form into a result slice of `length` bytes.
+pub fn compact(form: &[u8], length: usize) -> Written {
+    let mut out = vec![UNWRITTEN_BYTE; length + GUARD_BYTES];
+    let [refusal, used, terms] = compact_into(form, &mut out[..length]);
+    let guard = out.split_off(length);
+    assert_eq!(
+        guard, [UNWRITTEN_BYTE; GUARD_BYTES],
+        "bytes behind the slice are written"
+    );
+    Written {
+        refusal,
+        used,
+        terms,
+        out,
+    }
+}
+
+/// The library's compaction of a form into `out`: the refusal, the used length, the count of terms.
+pub fn compact_into(form: &[u8], out: &mut [u8]) -> [u64; 3] {
+    let (mut used, mut terms) = (UNWRITTEN, UNWRITTEN);
+    // SAFETY: both slices are valid for their lengths; what is written lies in neither and apart.
+    let refusal = unsafe {
+        raw::hogzelt_compact_atom_table(
+            form.as_ptr(),
+            form.len(),
+            out.as_mut_ptr(),
+            out.len(),
+            &mut used,
+            &mut terms,
+        )
+    };
+    [refusal, used, terms]
 }

@@ -9,9 +9,16 @@ mod compare;
 mod dump;
 mod edges;
 mod entry;
+mod form;
+mod form_edges;
+mod form_limits;
+mod form_model;
+mod form_random;
 #[cfg(feature = "library")]
 mod library;
 mod masks;
+#[cfg(feature = "library")]
+mod measure;
 mod model;
 mod prng;
 mod published;

@@ -80,7 +80,7 @@ fn zeros_hold(record: &Record) -> bool {
 }
 
 /// The value of an accepted expression.
-fn value(records: &[Record], vars: &[u64]) -> u64 {
+pub fn value(records: &[Record], vars: &[u64]) -> u64 {
     let modulus = 1u128 << records[0].width;
     let mut values: Vec<u128> = Vec::new();
     for record in records {

@@ -3,7 +3,8 @@
 use crate::entry::MAX_WORDS;
 use crate::prng::Prng;
 use crate::record::{
-    self, binary, literal, unary, variable, Record, Records, CONCAT, NOT, RECORD_BYTES, SHR, TRUNC,
+    self, binary, literal, unary, variable, Record, Records, AND, CONCAT, NOT, RECORD_BYTES, SHR,
+    TRUNC,
 };
 
 const WIDTHS: [u8; 10] = [1, 2, 7, 8, 16, 31, 32, 33, 63, 64];
@@ -15,6 +16,8 @@ pub enum Kinds {
     Accepted,
     /// all kinds and all shift counts
     All,
+    /// the kinds of an atom: 0, 1, 4 to 7 and 9 with shift counts up to 63
+    Atom,
 }
 
 /// A width from 1 to 64, the edges more often than the rest.
@@ -69,6 +72,7 @@ fn unary_over(rng: &mut Prng, count: usize, w: u8, kinds: Kinds) -> Records {
     let child = expression(rng, count - 1, w, kinds);
     let kind = match kinds {
         Kinds::All if rng.one_in(8) => SHR + 1 + rng.byte() % (TRUNC - SHR),
+        Kinds::Atom => rng.pick(&[NOT, SHR]),
         _ => NOT + rng.byte() % (SHR - NOT + 1),
     };
     let arg = match kind {
@@ -92,6 +96,7 @@ fn shift_count(rng: &mut Prng, w: u8, kinds: Kinds) -> u8 {
 fn binary_kind(rng: &mut Prng, kinds: Kinds) -> u8 {
     match kinds {
         Kinds::All if rng.one_in(16) => CONCAT,
+        Kinds::Atom => AND + rng.byte() % 3,
         _ => record::ADD + rng.byte() % 5,
     }
 }

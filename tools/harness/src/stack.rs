@@ -1,44 +1,57 @@
-//! The stack and the time that `hogzelt_expr_value` takes. The call runs on a thread whose stack is
-//! a buffer filled with a pattern; what it used is the distance from the lowest changed byte to a
-//! local of the caller. A thread that makes no call is measured beside it: what starting a thread
-//! leaves below that local is the least that can be told.
+//! The stack and the time of the exported functions that walk trees, on the shapes that may take the
+//! most of either.
 
-use std::ffi::c_void;
 use std::hint::black_box;
-use std::ptr;
-use std::time::{Duration, Instant};
 
 use crate::cases::SEED;
+use crate::form::{Form, MAX_ATOMS, MAX_TREE_RECORDS, MIXED, RESULT_BYTES};
+use crate::form_model;
+use crate::form_random;
 use crate::library;
-use crate::model::{self, Answer};
+use crate::measure::{stack_used, time_of};
+use crate::model;
 use crate::prng::Prng;
 use crate::random::{self, Kinds};
 use crate::record::{
-    balanced, bytes, left_chain, nested, right_chain, variable, Records, ADD, MAX_RECORDS, NEG,
-    NOT, RECORD_BYTES, SHR,
+    balanced, bytes, left_chain, nested, right_chain, unary, variable, Records, ADD, AND,
+    MAX_RECORDS, NEG, NOT, RECORD_BYTES, SHR,
 };
 
-const STACK_BYTES: usize = 64 << 20;
-const PATTERN: u8 = 0xA5;
-const PAGE_BYTES: usize = 4096;
 const VARS: [u64; 3] = [1, 2, 3];
 
 pub fn run() -> Result<(), String> {
-    println!("stack, no call: {} bytes", stack_used(None)?);
-    let mut most = 0;
-    for (name, file) in shapes() {
-        let used = stack_used(Some(&file))?;
-        let count = file.len() / RECORD_BYTES;
-        println!("stack, {name} (records: {count}): {used} bytes");
-        most = most.max(used);
-    }
+    println!("stack, no call: {} bytes", stack_used(&mut || {})?);
+    let most = expression_stacks()?.max(form_stacks()?);
     println!("stack, most: {most} bytes");
-    times();
+    expression_times();
+    form_times();
     Ok(())
 }
 
+/// Prints what a call used, and gives the most of it and `most`.
+fn show_stack(function: &str, shape: &str, file: &[u8], used: usize, most: usize) -> usize {
+    let records = file.len() / RECORD_BYTES;
+    println!("stack, {function}, {shape} (records: {records}): {used} bytes");
+    most.max(used)
+}
+
+fn expression_stacks() -> Result<usize, String> {
+    let mut most = 0;
+    for (shape, file) in expressions() {
+        let mut answer = None;
+        let used = stack_used(&mut || answer = Some(library::expr_value(&file, &VARS)))?;
+        if answer != Some(model::answer(&file, &VARS)) {
+            return Err(format!(
+                "hogzelt_expr_value differs from the model: {shape}"
+            ));
+        }
+        most = show_stack("hogzelt_expr_value", shape, &file, used, most);
+    }
+    Ok(most)
+}
+
 /// One leaf, and the shapes that may use the most stack, as long as a file may be.
-fn shapes() -> Vec<(&'static str, Vec<u8>)> {
+fn expressions() -> Vec<(&'static str, Vec<u8>)> {
     let leaf = |i: usize| variable(64, i as u8);
     let depth = MAX_RECORDS - 1;
     let chain = |kind: u8| nested(&[kind], depth, leaf(0));
@@ -60,78 +73,62 @@ fn shapes() -> Vec<(&'static str, Vec<u8>)> {
         .collect()
 }
 
-/// A thread's attributes, opaque and large enough for the C library's.
-#[repr(C, align(16))]
-struct Attributes([u64; 16]);
-
-extern "C" {
-    fn pthread_attr_init(attributes: *mut Attributes) -> i32;
-    fn pthread_attr_setstack(attributes: *mut Attributes, start: *mut c_void, size: usize) -> i32;
-    fn pthread_attr_destroy(attributes: *mut Attributes) -> i32;
-    fn pthread_create(
-        thread: *mut usize,
-        attributes: *const Attributes,
-        body: extern "C" fn(*mut c_void) -> *mut c_void,
-        arg: *mut c_void,
-    ) -> i32;
-    fn pthread_join(thread: usize, result: *mut *mut c_void) -> i32;
-}
-
-/// What the measured thread does: the file to evaluate, if any, and the answer; and where the stack
-/// stood before the call.
-struct Task<'a> {
-    file: Option<&'a [u8]>,
-    answer: Option<Answer>,
-    mark: usize,
-}
-
-extern "C" fn body(task: *mut c_void) -> *mut c_void {
-    // SAFETY: `stack_used` passes a Task that outlives the thread and that nothing else touches.
-    let task = unsafe { &mut *task.cast::<Task>() };
-    let local = 0u8;
-    task.mark = black_box(&raw const local) as usize;
-    task.answer = task.file.map(|file| library::expr_value(file, &VARS));
-    ptr::null_mut()
-}
-
-/// The bytes of stack below its caller that the evaluation of `file`, or of nothing, used.
-fn stack_used(file: Option<&[u8]>) -> Result<usize, String> {
-    let mut buffer = vec![PATTERN; STACK_BYTES + PAGE_BYTES];
-    let skip = buffer.as_ptr().align_offset(PAGE_BYTES);
-    let stack = &mut buffer[skip..skip + STACK_BYTES];
-    let mut task = Task {
-        file,
-        answer: None,
-        mark: 0,
-    };
-    run_on(stack, (&raw mut task).cast())?;
-    if task.answer != file.map(|file| model::answer(file, &VARS)) {
-        return Err("hogzelt_expr_value gives another answer than the model".to_string());
+fn form_stacks() -> Result<usize, String> {
+    let mut most = 0;
+    for (shape, form) in forms() {
+        let mut answer = None;
+        let used = stack_used(&mut || answer = Some(library::semilinear_value(&form, &VARS)))?;
+        if answer != Some(form_model::answer(&form, &VARS)) {
+            return Err(format!(
+                "hogzelt_semilinear_value differs from the model: {shape}"
+            ));
+        }
+        most = show_stack("hogzelt_semilinear_value", shape, &form, used, most);
+        // the result slice is the caller's and not counted
+        let mut out = vec![1; RESULT_BYTES];
+        let mut answer = None;
+        let used = stack_used(&mut || answer = Some(library::compact_into(&form, &mut out)))?;
+        let wanted = form_model::compact(&form, RESULT_BYTES);
+        if answer != Some([wanted.refusal, wanted.used, wanted.terms]) || out != wanted.out {
+            return Err(format!(
+                "hogzelt_compact_atom_table differs from the model: {shape}"
+            ));
+        }
+        most = show_stack("hogzelt_compact_atom_table", shape, &form, used, most);
     }
-    let untouched = stack.iter().take_while(|&&byte| byte == PATTERN).count();
-    let lowest = stack.as_ptr() as usize + untouched;
-    Ok(task.mark.saturating_sub(lowest))
+    Ok(most)
 }
 
-/// Runs `body` on a thread with the given stack and waits for it.
-fn run_on(stack: &mut [u8], task: *mut c_void) -> Result<(), String> {
-    let mut attributes = Attributes([0; 16]);
-    let mut thread = 0;
-    // SAFETY: the attributes are initialised first; the stack outlives the thread, which is joined.
-    let failed = unsafe {
-        pthread_attr_init(&mut attributes) != 0
-            || pthread_attr_setstack(&mut attributes, stack.as_mut_ptr().cast(), stack.len()) != 0
-            || pthread_create(&mut thread, &attributes, body, task) != 0
-            || pthread_join(thread, ptr::null_mut()) != 0
-            || pthread_attr_destroy(&mut attributes) != 0
-    };
-    if failed {
-        return Err("the measured thread could not be run".to_string());
+/// Forms of one atom, whose tree is as deep as it may be, and the longest form.
+fn forms() -> Vec<(&'static str, Vec<u8>)> {
+    let leaf = |i: usize| variable(64, i as u8);
+    let leaves = MAX_TREE_RECORDS / 2;
+    let trees: [(&'static str, Records); 4] = [
+        ("nested Not", nested(&[NOT], MAX_TREE_RECORDS - 1, leaf(0))),
+        ("nested Shr", nested(&[SHR], MAX_TREE_RECORDS - 1, leaf(0))),
+        (
+            "Not of a left chain of And",
+            unary(NOT, 0, left_chain(AND, leaves, leaf)),
+        ),
+        (
+            "Not of a right chain of And",
+            unary(NOT, 0, right_chain(AND, leaves, leaf)),
+        ),
+    ];
+    let mut forms = Vec::new();
+    for (shape, tree) in trees {
+        let mut form = Form::new(64, 1);
+        form.push_term(MIXED, tree, 3);
+        forms.push((shape, form.bytes()));
     }
-    Ok(())
+    forms.push((
+        "256 atoms",
+        form_random::full(&mut Prng::new(SEED), 64).bytes(),
+    ));
+    forms
 }
 
-fn times() {
+fn expression_times() {
     let small = small_files();
     let records: usize = small.iter().map(|file| file.len() / RECORD_BYTES).sum();
     let per_call = time_of(|| {
@@ -140,21 +137,16 @@ fn times() {
         }
     }) / small.len() as f64;
     println!(
-        "time, small expressions ({:.1} records): {:.0} values per second",
+        "time, hogzelt_expr_value, small expressions ({:.1} records): {:.0} values per second",
         records as f64 / small.len() as f64,
         1e9 / per_call
     );
     let deep = bytes(&nested(&[NEG], MAX_RECORDS - 1, variable(64, 0)));
     let wide = bytes(&balanced(ADD, 0, 512, &|i| variable(64, i as u8)));
-    for (name, file) in [("nested Neg", deep), ("balanced sum", wide)] {
-        let nanoseconds = time_of(|| {
+    for (shape, file) in [("nested Neg", deep), ("balanced sum", wide)] {
+        show_time("hogzelt_expr_value", shape, &file, || {
             black_box(library::expr_value(&file, &VARS));
         });
-        let count = file.len() / RECORD_BYTES;
-        println!(
-            "time, {name} (records: {count}): {:.1} ns per record",
-            nanoseconds / count as f64
-        );
     }
 }
 
@@ -169,15 +161,45 @@ fn small_files() -> Vec<Vec<u8>> {
         .collect()
 }
 
-/// The nanoseconds of one call of `work`, over at least half a second of calls.
-fn time_of(work: impl Fn()) -> f64 {
-    let start = Instant::now();
-    let mut calls = 0u32;
-    while start.elapsed() < Duration::from_millis(500) {
-        for _ in 0..16 {
-            work();
-        }
-        calls += 16;
+fn form_times() {
+    for (shape, form) in timed_forms() {
+        show_time("hogzelt_semilinear_value", shape, &form, || {
+            black_box(library::semilinear_value(&form, &VARS));
+        });
+        let mut out = vec![1; RESULT_BYTES];
+        show_time("hogzelt_compact_atom_table", shape, &form, || {
+            black_box(library::compact_into(&form, &mut out));
+        });
     }
-    start.elapsed().as_nanos() as f64 / f64::from(calls)
+}
+
+/// The longest form, with all terms and with every other one; 256 variables; and one deep atom.
+fn timed_forms() -> Vec<(&'static str, Vec<u8>)> {
+    let full = form_random::full(&mut Prng::new(SEED), 64);
+    let mut half = full.clone();
+    half.terms.retain(|term| term.atom % 2 == 1);
+    let mut small = Form::new(64, 1);
+    for number in 0..MAX_ATOMS {
+        small.push_term(MIXED, variable(64, number as u8), 3);
+    }
+    let mut deep = Form::new(64, 1);
+    deep.push_term(
+        MIXED,
+        nested(&[NOT], MAX_TREE_RECORDS - 1, variable(64, 0)),
+        3,
+    );
+    vec![
+        ("256 atoms of 12", full.bytes()),
+        ("256 atoms of 12, half of them unused", half.bytes()),
+        ("256 atoms of 1", small.bytes()),
+        ("nested Not", deep.bytes()),
+    ]
+}
+
+fn show_time(function: &str, shape: &str, file: &[u8], work: impl FnMut()) {
+    let records = file.len() / RECORD_BYTES;
+    println!(
+        "time, {function}, {shape} (records: {records}): {:.1} ns per record",
+        time_of(work) / records as f64
+    );
 }

@@ -1,9 +1,13 @@
-//! Tests of the harness itself: the model beside document 01's examples and beside those parts of
-//! the published Rust that evaluate expressions, and the vector file read back.
+//! Tests of the harness itself: the models beside document 01's examples and beside those parts of
+//! the published Rust that evaluate expressions, make forms or compact them, and the vector file
+//! read back.
 
 use crate::cases::{self, SEED};
 use crate::core::expr_utils::collect_vars;
 use crate::entry;
+use crate::form::{Form, FROM_AND, MAX_ATOMS, MAX_TREE_RECORDS, MIXED, RESULT_BYTES};
+use crate::form_model;
+use crate::form_random;
 use crate::ir::semilinear::compute_atom_truth_table;
 use crate::ir::semilinear_normalizer::normalize_to_semilinear;
 use crate::model::{answer, refusal};
@@ -11,8 +15,8 @@ use crate::prng::Prng;
 use crate::published;
 use crate::random::{expression, width, Kinds};
 use crate::record::{
-    arity, bytes, literal, smallest, unary, variable, Record, Records, ADD, AND, CONSTANT, MUL,
-    NEG, NOT, SHR, TRUNC, VARIABLE,
+    arity, binary, bytes, literal, smallest, unary, variable, Record, Records, ADD, AND, CONSTANT,
+    MUL, NEG, NOT, SHR, TRUNC, VARIABLE, XOR,
 };
 
 const ROUNDS: usize = 20_000;
@@ -102,6 +106,71 @@ fn sums_below_bitwise(records: &[Record]) -> bool {
         let below = &records[at + 1 - usize::from(record.size)..at];
         is_bitwise(record) && below.iter().any(is_sum)
     })
+}
+
+/// The examples of refusals of forms, in the table and in "The sheet".
+#[test]
+fn form_refusals_of_the_document() {
+    let mut form = Form::new(8, 5);
+    assert_eq!(form_model::compact(&[0; 15], RESULT_BYTES).refusal, 1);
+    assert_eq!(form_model::compact(&form.bytes(), 57_359).refusal, 2);
+    assert_eq!(form_model::read(&form.bytes()), Ok(form.clone()));
+    form.push_term(MIXED, variable(8, 0), 0);
+    assert_eq!(form_model::read(&form.bytes()), Err(10));
+    let mut whole = Form::new(8, 5).bytes();
+    whole.resize(RESULT_BYTES, 0);
+    assert_eq!(form_model::read(&whole), Err(10));
+    let full = form_random::full(&mut Prng::new(SEED), 64);
+    let size: usize = full.atoms.iter().map(|atom| atom.tree.len()).sum();
+    assert_eq!((full.atoms.len(), size), (MAX_ATOMS, MAX_TREE_RECORDS));
+    assert_eq!(full.bytes().len(), RESULT_BYTES);
+    assert_eq!(form_model::read(&full.bytes()), Ok(full));
+}
+
+/// The starred puzzles of document 01 that normalising alone answers with one or two terms.
+#[test]
+fn normalised_forms_of_the_document() {
+    let (a, b) = (variable(8, 0), variable(8, 1));
+    let xor = published::normalized(&binary(XOR, a.clone(), literal(8, 15)));
+    let mut wanted = Form::new(8, 15);
+    wanted.push_term(MIXED, a.clone(), 1);
+    wanted.push_term(FROM_AND, binary(AND, a.clone(), literal(8, 15)), 254);
+    assert_eq!(xor, Some(wanted));
+    let both = |l: &Records, r: &Records| binary(AND, l.clone(), r.clone());
+    let sum = published::normalized(&binary(ADD, both(&a, &b), both(&b, &a)));
+    let mut wanted = Form::new(8, 0);
+    wanted.push_term(FROM_AND, both(&a, &b), 2);
+    assert_eq!(sum, Some(wanted));
+    assert_eq!(published::normalized(&binary(MUL, a, b)), None);
+}
+
+/// What the normaliser of the Rust makes is a valid form, of the value that the expression has, and
+/// both compact it alike. Add, Mul or Neg below a bitwise operator is left out, as above.
+#[test]
+fn normalised_forms_of_the_rust() {
+    let rng = &mut Prng::new(SEED);
+    let (mut compared, mut shorter) = (0, 0);
+    for _ in 0..ROUNDS {
+        let w = width(rng);
+        let count = 1 + rng.below(24);
+        let records = expression(rng, count, w, Kinds::Accepted);
+        if sums_below_bitwise(&records) {
+            continue;
+        }
+        let Some(form) = published::normalized(&records) else {
+            continue;
+        };
+        let written = entry::compact_answer(&form.bytes(), RESULT_BYTES);
+        assert_eq!(written.refusal, 0);
+        let used = &written.out[..written.used as usize];
+        let vars: Vec<u64> = (0..256).map(|_| rng.word()).collect();
+        let expected = answer(&bytes(&records), &vars);
+        assert_eq!(form_model::answer(&form.bytes(), &vars), expected);
+        assert_eq!(form_model::answer(used, &vars), expected);
+        compared += 1;
+        shorter += usize::from(used.len() < form.bytes().len());
+    }
+    assert!(compared > ROUNDS / 8 && shorter > 0);
 }
 
 #[test]

@@ -1,4 +1,4 @@
--- `vectors::entry::run` is safe: words and expression lie within the payload, and the words within their buffer.
+-- `vectors::entry::run` is safe: words and bytes lie within the payload, and the words within their buffer.
 use mathlib.Core.Path.{sym}
 use lib.Seq.{length-take-le}
 use borrow.Author.Needs.{needs}
@@ -44,6 +44,9 @@ slice-aggregate-answer-of c = sym (length-take-le _ _ (search needs))
 answer-of-requires : tie.Need-answer-of-requires
 answer-of-requires c κs = search needs
 
+same-length : tie.Need-same-length
+same-length c = search needs
+
 returns : tie.Need-returns
 returns c = search needs
 
@@ -64,4 +67,5 @@ run-spec =
     array-share-prefix-words
     slice-aggregate-answer-of
     answer-of-requires
+    same-length
     returns)

@@ -1,0 +1,7 @@
+-- The laws of the definitions, for the crates above.
+pub mod PartitionLaws
+mod OrderLaws
+pub mod ProfileLaws
+pub mod ClassesLaws
+pub mod ColumnsLaws
+pub mod ComputeLaws

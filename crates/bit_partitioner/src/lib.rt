@@ -1,0 +1,1 @@
+// The partition of the places by the profiles of the atoms.

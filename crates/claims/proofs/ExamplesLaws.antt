@@ -1,0 +1,81 @@
+-- The worked examples hold, by computing.
+use mathlib.Core.Path.{_≡_, refl}
+use mathlib.Core.Bool.{true}
+use lib.Count.{trailingZeros, ones, onesIn}
+use Rattle.arith.specs.Bit.{bitAt}
+use Rattle.arith.specs.Effective.{effectiveMask, reduceMask, canChangeCoefficientTo}
+use Rattle.arith.specs.Width.{bitmask, modAdd, modSub, modMul, modNeg}
+use Rattle.record.specs.Lists.{eqList}
+use Rattle.record.specs.Tree.{sizeOf, recordBytes, encode}
+use Rattle.expr.specs.Hash.{mixHash, tagHash, varHash, structuralHash}
+use Rattle.expr.specs.Utils.{hasKind, isArith, isBitwise, hasArith, hasConstantArith}
+use Rattle.expr.specs.Value.{unary, binary, value}
+use Rattle.expr.specs.Vars.{nextVar, supportF, support, sameVars}
+use Rattle.semilinear.specs.Decompose.{decomposeAnd, decomposeAtom}
+use Rattle.semilinear.specs.Form.{termCount, atomBytes, atomsBytes, termBytes, termsBytes, sumBytes, encodeForm}
+use Rattle.semilinear.specs.Form.{eqTree, treeRecords, fitsTable}
+use Rattle.semilinear.specs.Group.{at, putEntry, emptyGroup, pushEntry, isLive, consumed, work, createRow, maskedTree}
+use Rattle.semilinear.specs.Group.{createMasked, viewRow, anyBasis, variableBasis, insertBasis, basesOf, groupOf}
+use Rattle.semilinear.specs.Group.{ungrouped, addCoeff, settleAt, settle}
+use Rattle.semilinear.specs.Loop.{turnsF, forIn, firstF, firstIn}
+use Rattle.semilinear.specs.Outcome.{formOutcome}
+use Rattle.semilinear_normalizer.specs.Collect.{joinCollected, collectAtom, collectConstant, isNot, operand}
+use Rattle.semilinear_normalizer.specs.Collect.{collectNot, isMaskedNot, collectAnd, andCoeff, collectMasked}
+use Rattle.semilinear_normalizer.specs.Collect.{collectTerms}
+use Rattle.semilinear_normalizer.specs.Normalize.{collectedForm, collectedOutcome, normalizeTree}
+use Rattle.semilinear_normalizer.specs.Register.{familyOf, detectProvenance, isPure, sameTable, sameSlot, newestRow}
+use Rattle.semilinear_normalizer.specs.Register.{firstRow, hasTree, sharedRow, addRow, registerAtom, registerAll}
+use Rattle.semilinear_normalizer.specs.Truth.{hasShift, bitBinary, bitOf, rowBits, tableF, table}
+use Rattle.term_refiner.specs.Collapse.{thirdFits, findThird, secondFits, findSecond, firstFits, findFirst}
+use Rattle.term_refiner.specs.Collapse.{collapseAt, threeTermCollapse}
+use Rattle.term_refiner.specs.RefineTerms.{refineGroup, refineAll, refineForm}
+use Rattle.term_refiner.specs.Steps.{remasked, cutAt, cutMasks, dropAt, dropZero, joinAt, slotFits, placeAt, leastAt}
+use Rattle.term_refiner.specs.Steps.{leastCoeff, sweepTurn, bucketMerge, pairAt, pairMerge, negateAt, toMinusOne}
+use Rattle.structure_recovery.specs.CoalesceTerms.{bitCoeffAt, bitCoeff, carry, carryAt, carriedOf, carriedRows}
+use Rattle.structure_recovery.specs.CoalesceTerms.{coalesceGroup, coalesceAll, coalesceForm}
+use Rattle.structure_recovery.specs.FlattenComplexAtoms.{isPlain, isComplex, atZero, atOnes, flatRow, flattenRow}
+use Rattle.structure_recovery.specs.FlattenComplexAtoms.{flattenRows, keptRows, flattened, flattenForm}
+use Rattle.structure_recovery.specs.RecoverStructure.{rowWith, withBare, recoverXor, eliminateMask, recoverPair}
+use Rattle.structure_recovery.specs.RecoverStructure.{isPartner, partnerOf, recoverAt, recoverGroup, recoverAll}
+use Rattle.structure_recovery.specs.RecoverStructure.{recoverForm}
+use Rattle.bit_partitioner.specs.Partition.{isOpaque, opaqueWord, profileWord, profileFrom, joinClass, classesF}
+use Rattle.bit_partitioner.specs.Partition.{classesOf, classWords, partitionsOutcome}
+use Rattle.claims.specs.Examples.{sameOutcome, allHold, starred, tricky}
+
+starred-hold : allHold starred ≡ true
+unfolding trailingZeros ones onesIn bitAt effectiveMask reduceMask canChangeCoefficientTo bitmask modAdd modSub
+    modMul modNeg eqList sizeOf recordBytes encode mixHash tagHash varHash structuralHash hasKind isArith isBitwise
+    hasArith hasConstantArith unary binary value nextVar supportF support sameVars decomposeAnd decomposeAtom
+    termCount atomBytes atomsBytes termBytes termsBytes sumBytes encodeForm eqTree treeRecords fitsTable at putEntry
+    emptyGroup pushEntry isLive consumed work createRow maskedTree createMasked viewRow anyBasis variableBasis
+    insertBasis basesOf groupOf ungrouped addCoeff settleAt settle turnsF forIn firstF firstIn formOutcome
+    joinCollected collectAtom collectConstant isNot operand collectNot isMaskedNot collectAnd andCoeff collectMasked
+    collectTerms collectedForm collectedOutcome normalizeTree familyOf detectProvenance isPure sameTable sameSlot
+    newestRow firstRow hasTree sharedRow addRow registerAtom registerAll hasShift bitBinary bitOf rowBits tableF
+    table thirdFits findThird secondFits findSecond firstFits findFirst collapseAt threeTermCollapse refineGroup
+    refineAll refineForm remasked cutAt cutMasks dropAt dropZero joinAt slotFits placeAt leastAt leastCoeff
+    sweepTurn bucketMerge pairAt pairMerge negateAt toMinusOne bitCoeffAt bitCoeff carry carryAt carriedOf
+    carriedRows coalesceGroup coalesceAll coalesceForm isPlain isComplex atZero atOnes flatRow flattenRow
+    flattenRows keptRows flattened flattenForm rowWith withBare recoverXor eliminateMask recoverPair isPartner
+    partnerOf recoverAt recoverGroup recoverAll recoverForm isOpaque opaqueWord profileWord profileFrom joinClass
+    classesF classesOf classWords partitionsOutcome sameOutcome allHold starred
+starred-hold = refl
+
+tricky-hold : allHold tricky ≡ true
+unfolding trailingZeros ones onesIn bitAt effectiveMask reduceMask canChangeCoefficientTo bitmask modAdd modSub
+    modMul modNeg eqList sizeOf recordBytes encode mixHash tagHash varHash structuralHash hasKind isArith isBitwise
+    hasArith hasConstantArith unary binary value nextVar supportF support sameVars decomposeAnd decomposeAtom
+    termCount atomBytes atomsBytes termBytes termsBytes sumBytes encodeForm eqTree treeRecords fitsTable at putEntry
+    emptyGroup pushEntry isLive consumed work createRow maskedTree createMasked viewRow anyBasis variableBasis
+    insertBasis basesOf groupOf ungrouped addCoeff settleAt settle turnsF forIn firstF firstIn formOutcome
+    joinCollected collectAtom collectConstant isNot operand collectNot isMaskedNot collectAnd andCoeff collectMasked
+    collectTerms collectedForm collectedOutcome normalizeTree familyOf detectProvenance isPure sameTable sameSlot
+    newestRow firstRow hasTree sharedRow addRow registerAtom registerAll hasShift bitBinary bitOf rowBits tableF
+    table thirdFits findThird secondFits findSecond firstFits findFirst collapseAt threeTermCollapse refineGroup
+    refineAll refineForm remasked cutAt cutMasks dropAt dropZero joinAt slotFits placeAt leastAt leastCoeff
+    sweepTurn bucketMerge pairAt pairMerge negateAt toMinusOne bitCoeffAt bitCoeff carry carryAt carriedOf
+    carriedRows coalesceGroup coalesceAll coalesceForm isPlain isComplex atZero atOnes flatRow flattenRow
+    flattenRows keptRows flattened flattenForm rowWith withBare recoverXor eliminateMask recoverPair isPartner
+    partnerOf recoverAt recoverGroup recoverAll recoverForm isOpaque opaqueWord profileWord profileFrom joinClass
+    classesF classesOf classWords partitionsOutcome sameOutcome allHold tricky
+tricky-hold = refl

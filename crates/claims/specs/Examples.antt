@@ -1,0 +1,134 @@
+-- Worked examples (document 01, "Starred puzzles"; w = 8 unless said, a is v0, b is v1), each computed on the definitions
+-- of the normaliser, the passes and the columns. Tables keep the atoms that lost their term.
+use Prim.Native.Nat.{ℕ}
+use mathlib.Core.List.{List, [], _∷_}
+use mathlib.Core.Bool.{Bool, true, false, _&&_}
+use lib.Dec.{eqb}
+use Rattle.record.specs.Lists.{eqList}
+use Rattle.record.specs.Tree.{Tree}
+use Rattle.record.specs.Tree.Tree.{Constant, Variable, Unary, Binary}
+use Rattle.semilinear.specs.Form.{Row, Form}
+use Rattle.semilinear.specs.Outcome.{Outcome, accepted, refused, formOutcome}
+use Rattle.semilinear_normalizer.specs.Normalize.{normalizeTree}
+use Rattle.term_refiner.specs.RefineTerms.{refineForm}
+use Rattle.structure_recovery.specs.RecoverStructure.{recoverForm}
+use Rattle.structure_recovery.specs.CoalesceTerms.{coalesceForm}
+use Rattle.structure_recovery.specs.FlattenComplexAtoms.{flattened, flattenForm}
+use Rattle.bit_partitioner.specs.Partition.{partitionsOutcome}
+
+-- what a definition gives, and what it should give
+pub record Example : Type 0 where
+  pub got : Outcome
+  pub want : Outcome
+
+unfoldable pub sameOutcome : Outcome → Outcome → Bool
+sameOutcome (accepted l ns) (accepted m ks) = eqList l m && eqList ns ks
+sameOutcome (accepted l ns) (refused k) = false
+sameOutcome (refused n) (accepted m ks) = false
+sameOutcome (refused n) (refused k) = eqb n k
+
+unfoldable pub allHold : List Example → Bool
+allHold [] = true
+allHold (x ∷ l) = sameOutcome (x .got) (x .want) && allHold l
+
+-- ---- how the examples are written
+
+abbrev a : Tree
+a = Variable 0
+
+abbrev b : Tree
+b = Variable 1
+
+abbrev mask : Tree → ℕ → Tree
+mask t m = Binary 4 t (Constant m)
+
+-- a row: provenance (And 0, Xor 2, Not 3, Mixed 4), tree, coefficient
+abbrev row : ℕ → Tree → ℕ → Row
+row p t c = record { provenance = p; tree = t; coeff = c }
+
+abbrev form : ℕ → ℕ → List Row → Form
+form w c l = record { bitwidth = w; constant = c; rows = l }
+
+-- normalising t at w bits gives the constant c and the rows l, or the refusal n
+abbrev normal : ℕ → Tree → ℕ → List Row → Example
+normal w t c l = record { got = normalizeTree w t; want = formOutcome (form w c l) false }
+
+abbrev refusal : ℕ → Tree → ℕ → Example
+refusal w t n = record { got = normalizeTree w t; want = refused n }
+
+-- a pass makes the form f of the form e, at 8 bits
+abbrev pass : (Form → Form) → Form → Form → Example
+pass p e f = record { got = formOutcome (p e) false; want = formOutcome f false }
+
+-- ---- the starred puzzles, in document 01's order
+
+unfoldable pub starred : List Example
+starred =
+    normal 8 (Constant 5) 5 []
+    ∷ normal 8 (Binary 6 a (Constant 15)) 15 (row 4 a 1 ∷ row 0 (mask a 15) 254 ∷ [])
+    ∷ normal 8 (Binary 5 a (Constant 15)) 15 (row 4 a 1 ∷ row 0 (mask a 15) 255 ∷ [])
+    ∷ normal 8 (mask (Unary 7 0 a) 15) 15 (row 0 (mask a 15) 255 ∷ [])
+    ∷ normal 8 (Binary 3 (Constant 0) (Binary 3 a b)) 0 []
+    ∷ refusal 8 (Binary 3 a b) 8
+    ∷ refusal 8 (Binary 6 a (Unary 8 0 (Constant 1))) 8
+    ∷ refusal 8 (Binary 4 (Constant 3) (Binary 2 (Constant 1) (Constant 2))) 7
+    ∷ normal 8 (Binary 2 (Binary 4 a b) (Binary 4 b a)) 0 (row 0 (Binary 4 a b) 2 ∷ [])
+    ∷ normal 1 (Binary 6 a (Constant 1)) 1 (row 4 a 1 ∷ [])
+    ∷ pass refineForm (form 8 0 (row 0 (mask a 255) 16 ∷ []))
+    (form 8 0 (row 0 (mask a 255) 0 ∷ row 0 (mask a 15) 16 ∷ []))
+    ∷ pass refineForm (form 8 0 (row 0 (mask a 15) 1 ∷ row 0 (mask a 240) 1 ∷ []))
+    (form 8 0 (row 0 (mask a 15) 0 ∷ row 0 (mask a 240) 0 ∷ row 0 a 1 ∷ []))
+    ∷ pass recoverForm
+    (form 8 0 (row 0 (mask a 252) 1 ∷ row 0 (mask a 3) 255 ∷ row 0 (mask a 0) 255 ∷ []))
+    (form 8 253
+    (row 0 (mask a 252) 0 ∷ row 0 (mask a 3) 0 ∷ row 0 (mask a 0) 255 ∷ row 2 (Binary 6 (Constant 3) a) 1 ∷ []))
+    ∷ record { got = partitionsOutcome (form 8 0 (row 0 (mask a 15) 1 ∷ [])); want = accepted (15 ∷ 2 ∷ 240 ∷ 0 ∷ []) (2 ∷ []) }
+    ∷ []
+
+-- ---- cases that are easy to get wrong
+
+unfoldable pub tricky : List Example
+tricky =
+    -- ~~a & 15 is lowered once
+    normal 8 (mask (Unary 7 0 (Unary 7 0 a)) 15) 15 (row 4 (mask (Unary 7 0 a) 15) 255 ∷ [])
+    -- a - a: no term, but the atom stays
+    ∷ normal 8 (Binary 2 a (Unary 8 0 a)) 0 (row 4 a 0 ∷ [])
+    -- a coefficient that is 0 modulo 2 ^ w makes no atom
+    ∷ normal 8 (Binary 3 (Constant 256) a) 0 []
+    -- sharing by truth table keeps the first tree
+    ∷ normal 8 (Binary 2 (Unary 7 0 (Unary 7 0 a)) a) 0 (row 3 (Unary 7 0 (Unary 7 0 a)) 2 ∷ [])
+    -- a factor 0 on the way down ends the descent, one below a product does not
+    ∷ refusal 8 (Binary 3 (Binary 3 a (Constant 0)) b) 8
+    -- 16 a becomes 16 (a & 15), a new atom
+    ∷ pass refineForm (form 8 0 (row 4 a 16 ∷ [])) (form 8 0 (row 4 a 0 ∷ row 0 (mask a 15) 16 ∷ []))
+    -- 16 (a & 240) leaves an unused a & 0
+    ∷ pass refineForm (form 8 0 (row 0 (mask a 240) 16 ∷ []))
+    (form 8 0 (row 0 (mask a 240) 0 ∷ row 0 (mask a 0) 0 ∷ []))
+    -- 1 (a & 128) becomes 255 (a & 128) without a new atom
+    ∷ pass refineForm (form 8 0 (row 0 (mask a 128) 1 ∷ [])) (form 8 0 (row 0 (mask a 128) 255 ∷ []))
+    -- the group of v3 comes before that of v0
+    ∷ pass refineForm (form 8 0 (row 4 a 16 ∷ row 4 (Variable 3) 16 ∷ []))
+    (form 8 0
+    (row 4 a 0 ∷ row 4 (Variable 3) 0 ∷ row 0 (mask (Variable 3) 15) 16 ∷ row 0 (mask a 15) 16 ∷ []))
+    -- three terms collapse once: 1, 2 and 3 on 1, 2 and 4
+    ∷ pass refineForm (form 8 0 (row 0 (mask a 1) 1 ∷ row 0 (mask a 2) 2 ∷ row 0 (mask a 4) 3 ∷ []))
+    (form 8 0
+    (row 0 (mask a 1) 0 ∷ row 0 (mask a 2) 0 ∷ row 0 (mask a 4) 0 ∷ row 0 (mask a 5) 1 ∷ row 0 (mask a 6) 2 ∷ []))
+    -- 128 and 128 at 8 bits are an Xor pair; a tie of ones takes the first entry's mask
+    ∷ pass recoverForm (form 8 0 (row 0 (mask a 15) 128 ∷ row 0 (mask a 240) 128 ∷ []))
+    (form 8 128 (row 0 (mask a 15) 0 ∷ row 0 (mask a 240) 0 ∷ row 2 (Binary 6 (Constant 15) a) 128 ∷ []))
+    -- a widened entry is found by nobody, but looks: 3 (a & 15) + 1 (a & 240) + 1 (a & 0)
+    ∷ pass recoverForm (form 8 0 (row 0 (mask a 15) 3 ∷ row 0 (mask a 240) 1 ∷ row 0 (mask a 0) 2 ∷ []))
+    (form 8 0
+    (row 0 (mask a 15) 2 ∷ row 0 (mask a 240) 0 ∷ row 0 (mask a 0) 0 ∷ row 4 a 1 ∷ []))
+    -- only strictly fewer terms: 1 (a & 15) + 1 (a & 240) coalesce to a, made Mixed
+    ∷ pass coalesceForm (form 8 0 (row 0 (mask a 15) 1 ∷ row 0 (mask a 240) 1 ∷ []))
+    (form 8 0 (row 0 (mask a 15) 0 ∷ row 0 (mask a 240) 0 ∷ row 4 a 1 ∷ []))
+    -- a group of one is left alone even at mask 0
+    ∷ pass coalesceForm (form 8 0 (row 0 (mask a 0) 1 ∷ [])) (form 8 0 (row 0 (mask a 0) 1 ∷ []))
+    -- a & ~a: the term vanishes and the flag is set
+    ∷ record {
+      got = formOutcome (flattenForm (form 8 7 (row 4 (Binary 4 a (Unary 7 0 a)) 3 ∷ []))) (flattened (form 8 7 (row 4 (Binary 4 a (Unary 7 0 a)) 3 ∷ [])) .flag);
+      want = formOutcome (form 8 7 (row 4 (Binary 4 a (Unary 7 0 a)) 0 ∷ [])) true;
+    }
+    ∷ []

@@ -1,0 +1,1 @@
+// The theorems about lists of calls and the worked examples.

@@ -1,0 +1,97 @@
+-- The Rust's truth tables have a word of w bits for each row (semilinear.rs 109-161). For trees without literal and Shr
+-- they are equal exactly when the tables of specs/Truth.antt at place 0 are.
+use mathlib.Core.Path.{_≡_, refl, ap, sym, _∙_}
+use Prim.Native.Nat.{ℕ, zero, suc, _^_, _≤_, _<_}
+use native.Mathlib.Omega.{arith}
+use native.Mathlib.Nat.{mod-eq-of-lt}
+use mathlib.Core.Logic.{_↔_}
+use mathlib.Core.List.{List, [], _∷_}
+use mathlib.Core.Bool.{true, false}
+use lib.ListN.{length, getD}
+use Rattle.arith.specs.Bit.{bitAt}
+use Rattle.arith.proofs.BitLaws.{bit-zero}
+use Rattle.arith.proofs.BitLaws.{bits-below}
+use Rattle.record.specs.Tree.{Tree}
+use Rattle.record.proofs.ListsLaws.{eq-of-eq-list}
+use Rattle.expr.specs.Refusal.{isExpr}
+use Rattle.expr.specs.Utils.{hasArith}
+use Rattle.expr.specs.Value.{value}
+use Rattle.expr.specs.Vars.{occurs, support, sameVars}
+use Rattle.expr.proofs.IsExprLaws.{occurs-lt}
+use Rattle.semilinear_normalizer.specs.Truth.{bitOf, rowBits}
+use Rattle.semilinear_normalizer.specs.Truth.{table}
+use Rattle.semilinear_normalizer.specs.Register.{isPure}
+use Rattle.semilinear_normalizer.proofs.BitOfLaws.{Bitwise, bit-value, bit-of-agree}
+use Rattle.semilinear_normalizer.proofs.TruthLaws.{row-bits-lt, table-lt, table-bit, Pure, pure-parts}
+use Rattle.semilinear_normalizer.proofs.TruthLaws.{pure-bitwise, SameTable, same-value}
+
+-- the assignment that gives the n low variables the words b
+unfoldable pub wordsOf : ℕ → (ℕ → ℕ) → List ℕ
+wordsOf zero b = []
+wordsOf (suc n) b = b 0 ∷ wordsOf n (λ v. b (suc v))
+
+words-at : (n : ℕ) (b : ℕ → ℕ) (v : ℕ) → v < n → getD (wordsOf n b) v 0 ≡ b v
+unfolding wordsOf
+words-at zero b v h = absurd (omega arith)
+words-at (suc n) b zero h = refl
+words-at (suc n) b (suc v) h = words-at n (λ x. b (suc x)) v (omega arith)
+
+-- row i of the Rust's table of the variables vs (semilinear.rs 111-161): the value at w bits where each is 0 or 1
+unfoldable pub rowWord : ℕ → List ℕ → ℕ → Tree → ℕ
+rowWord w vs i t = value w (wordsOf 256 (rowBits 0 vs i)) t
+
+module _ (w : ℕ) (vs : List ℕ) (hw : 1 ≤ w) where
+  row-word-bit : (t : Tree) → Bitwise t → (i : ℕ) → bitAt (rowWord w vs i t) 0 ≡ bitOf 0 (rowBits 0 vs i) t
+  unfolding rowWord
+  row-word-bit t b i =
+      bit-value w 0 (omega arith) (wordsOf 256 (rowBits 0 vs i)) t b
+      ∙ bit-of-agree 0 (λ v. bitAt (getD (wordsOf 256 (rowBits 0 vs i)) v 0) 0) (rowBits 0 vs i) t same
+    where
+      same : (v : ℕ) → occurs v t ≡ true → bitAt (getD (wordsOf 256 (rowBits 0 vs i)) v 0) 0 ≡ rowBits 0 vs i v
+      same v o =
+          ap (λ (x : ℕ). bitAt x 0) (words-at 256 (rowBits 0 vs i) v (occurs-lt v t (b .expr) o))
+          ∙ bit-zero (rowBits 0 vs i v)
+          ∙ mod-eq-of-lt (row-bits-lt 0 vs i v)
+
+  -- equal rows of w-bit words make equal tables at place 0
+  word-rows : (t u : Tree) → Bitwise t → Bitwise u → (n : ℕ)
+      → ((i : ℕ) → i < 2 ^ n → rowWord w vs i t ≡ rowWord w vs i u) → table 0 vs n t ≡ table 0 vs n u
+  word-rows t u bt bu n e =
+      bits-below (2 ^ n) (table 0 vs n t) (table 0 vs n u) (table-lt 0 vs t n) (table-lt 0 vs u n)
+      (λ i h.
+      table-bit 0 vs t n i h
+      ∙ sym (row-word-bit t bt i)
+      ∙ ap (λ (x : ℕ). bitAt x 0) (e i h)
+      ∙ row-word-bit u bu i
+      ∙ sym (table-bit 0 vs u n i h))
+
+-- the Rust's tables are equal exactly when those at place 0 are
+pub word-tables : (w : ℕ) → 1 ≤ w → (t u : Tree) → isPure t ≡ true → isPure u ≡ true → sameVars t u ≡ true
+    → isExpr t ≡ true → isExpr u ≡ true → hasArith t ≡ false → hasArith u ≡ false
+    → ((i : ℕ) → i < 2 ^ length (support t) → rowWord w (support t) i t ≡ rowWord w (support t) i u)
+    ↔ (table 0 (support t) (length (support t)) t ≡ table 0 (support t) (length (support t)) u)
+unfolding rowWord sameVars
+word-tables w hw t u pt pu s et eu at au = (there, back)
+  where
+    pure-l : Pure t
+    pure-l = pure-parts t pt
+
+    pure-r : Pure u
+    pure-r = pure-parts u pu
+
+    there : ((i : ℕ) → i < 2 ^ length (support t) → rowWord w (support t) i t ≡ rowWord w (support t) i u)
+        → table 0 (support t) (length (support t)) t ≡ table 0 (support t) (length (support t)) u
+    there =
+        word-rows w (support t) hw t u (pure-bitwise t pure-l et at) (pure-bitwise u pure-r eu au) (length (support t))
+
+    back : table 0 (support t) (length (support t)) t ≡ table 0 (support t) (length (support t)) u
+        → (i : ℕ) → i < 2 ^ length (support t) → rowWord w (support t) i t ≡ rowWord w (support t) i u
+    back e i h =
+        let same : SameTable t u =
+        record {
+          pure-l = pure-l;
+          pure-r = pure-r;
+          vars = eq-of-eq-list (support t) (support u) s;
+          tables = e;
+        } in
+        same-value t u same et eu at au w (wordsOf 256 (rowBits 0 (support t) i))

@@ -1,0 +1,4 @@
+-- Recovering structure, coalescing and flattening (document 01, "The shorter sheet"; structure_recovery.rs).
+pub mod RecoverStructure
+pub mod CoalesceTerms
+pub mod FlattenComplexAtoms

@@ -1,0 +1,1 @@
+// Recovering structure, coalescing and flattening.

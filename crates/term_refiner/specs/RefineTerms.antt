@@ -1,0 +1,46 @@
+-- Refining the terms of a semilinear form (term_refiner.rs 195-375). Differs from the Rust in differences 1, 3 and 4.
+use Prim.Native.Nat.{ℕ}
+use mathlib.Core.List.{List, [], _∷_}
+use mathlib.Core.Bool.{false}
+use Rattle.record.specs.Tree.{Tree}
+use Rattle.semilinear.specs.Form.{Row, Form}
+use Rattle.semilinear.specs.Group.{Work, work, emptyGroup, anyBasis, basesOf, groupOf, ungrouped, settle}
+use Rattle.semilinear.specs.Outcome.{Outcome}
+use Rattle.semilinear.specs.Compact.{passOutcome, limitOutcome}
+use Rattle.term_refiner.specs.Steps.{cutMasks, dropZero, bucketMerge, pairMerge, toMinusOne}
+use Rattle.term_refiner.specs.Collapse.{threeTermCollapse}
+
+-- the steps in the Rust's order; the second pair merge follows the change of coefficients (195-286)
+unfoldable pub refineGroup : ℕ → Tree → Work → Work
+refineGroup w b x =
+    threeTermCollapse w b
+    (pairMerge w b (negated (pairMerge w b (bucketMerge w b (dropped (cutMasks w b x))))))
+  where
+    dropped : Work → Work
+    dropped y = work (dropZero w (y .group)) (y .rows)
+
+    negated : Work → Work
+    negated y = work (toMinusOne w (y .group)) (y .rows)
+
+-- the groups in turn; a group is read off the form as it was, and its atoms and terms go to the table
+unfoldable pub refineAll : ℕ → List Row → List Tree → List Row → List Row
+refineAll w before [] rows = rows
+refineAll w before (b ∷ l) rows =
+    refineAll w before l (settled (refineGroup w b (work (groupOf anyBasis w b 0 before emptyGroup) rows)))
+  where
+    settled : Work → List Row
+    settled x = settle w (x .group) (x .rows)
+
+unfoldable pub refineForm : Form → Form
+refineForm f =
+    record {
+      bitwidth = f .bitwidth;
+      constant = f .constant;
+      rows =
+          refineAll (f .bitwidth) (f .rows) (basesOf anyBasis (f .bitwidth) (f .rows) [])
+          (ungrouped anyBasis (f .bitwidth) (f .rows));
+    }
+
+-- what `refine_terms` gives for the bytes s and a result slice of len bytes
+unfoldable pub refineTerms : List ℕ → ℕ → Outcome
+refineTerms = passOutcome (λ f. limitOutcome (refineForm f) false)

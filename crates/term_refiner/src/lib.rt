@@ -1,0 +1,1 @@
+// Refining the terms of a semilinear form.

@@ -1,0 +1,96 @@
+//! The bytes of a semilinear form (document 01, "The sheet"): 16-byte records, for each atom a head
+//! and its tree, then the terms, last the sum record. Nothing here checks that a form is valid.
+
+use crate::published;
+use crate::record::{self, Record, Records};
+
+pub const SUM: u8 = 32;
+pub const ATOM: u8 = 33;
+pub const TERM: u8 = 34;
+
+pub const MAX_ATOMS: usize = 256;
+pub const MAX_TREE_RECORDS: usize = 3072;
+/// The length of a result slice, and of the longest form.
+pub const RESULT_BYTES: usize = 57_360;
+
+/// Provenances, by number.
+pub const FROM_AND: u8 = 0;
+pub const FROM_OR: u8 = 1;
+pub const FROM_XOR: u8 = 2;
+pub const FROM_NOT: u8 = 3;
+pub const MIXED: u8 = 4;
+
+#[derive(Clone, Debug, PartialEq, Eq)]
+pub struct Atom {
+    pub provenance: u8,
+    pub hash: u64,
+    pub tree: Records,
+}
+
+impl Atom {
+    /// An atom with the hash of its tree, which must be well formed.
+    pub fn new(provenance: u8, tree: Records) -> Self {
+        Self {
+            provenance,
+            hash: published::hash(&tree),
+            tree,
+        }
+    }
+}
+
+#[derive(Clone, Copy, Debug, PartialEq, Eq)]
+pub struct Term {
+    pub atom: u16,
+    pub coeff: u64,
+}
+
+#[derive(Clone, Debug, PartialEq, Eq)]
+pub struct Form {
+    pub width: u8,
+    pub constant: u64,
+    pub atoms: Vec<Atom>,
+    pub terms: Vec<Term>,
+}
+
+impl Form {
+    pub fn new(width: u8, constant: u64) -> Self {
+        Self {
+            width,
+            constant,
+            atoms: Vec::new(),
+            terms: Vec::new(),
+        }
+    }
+
+    /// Adds an atom that has no term.
+    pub fn push(&mut self, provenance: u8, tree: Records) {
+        self.atoms.push(Atom::new(provenance, tree));
+    }
+
+    /// Adds an atom and its term.
+    pub fn push_term(&mut self, provenance: u8, tree: Records, coeff: u64) {
+        let atom = self.atoms.len() as u16;
+        self.push(provenance, tree);
+        self.terms.push(Term { atom, coeff });
+    }
+
+    pub fn records(&self) -> Records {
+        let w = self.width;
+        let mut records = Vec::new();
+        for atom in &self.atoms {
+            let size = atom.tree.len();
+            records.push(Record::new(ATOM, atom.provenance, size, w, atom.hash));
+            records.extend(&atom.tree);
+        }
+        for term in &self.terms {
+            let number = usize::from(term.atom);
+            records.push(Record::new(TERM, 0, number, w, term.coeff));
+        }
+        records.push(Record::new(SUM, 0, 0, w, self.constant));
+        records
+    }
+
+    pub fn bytes(&self) -> Vec<u8> {
+        record::bytes(&self.records())
+    }
+}
