@@ -54,10 +54,10 @@ returns-2 c =
     let at-semilinear-refusal = at-if1 .before in
     record {
       number = sym (at-if1 .if1 .left) ∙ at-semilinear-refusal .semilinear-refusal .ensures;
-      result = c .sum-rows .ensures
-          ∙ sym
-          (form-value-accepted _ _ (sym (at-semilinear-refusal .semilinear-refusal .ensures) ∙ at-if1 .if1 .left)
-          (at-literal .before .width .ensures) (at-literal .literal .ensures) (c .before .before .body .ensures));
+      result =
+          form-value-accepted _ _ (sym (at-semilinear-refusal .semilinear-refusal .ensures) ∙ at-if1 .if1 .left)
+          (at-literal .before .width .ensures) (at-literal .literal .ensures) (c .before .before .body .ensures)
+          (c .sum-rows .ensures);
     }
 
 pub semilinear-value-spec : {M : Type 1} → statement M
