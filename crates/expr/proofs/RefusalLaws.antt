@@ -1,13 +1,13 @@
 -- Laws of specs/Refusal.antt: what it says of a root and of a span that no refusal applies.
-use mathlib.Core.Path.{_≡_, refl, ap, sym, _∙_}
-use Prim.Native.Nat.{ℕ, suc, _+_, _*_, _≤_, _<_, min}
+use mathlib.Core.Path.{_≡_, refl, sym, _∙_}
+use Prim.Native.Nat.{ℕ, suc, _*_, _≤_, _<_, min}
 use native.Mathlib.Omega.{arith}
 use native.Mathlib.Decide.{decLt, ℕ-discrete}
 use mathlib.Core.List.{List}
 use mathlib.Core.Bool.{Bool, true, false, not, _&&_, _||_, or-true}
 use lib.Dec.{eqb, ltb, leb}
 use lib.ListN.{length}
-use borrow.Author.Tests.{eqb-true, eqb-false, leb-true, ltb-true, ltb-false, eq-eqb, ne-eqb, le-ltb, lt-ltb, le-leb}
+use borrow.Author.Tests.{eqb-true, leb-true, ltb-false, eq-eqb, ne-eqb, le-ltb, lt-ltb, le-leb}
 use Rattle.record.specs.Choice.{when}
 use Rattle.record.specs.Fields.{kind, byte1, size, width, amount, literal, spare, arity}
 use Rattle.record.specs.Span.{body, left, right, sized}

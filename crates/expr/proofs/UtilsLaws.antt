@@ -1,10 +1,10 @@
 -- Laws of specs/Utils.antt: what a tree holds, from what its children hold.
-use mathlib.Core.Path.{_≡_, refl}
+use mathlib.Core.Path.{_≡_}
 use Prim.Native.Nat.{ℕ, _≤_}
 use native.Mathlib.Omega.{arith}
 use borrow.Author.Tests.{ne-eqb}
 use Rattle.record.specs.Tree.{Tree}
-use Rattle.record.specs.Tree.Tree.{Constant, Variable, Unary, Binary}
+use Rattle.record.specs.Tree.Tree.{Unary, Binary}
 use Rattle.expr.specs.Utils.{hasKind, hasArith, hasConstantArith, traitsOf, joinTraits, nodeTraits}
 
 pub traits-one : (k a : ℕ) (t : Tree) → 2 ≤ k → nodeTraits k (traitsOf t) ≡ traitsOf (Unary k a t)

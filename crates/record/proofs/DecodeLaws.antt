@@ -1,7 +1,7 @@
 -- What a walk over a span s with right size fields knows: its tree by the number n of the root's children, and that a
 -- child's span r falls by the size field and has right size fields too. n and r are given with what they are equal to,
 -- as the readers' contracts give them.
-use mathlib.Core.Path.{_≡_, refl, ap, ap₂, sym, _∙_}
+use mathlib.Core.Path.{_≡_, sym, _∙_}
 use Prim.Native.Nat.{ℕ, _-_, _*_, _≤_, _<_}
 use native.Mathlib.Omega.{arith}
 use native.Mathlib.Decide.{decLt}
@@ -9,8 +9,7 @@ use mathlib.Core.List.{List}
 use mathlib.Core.Bool.{true}
 use lib.ListN.{length}
 use Rattle.record.specs.Fields.{kind, amount, size, arity}
-use Rattle.record.specs.Tree.{Tree}
-use Rattle.record.specs.Tree.Tree.{Constant, Variable, Unary, Binary}
+use Rattle.record.specs.Tree.Tree.{Unary, Binary}
 use Rattle.record.specs.Span.{cut, body, left, right, sized}
 use Rattle.record.specs.Decode.{leaf, decode}
 use Rattle.record.proofs.SpanLaws.{cut-le, length-body, length-left, length-right, fold-leaf, fold-one, fold-two}

@@ -1,16 +1,14 @@
 -- Laws of `encode` and `decode`: the encoding of a tree has 16 bytes for each record, its size fields are right, and
 -- it decodes to the tree.
 use mathlib.Core.Path.{_≡_, refl, ap, sym, _∙_}
-use Prim.Native.Nat.{ℕ, _+_, _-_, _*_, _^_, _≤_, _<_}
+use Prim.Native.Nat.{ℕ, _+_, _-_, _*_, _≤_, _<_}
 use native.Mathlib.Omega.{arith}
-use mathlib.Core.List.{List, [], _∷_, _++_, append-assoc}
-use mathlib.Core.Bool.{Bool, true, false, _&&_}
-use lib.Dec.{eqb, lit<}
-use lib.ListN.{length, getD, take, drop, length-append, List·getD-append}
+use mathlib.Core.List.{List, [], _++_, append-assoc}
+use mathlib.Core.Bool.{true}
+use lib.ListN.{length, getD, drop, length-append, List·getD-append}
 use lib.Seq.{getD-append-add, take-at, drop-at}
 use borrow.Author.Tests.{eq-eqb, le-ltb}
-use Rattle.record.specs.Choice.{when}
-use Rattle.record.specs.Fields.{u16, kind, byte1, varIndex, amount, size, width, literal, arity}
+use Rattle.record.specs.Fields.{u16, kind, byte1, varIndex, amount, size, width, arity}
 use Rattle.record.specs.Tree.{Tree, recordBytes, encode, sizeOf, Encodable}
 use Rattle.record.specs.Tree.Tree.{Constant, Variable, Unary, Binary}
 use Rattle.record.specs.Span.{cut, body, left, right, sized}

@@ -1,6 +1,6 @@
 -- Laws of `sized` (specs/Span.antt): a span whose size fields are right has a record, and so have its children's spans.
-use mathlib.Core.Path.{_≡_, refl, ap, sym, _∙_}
-use Prim.Native.Nat.{ℕ, _+_, _-_, _*_, _≤_, _<_}
+use mathlib.Core.Path.{_≡_, refl, sym, _∙_}
+use Prim.Native.Nat.{ℕ, _*_, _≤_, _<_}
 use native.Mathlib.Omega.{arith}
 use native.Mathlib.Decide.{decLt, ℕ-discrete}
 use mathlib.Core.List.{List}
@@ -9,7 +9,7 @@ use lib.ListN.{length}
 use lib.Dec.{eqb}
 use borrow.Author.Tests.{eqb-true}
 use Rattle.record.specs.Fields.{kind, size, arity}
-use Rattle.record.specs.Span.{cut, body, left, right, fold, sized}
+use Rattle.record.specs.Span.{body, left, right, sized}
 use Rattle.record.proofs.SpanLaws.{fold-none, fold-leaf, fold-one, fold-two}
 
 pub false-true : {A : Type 0} → false ≡ true → A

@@ -1,14 +1,14 @@
 -- Laws of specs/Span.antt: the children's spans, the equations of `fold`, and induction over spans.
-use mathlib.Core.Path.{_≡_, refl, ap, sym, _∙_}
+use mathlib.Core.Path.{_≡_, refl, _∙_}
 use Prim.Native.Nat.{ℕ, zero, suc, _+_, _-_, _*_, _≤_, _<_}
 use native.Mathlib.Omega.{arith}
 use native.Mathlib.Nat.{le-refl, le-of-lt}
 use native.Mathlib.Decide.{decLt, ℕ-discrete}
-use mathlib.Core.List.{List, [], _∷_, _++_}
+use mathlib.Core.List.{List, [], _++_}
 use mathlib.Core.Bool.{Bool, true, false}
-use lib.ListN.{length, take, drop, length-take, length-drop, take-append-drop}
+use lib.ListN.{length, drop, length-take, length-drop, take-append-drop}
 use lib.Seq.{take-add}
-use lib.Dec.{ltb, eqb}
+use lib.Dec.{ltb}
 use borrow.Author.Tests.{lt-ltb, le-ltb, ltb-false, ne-eqb}
 use Rattle.record.specs.Choice.{when}
 use Rattle.record.specs.Fields.{u16, kind, arity}

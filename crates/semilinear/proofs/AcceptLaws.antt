@@ -1,5 +1,5 @@
--- Accepted bytes are the bytes of a valid form, the one that they stand for; with EncodeFormLaws, the theorem both ways:
--- bytes are accepted just where they are the bytes of a valid form.
+-- Accepted bytes are the bytes of a valid form, the one that they stand for; with EncodeFormLaws, the theorem both
+-- ways: bytes are accepted just where they are the bytes of a valid form.
 use mathlib.Core.Path.{_≡_, refl, sym, _∙_}
 use Prim.Native.Nat.{ℕ, _+_, _-_, _*_, _^_, _<_}
 use native.Mathlib.Omega.{arith}

@@ -1,35 +1,33 @@
 -- Compacting: a row that is copied or left, and the copy on its way.
-use mathlib.Core.Path.{_≡_, refl, ap, ap₂, sym, subst, _∙_}
-use Prim.Native.Nat.{ℕ, _+_, _-_, _*_, _≤_, _<_}
+use mathlib.Core.Path.{_≡_, refl, ap, sym, subst, _∙_}
+use Prim.Native.Nat.{ℕ, _+_, _≤_}
 use native.Mathlib.Omega.{arith}
-use native.Mathlib.Nat.{add-zero}
-use mathlib.Core.List.{List, [], _∷_, _++_, append-assoc, append-nil}
+use mathlib.Core.List.{List, [], _∷_, _++_}
 use mathlib.Core.Bool.{Bool, true, false}
-use lib.ListN.{length, take, drop, length-append, length-take, take-append-drop}
-use lib.Dec.{eqb}
-use borrow.Author.Tests.{eq-eqb, ne-eqb}
+use lib.ListN.{length, take, drop, length-take}
+use borrow.Author.Tests.{ne-eqb}
 use Rattle.record.specs.Choice.{when}
-use Rattle.record.specs.Put.{put, padded}
+use Rattle.record.specs.Put.{put}
 use Rattle.record.specs.Tree.{IsBytes}
 use Rattle.record.specs.Decode.{decode}
-use Rattle.record.proofs.PutLaws.{put-padded-at, length-padded}
-use Rattle.record.proofs.BytesLaws.{bytes-drop}
 use Rattle.semilinear.specs.declared.compact.Copying.{Copying}
-use Rattle.semilinear.specs.Form.{Row, atomBytes, atomsBytes, termBytes, termsBytes}
-use Rattle.semilinear.specs.Items.{provenance, frontNumber, frontWord, isAtom, isTerm, atomLength, treeSpan, afterAtom, afterAtoms, atomCount}
-use Rattle.semilinear.specs.Valid.{atomOk, atomsOk, termOk, termsOk}
+use Rattle.semilinear.specs.Form.{Row, atomsBytes, termBytes, termsBytes}
+use Rattle.semilinear.specs.Items.{provenance, frontNumber, frontWord, isAtom, isTerm, atomLength, treeSpan}
+use Rattle.semilinear.specs.Items.{afterAtom, atomCount}
+use Rattle.semilinear.specs.Valid.{atomOk, termsOk}
 use Rattle.semilinear.specs.DecodeForm.{hasTerm, coeffAt, afterTerm, rowAt, rowsOf}
 use Rattle.semilinear.specs.Compact.{usedRows, renumber}
-use Rattle.semilinear.specs.Scan.{AtomsEnd}
-use Rattle.semilinear.specs.Running.{usedBytes, RowPassed, RowCopied}
-use Rattle.semilinear.proofs.ItemsLaws.{atom-room, fold-atom, fold-done, rows-atom, rows-end, atoms-ind, has-term-is, after-some, after-none}
-use Rattle.semilinear.proofs.ValidLaws.{terms-first, terms-nil, terms-later, term-parts}
+use Rattle.semilinear.specs.Running.{usedBytes, RowCopied}
+use Rattle.semilinear.proofs.ItemsLaws.{atom-room, fold-atom, fold-done, rows-atom, rows-end, atoms-ind}
+use Rattle.semilinear.proofs.ItemsLaws.{has-term-is, after-some, after-none}
+use Rattle.semilinear.proofs.ValidLaws.{terms-first, terms-later, term-parts}
 use Rattle.semilinear.proofs.AcceptLaws.{atom-bytes}
 use Rattle.semilinear.proofs.RenumberLaws.{put-none, renumber-term, renumber-end}
-use Rattle.semilinear.proofs.SumLaws.{first-atom-ok, later-atoms-ok, passed-without, passed-with}
+use Rattle.semilinear.proofs.SumLaws.{passed-without, passed-with}
 
 -- ---- one turn
-module _ (f : List ℕ) (x : Copying) (ha : x .at ≤ length f) (hn : x .next ≤ length f) (e : isAtom (drop (x .at) f) ≡ true)
+module _ (f : List ℕ) (x : Copying) (ha : x .at ≤ length f) (hn : x .next ≤ length f)
+    (e : isAtom (drop (x .at) f) ≡ true)
     {r q : List ℕ} (er : r ≡ drop (x .at) f) (eq : q ≡ drop (x .next) f) {n : ℕ} (en : n ≡ atomLength r) where
   abbrev used : List ℕ
   used = usedBytes (x .number) (drop (x .at) f) (drop (x .next) f)
@@ -65,7 +63,8 @@ module _ (f : List ℕ) (x : Copying) (ha : x .at ≤ length f) (hn : x .next �
       }
 
   pub copied-with : hasTerm (x .number) q ≡ true → (before after : List ℕ) → after ≡ put before (x .to) (take n r)
-      → RowCopied f x (record { at = x .at + n; next = x .next + 16; number = x .number + 1; to = x .to + n }) before after
+      → RowCopied f x (record { at = x .at + n; next = x .next + 16; number = x .number + 1; to = x .to + n })
+      before after
   copied-with h before after p =
       record {
         passed = passed-with f (x .at) (x .next) (x .number) ha hn e er eq en h;
@@ -114,7 +113,9 @@ module _ (w n i : ℕ) (r q : List ℕ) (e : isAtom r ≡ true) (ok : termsOk w 
       go : (b : Bool) → hasTerm i q ≡ b
           → atomsBytes w (usedRows (rowsOf i r q))
           ≡ when (hasTerm i q) (λ _. take (atomLength r) r) (λ _. []) ++ atomsBytes w (usedRows rest)
-      go true t = rw (used-some t) (simp t (ap (λ (l : List ℕ). l ++ atomsBytes w (usedRows rest)) (sym (atom-bytes w r h e good))))
+      go true t =
+          rw (used-some t)
+          (simp t (ap (λ (l : List ℕ). l ++ atomsBytes w (usedRows rest)) (sym (atom-bytes w r h e good))))
       go false t = rw (used-none t) (simp t)
 
 -- the terms of the used rows are the terms, renumbered

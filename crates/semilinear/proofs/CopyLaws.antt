@@ -1,9 +1,9 @@
 -- The copy of the used rows on its way: what holds of it, that each turn keeps it, and what it comes to.
-use mathlib.Core.Path.{_≡_, refl, ap, ap₂, sym, subst, _∙_}
-use Prim.Native.Nat.{ℕ, _+_, _-_, _*_, _≤_, _<_}
+use mathlib.Core.Path.{_≡_, refl, ap, ap₂, sym, _∙_}
+use Prim.Native.Nat.{ℕ, _+_, _≤_}
 use native.Mathlib.Omega.{arith}
 use native.Mathlib.Nat.{zero-add}
-use mathlib.Core.List.{List, [], _∷_, _++_, append-assoc, append-nil}
+use mathlib.Core.List.{List, [], _++_, append-assoc, append-nil}
 use mathlib.Core.Bool.{Bool, true, false}
 use lib.ListN.{length, take, drop, length-append, length-take, length-drop}
 use Rattle.record.specs.Choice.{when}
@@ -13,10 +13,10 @@ use Rattle.record.proofs.PutLaws.{put-padded-at, length-padded}
 use Rattle.record.proofs.BytesLaws.{bytes-drop}
 use Rattle.semilinear.specs.declared.compact.Copying.{Copying}
 use Rattle.semilinear.specs.declared.compact.Written.{Written}
-use Rattle.semilinear.specs.Form.{Row, atomsBytes, termsBytes, termCount}
-use Rattle.semilinear.specs.Items.{frontNumber, isAtom, atomLength, afterAtom, afterAtoms, atomCount}
+use Rattle.semilinear.specs.Form.{Row, atomsBytes, termsBytes}
+use Rattle.semilinear.specs.Items.{isAtom, atomLength, afterAtoms, atomCount}
 use Rattle.semilinear.specs.Valid.{atomsOk, termsOk}
-use Rattle.semilinear.specs.DecodeForm.{hasTerm, afterTerm, rowsOf}
+use Rattle.semilinear.specs.DecodeForm.{hasTerm, rowsOf}
 use Rattle.semilinear.specs.Compact.{usedRows, renumber, TermsCopied, FrontCopied}
 use Rattle.semilinear.specs.Scan.{AtomsEnd}
 use Rattle.semilinear.specs.Running.{usedBytes, RowCopied}

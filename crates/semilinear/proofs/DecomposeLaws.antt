@@ -1,31 +1,28 @@
 -- Laws of specs/Decompose.antt and specs/Basis.antt: the view of a span by its root's kind.
-use mathlib.Core.Path.{_≡_, refl, ap, ap₂, sym, _∙_}
-use Prim.Native.Nat.{ℕ, _+_, _-_, _^_, _≤_, _<_}
+use mathlib.Core.Path.{_≡_, refl, ap, sym, _∙_}
+use Prim.Native.Nat.{ℕ, _-_, _≤_}
 use native.Mathlib.Omega.{arith}
-use native.Mathlib.Nat.{sub-zero, le-refl}
-use native.Mathlib.Decide.{decLt, ℕ-discrete}
+use native.Mathlib.Nat.{sub-zero}
+use native.Mathlib.Decide.{ℕ-discrete}
 use mathlib.Core.List.{List, []}
-use mathlib.Core.Bool.{Bool, true, false, not, _&&_}
+use mathlib.Core.Bool.{Bool, true, false}
 use lib.ListN.{length, take, drop}
 use lib.Seq.{take-length}
-use lib.Dec.{eqb}
 use borrow.Author.Tests.{eq-eqb, ne-eqb}
 use Rattle.arith.specs.Width.{bitmask}
 use Rattle.arith.proofs.WidthLaws.{bitmask-ones}
-use Rattle.record.specs.Choice.{when}
-use Rattle.record.specs.Fields.{kind, varIndex, amount, arity}
-use Rattle.record.specs.Span.{cut, body, left, right, sized}
-use Rattle.record.specs.Tree.{Tree}
-use Rattle.record.specs.Tree.Tree.{Constant, Variable, Unary, Binary}
+use Rattle.record.specs.Fields.{kind, varIndex, arity}
+use Rattle.record.specs.Span.{cut, left, right, sized}
+use Rattle.record.specs.Tree.Tree.{Variable}
 use Rattle.record.specs.Decode.{leaf, decode}
 use Rattle.record.proofs.FieldsLaws.{arity-zero-of-lt, arity-two-of-le, kind-of-arity-zero}
 use Rattle.record.proofs.SpanLaws.{cut-le}
-use Rattle.record.proofs.SizedLaws.{sized-big, sized-left, sized-right, false-true}
+use Rattle.record.proofs.SizedLaws.{sized-left, sized-right, false-true}
 use Rattle.record.proofs.DecodeLaws.{decode-leaf, decode-one, decode-two}
 use Rattle.expr.specs.Utils.{isConstantSubtree}
 use Rattle.expr.specs.Value.{value}
 use Rattle.semilinear.specs.declared.decompose.Basis.{Basis}
-use Rattle.semilinear.specs.Decompose.{Decomposed, opaque, masked, decomposeAnd, decomposeAtom}
+use Rattle.semilinear.specs.Decompose.{opaque, masked, decomposeAnd, decomposeAtom}
 use Rattle.semilinear.specs.Basis.{basisSpan, viewOf, IsDecomposed}
 
 abbrev none : Basis

@@ -109,7 +109,7 @@ length-terms w i (x ∷ l) = go (ℕ-discrete (x .coeff) 0) (length-terms w (i +
   where
     go : Dec (x .coeff ≡ 0) → length (termsBytes w (i + 1) l) ≡ 16 * termCount l
         → length (termsBytes w i (x ∷ l)) ≡ 16 * termCount (x ∷ l)
-    go (yes z) below = simp (terms-bytes-zero w i x l z, eq-eqb (x .coeff) 0 z, below)
+    go (yes z) below = simp (eq-eqb (x .coeff) 0 z, below)
     go (no z) below =
         rw (terms-bytes-some w i x l z, length-front 34 0 i w (x .coeff) (termsBytes w (i + 1) l))
         (simp (ne-eqb (x .coeff) 0 z) (omega arith))

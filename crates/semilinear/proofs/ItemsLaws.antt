@@ -1,18 +1,18 @@
--- Laws of specs/Items.antt and specs/DecodeForm.antt: an atom at the front has room, and the equations of the recursions
--- over atoms.
-use mathlib.Core.Path.{_≡_, refl, ap, sym, _∙_}
+-- Laws of specs/Items.antt and specs/DecodeForm.antt: an atom at the front has room, the equations of the recursions
+-- over atoms, and the term at the front.
+use mathlib.Core.Path.{_≡_, refl, _∙_}
 use Prim.Native.Nat.{ℕ, zero, suc, _+_, _-_, _*_, _≤_, _<_}
 use native.Mathlib.Omega.{arith}
 use native.Mathlib.Nat.{le-refl}
 use mathlib.Core.List.{List, [], _∷_}
 use mathlib.Core.Bool.{Bool, true, false, _&&_}
-use lib.ListN.{length, take, drop, length-take, length-drop}
+use lib.ListN.{length, drop, length-take, length-drop}
 use lib.Dec.{eqb, leb}
-use borrow.Author.Tests.{leb-true, eqb-true, le-leb}
+use borrow.Author.Tests.{leb-true, eqb-true}
 use Rattle.record.specs.Choice.{when}
-use Rattle.record.proofs.SizedLaws.{false-true, and-true}
-use Rattle.semilinear.specs.Form.{Row}
-use Rattle.semilinear.specs.Items.{frontKind, frontNumber, atomLength, isAtom, treeSpan, afterAtom, atomsF, foldAtoms, isTerm}
+use Rattle.record.proofs.SizedLaws.{and-true}
+use Rattle.semilinear.specs.Items.{frontKind, frontNumber, atomLength, isAtom, treeSpan, afterAtom, atomsF}
+use Rattle.semilinear.specs.Items.{foldAtoms, isTerm}
 use Rattle.semilinear.specs.DecodeForm.{hasTerm, afterTerm, rowAt, rowsF, rowsOf}
 
 -- what it says that an atom stands at the front

@@ -9,7 +9,8 @@ use native.Mathlib.Omega.{arith}
 use Rattle.record.specs.Put.{padded}
 use Rattle.semilinear.specs.declared.outcome.Answer.{Answer}
 use Rattle.semilinear.specs.Form.{Form, termCount, encodeForm}
-use Rattle.semilinear.specs.Outcome.{Outcome, accepted, refused, refusalOf, numbersOf, writtenOf, Gives, formOutcome}
+use Rattle.semilinear.specs.Outcome.{Outcome, accepted, refused, refusalOf, numbersOf, writtenOf, Gives}
+use Rattle.semilinear.specs.Outcome.{formOutcome}
 use Rattle.semilinear.specs.Answers.{GivesForm}
 
 -- the answer of a refusal, and of a form that was written

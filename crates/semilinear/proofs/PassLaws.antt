@@ -1,18 +1,18 @@
--- Laws of `passOutcome` (specs/Compact.antt): what a pass gives, by the first test that decides. And compaction: it keeps
--- the value and the validity of a form, and what its bytes come to.
+-- Laws of `passOutcome` (specs/Compact.antt): what a pass gives, by the first test that decides. And compaction: it
+-- keeps the value and the validity of a form, and what its bytes come to.
 use mathlib.Core.Path.{_≡_, refl, ap, ap₂, sym, subst, _∙_}
-use Prim.Native.Nat.{ℕ, _+_, _*_, _%_, _^_, _≤_, _<_}
+use Prim.Native.Nat.{ℕ, _+_, _*_, _%_, _^_, _≤_}
 use native.Mathlib.Omega.{arith}
 use mathlib.Core.List.{List, [], _∷_, _++_}
-use mathlib.Core.Bool.{Bool, true, false, not, _&&_}
+use mathlib.Core.Bool.{Bool, true, false, not}
 use lib.ListN.{length, length-append}
-use lib.Dec.{eqb, leb, ltb}
+use lib.Dec.{eqb, ltb}
 use native.Mathlib.Decide.{ℕ-discrete}
 use borrow.Author.Tests.{eq-eqb, ne-eqb, ltb-false}
 use Rattle.record.specs.Choice.{when}
 use Rattle.record.specs.Fields.{width, literal}
-use Rattle.record.specs.Put.{put, padded}
-use Rattle.record.specs.Tree.{sizeOf, recordBytes, IsBytes}
+use Rattle.record.specs.Put.{put}
+use Rattle.record.specs.Tree.{recordBytes, IsBytes}
 use Rattle.record.specs.Span.{body}
 use Rattle.record.proofs.PutLaws.{put-padded-at, length-padded}
 use Rattle.record.proofs.SizedLaws.{and-true, false-true}
@@ -20,16 +20,16 @@ use Rattle.expr.specs.Value.{value}
 use Rattle.semilinear.specs.declared.outcome.Answer.{Answer}
 use Rattle.semilinear.specs.declared.compact.Written.{Written}
 use Rattle.semilinear.specs.Form.{Row, Form, sumRows, formValue, termCount, atomsBytes, termsBytes, sumBytes}
-use Rattle.semilinear.specs.Form.{encodeForm, rowOk, rowsOk, treeRecords, fitsTable, validForm}
+use Rattle.semilinear.specs.Form.{encodeForm, rowsOk, treeRecords, validForm}
 use Rattle.semilinear.specs.Items.{afterAtoms}
 use Rattle.semilinear.specs.Valid.{lengthRefused, sumOk, frontOk, isSemilinear}
 use Rattle.semilinear.specs.DecodeForm.{rowsOf, decodeForm}
 use Rattle.semilinear.specs.Outcome.{Outcome, refused, formOutcome}
 use Rattle.semilinear.specs.Answers.{GivesForm}
 use Rattle.semilinear.specs.Compact.{usedRows, compactForm, passOutcome, FrontCopied}
-use Rattle.semilinear.proofs.FormLaws.{Valid, form-parts, parts-form, rows-cons, good-row, length-form-le}
+use Rattle.semilinear.proofs.FormLaws.{form-parts, parts-form, rows-cons, good-row, length-form-le}
 use Rattle.semilinear.proofs.AcceptLaws.{form-valid}
-use Rattle.semilinear.proofs.OutcomeLaws.{formAnswer, gives-form}
+use Rattle.semilinear.proofs.OutcomeLaws.{gives-form}
 
 -- ---- a pass, by its refusals
 
@@ -42,7 +42,8 @@ module _ (pass : Form → Outcome) (s : List ℕ) (len : ℕ) where
   unfolding passOutcome
   pass-slice e n = simp (e, ne-eqb len 57360 n)
 
-  pub pass-refused : lengthRefused s ≡ false → len ≡ 57360 → isSemilinear s ≡ false → passOutcome pass s len ≡ refused 10
+  pub pass-refused : lengthRefused s ≡ false → len ≡ 57360 → isSemilinear s ≡ false
+      → passOutcome pass s len ≡ refused 10
   unfolding passOutcome
   pass-refused e n z = simp (e, eq-eqb len 57360 n, z)
 

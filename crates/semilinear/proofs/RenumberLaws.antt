@@ -1,26 +1,20 @@
 -- Laws of `renumber`: the terms of the rows that have one, in their order.
-use mathlib.Core.Path.{_≡_, refl, ap, ap₂, sym, subst, _∙_}
-use Prim.Native.Nat.{ℕ, zero, suc, _+_, _-_, _*_, _≤_, _<_}
+use mathlib.Core.Path.{_≡_, refl, ap, ap₂, sym, _∙_}
+use Prim.Native.Nat.{ℕ, zero, suc, _+_, _*_, _≤_}
 use native.Mathlib.Omega.{arith}
 use native.Mathlib.Nat.{le-refl, add-zero}
-use mathlib.Core.List.{List, [], _∷_, _++_, append-assoc, append-nil}
-use mathlib.Core.Bool.{Bool, true, false, _&&_}
+use mathlib.Core.List.{List, [], _++_, append-assoc, append-nil}
+use mathlib.Core.Bool.{Bool, true, false}
 use lib.ListN.{length, take, drop, length-append, length-drop, take-append-drop}
 use lib.Seq.{drop-drop}
-use lib.Dec.{eqb}
-use borrow.Author.Tests.{eq-eqb, ne-eqb}
 use Rattle.record.specs.Choice.{when}
 use Rattle.record.specs.Put.{put}
 use Rattle.record.specs.Tree.{recordBytes}
 use Rattle.record.proofs.PutLaws.{put-then, length-put}
-use Rattle.semilinear.specs.declared.compact.Written.{Written}
-use Rattle.semilinear.specs.Form.{Row, termBytes, termsBytes, termCount}
-use Rattle.semilinear.specs.Items.{frontNumber, frontWord, isAtom, isTerm, afterAtom, atomCount}
-use Rattle.semilinear.specs.Valid.{termOk, termsOk}
-use Rattle.semilinear.specs.DecodeForm.{hasTerm, coeffAt, afterTerm, rowAt, rowsOf}
-use Rattle.semilinear.specs.Compact.{usedRows, renumberF, renumber, TermsCopied}
-use Rattle.semilinear.proofs.ItemsLaws.{fold-atom, fold-done, rows-atom, rows-end, atoms-ind, term-big, has-term-is}
-use Rattle.semilinear.proofs.ValidLaws.{terms-first, terms-nil, terms-later, term-parts}
+use Rattle.semilinear.specs.Form.{termBytes}
+use Rattle.semilinear.specs.Items.{frontWord, isTerm}
+use Rattle.semilinear.specs.Compact.{renumberF, renumber, TermsCopied}
+use Rattle.semilinear.proofs.ItemsLaws.{term-big}
 
 -- ---- the equations
 
@@ -86,6 +80,12 @@ pub record Renumbered (w to : ℕ) (q before : List ℕ) (at number : ℕ) (afte
   pub written : after ≡ put before to done
   pub same-length : length after ≡ length before
 
+-- a term that stands at `at` has room among the terms q and in the bytes d, and its number is small
+pub record TermRoom (to : ℕ) (q d : List ℕ) (at number : ℕ) : Type 0 where
+  pub fits : at + 16 ≤ length q
+  pub few : 16 * number ≤ 57344
+  pub room : to + length q ≤ length d
+
 module _ (w to : ℕ) (q before : List ℕ) (room : to + length q ≤ length before) where
   pub renumbered-start : Renumbered w to q before 0 0 before
   renumbered-start =
@@ -99,8 +99,15 @@ module _ (w to : ℕ) (q before : List ℕ) (room : to + length q ≤ length bef
         same-length = refl;
       }
 
-  pub renumbered-term : (at number : ℕ) (d : List ℕ) → Renumbered w to q before at number d → {r : List ℕ} → r ≡ drop at q
-      → isTerm r ≡ true → (e : List ℕ) → {c : ℕ} → c ≡ frontWord r → e ≡ put d (to + at) (termBytes w number c)
+  pub term-room : length q ≤ 57360 → (at number : ℕ) (d : List ℕ) → Renumbered w to q before at number d → {r : List ℕ}
+      → r ≡ drop at q → isTerm r ≡ true → TermRoom to q d at number
+  term-room short at number d h {r} er t =
+      let fits : at + 16 ≤ length q = omega (arith, term-big r t, ap length er, length-drop at q, h .inside) in
+      record { fits = fits; few = omega (arith, fits, short, h .bytes); room = omega (arith, room, h .same-length) }
+
+  pub renumbered-term : (at number : ℕ) (d : List ℕ) → Renumbered w to q before at number d → {r : List ℕ}
+      → r ≡ drop at q → isTerm r ≡ true → (e : List ℕ) → {c : ℕ} → c ≡ frontWord r
+      → e ≡ put d (to + at) (termBytes w number c)
       → Renumbered w to q before (at + 16) (number + 1) e
   renumbered-term at number d h {r} er t e {c} ec p =
       let big : 16 ≤ length r = term-big r t in
@@ -109,7 +116,8 @@ module _ (w to : ℕ) (q before : List ℕ) (room : to + length q ≤ length bef
       let lx : length x ≡ 16 = length-term w number c in
       let w′ : e ≡ put before to (h .done ++ x) =
       p ∙ ap (λ (y : List ℕ). put y (to + at) x) (h .written)
-      ∙ put-then before to (h .done) x (to + at) (omega (arith, h .length-done, h .inside)) (omega (arith, h .length-done)) in
+      ∙ put-then before to (h .done) x (to + at) (omega (arith, h .length-done, h .inside))
+      (omega (arith, h .length-done)) in
       let ld : length (h .done ++ x) ≡ at + 16 = omega (arith, length-append (h .done) x, h .length-done) in
       let step : renumber w number (drop at q) ≡ x ++ renumber w (number + 1) (drop (at + 16) q) =
       ap (renumber w number) (sym er)
@@ -127,8 +135,8 @@ module _ (w to : ℕ) (q before : List ℕ) (room : to + length q ≤ length bef
             ap length w′ ∙ length-put before to (h .done ++ x) (omega (arith, ld, fits));
       }
 
-  pub renumbered-end : (at number : ℕ) (d : List ℕ) → Renumbered w to q before at number d → {r : List ℕ} → r ≡ drop at q
-      → isTerm r ≡ false → TermsCopied w to q before d (record { used = to + at; terms = number })
+  pub renumbered-end : (at number : ℕ) (d : List ℕ) → Renumbered w to q before at number d → {r : List ℕ}
+      → r ≡ drop at q → isTerm r ≡ false → TermsCopied w to q before d (record { used = to + at; terms = number })
   renumbered-end at number d h {r} er t =
       let none : renumber w number (drop at q) ≡ [] = ap (renumber w number) (sym er) ∙ renumber-end w number r t in
       let all : h .done ≡ renumber w 0 q =

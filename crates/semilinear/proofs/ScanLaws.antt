@@ -6,7 +6,7 @@ use native.Mathlib.Omega.{arith}
 use native.Mathlib.Decide.{decLt}
 use native.Mathlib.Nat.{le-of-lt, min-eq-right}
 use mathlib.Core.List.{List}
-use mathlib.Core.Bool.{Bool, true, false, _&&_}
+use mathlib.Core.Bool.{true, false}
 use lib.ListN.{length, drop, length-drop}
 use lib.Seq.{drop-drop}
 use lib.Dec.{ltb, leb}
@@ -14,12 +14,11 @@ use lib.Pow.{pow-pos, pow-mono}
 use borrow.Author.Tests.{le-leb, lt-leb, lt-ltb, le-ltb}
 use Rattle.arith.specs.Width.{bitmask}
 use Rattle.arith.proofs.WidthLaws.{bitmask-ones}
-use Rattle.semilinear.specs.declared.scan.AtomTable.{AtomTable}
 use Rattle.semilinear.specs.Items.{frontNumber, atomLength, isAtom, afterAtom, atomCount, atomRecords, afterAtoms}
 use Rattle.semilinear.specs.Items.{isTerm}
 use Rattle.semilinear.specs.Valid.{atomOk, atomsOk, termOk, termsOk}
-use Rattle.semilinear.specs.Scan.{AtomsEnd, IsAtomTable}
-use Rattle.semilinear.proofs.ItemsLaws.{Room, atom-room, fold-atom, fold-done, term-big}
+use Rattle.semilinear.specs.Scan.{IsAtomTable}
+use Rattle.semilinear.proofs.ItemsLaws.{atom-room, fold-atom, fold-done, term-big}
 use Rattle.semilinear.proofs.ValidLaws.{terms-term}
 
 -- ---- numbers of w bits

@@ -1,16 +1,15 @@
 -- The sum over atoms and terms on its way: what holds of it, and that each turn keeps it.
-use mathlib.Core.Path.{_≡_, refl, ap, ap₂, sym, subst, _∙_}
-use Prim.Native.Nat.{ℕ, _+_, _-_, _*_, _%_, _^_, _≤_, _<_}
+use mathlib.Core.Path.{_≡_, refl, ap, ap₂, sym, _∙_}
+use Prim.Native.Nat.{ℕ, _+_, _*_, _%_, _^_, _≤_, _<_}
 use native.Mathlib.Omega.{arith}
 use native.Mathlib.Nat.{mod-lt, mod-eq-of-lt, add-zero, zero-mul, mod-add-mod, add-mod-mod, add-assoc}
 use lib.Pow.{pow-pos}
-use mathlib.Core.List.{List, [], _∷_}
-use mathlib.Core.Bool.{Bool, true, false, _&&_}
+use mathlib.Core.List.{List, []}
+use mathlib.Core.Bool.{true, false}
 use lib.ListN.{length, drop, length-drop}
 use lib.Seq.{drop-drop}
 use Rattle.arith.specs.Width.{modAdd, modMul}
 use Rattle.arith.proofs.WidthLaws.{mod-add, mod-mul}
-use Rattle.record.specs.Choice.{when}
 use Rattle.record.specs.Decode.{decode}
 use Rattle.record.specs.Span.{sized}
 use Rattle.record.proofs.SizedLaws.{and-true}
@@ -18,14 +17,14 @@ use Rattle.expr.specs.Value.{value}
 use Rattle.expr.proofs.RefusalLaws.{sized-accepted}
 use Rattle.semilinear.specs.declared.value.Running.{Running}
 use Rattle.semilinear.specs.Form.{Row, sumRows}
-use Rattle.semilinear.specs.Items.{isAtom, frontNumber, frontWord, atomLength, treeSpan, afterAtom, afterAtoms, isTerm}
+use Rattle.semilinear.specs.Items.{isAtom, frontNumber, frontWord, atomLength, treeSpan, afterAtom, afterAtoms}
 use Rattle.semilinear.specs.Valid.{atomOk, atomsOk}
 use Rattle.semilinear.specs.DecodeForm.{hasTerm, coeffAt, afterTerm, rowAt, rowsOf}
 use Rattle.semilinear.specs.Scan.{AtomsEnd}
 use Rattle.semilinear.specs.Running.{RowPassed, RowAdded}
 use Rattle.semilinear.proofs.ItemsLaws.{atom-room, fold-atom, rows-atom, rows-end, term-big, has-term-is}
 use Rattle.semilinear.proofs.ItemsLaws.{after-some, after-none}
-use Rattle.semilinear.proofs.ValidLaws.{AtomParts, atom-parts}
+use Rattle.semilinear.proofs.ValidLaws.{atom-parts}
 
 -- an atom among good atoms is good, and those after it are
 module _ (w : ℕ) (r : List ℕ) (ok : atomsOk w r ≡ true) (e : isAtom r ≡ true) where

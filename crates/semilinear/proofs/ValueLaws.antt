@@ -1,10 +1,9 @@
 -- Laws of specs/Value.antt and `semilinearRefusal`: an accepted slice is a form, and the answer in either case.
-use mathlib.Core.Path.{_≡_, refl, ap, sym, _∙_}
+use mathlib.Core.Path.{_≡_, refl, sym, _∙_}
 use Prim.Native.Nat.{ℕ, _+_, _%_, _^_}
 use native.Mathlib.Omega.{arith}
 use mathlib.Core.List.{List}
 use mathlib.Core.Bool.{Bool, true, false}
-use lib.Dec.{eqb}
 use borrow.Author.Tests.{eq-eqb, ne-eqb}
 use Rattle.record.specs.Choice.{when}
 use Rattle.record.specs.Fields.{width, literal}
@@ -29,8 +28,13 @@ pub form-value-refused : (s vars : List ℕ) → (semilinearRefusal s ≡ 0 → 
 unfolding semilinearValue
 form-value-refused s vars h = simp (ne-eqb (semilinearRefusal s) 0 h)
 
-pub form-value-accepted : (s vars : List ℕ) → semilinearRefusal s ≡ 0 → {w c : ℕ} {f : List ℕ} → w ≡ width s
-    → c ≡ literal s → f ≡ body s
-    → semilinearValue s vars ≡ (c + sumRows w vars (rowsOf 0 f (afterAtoms f))) % 2 ^ w
-unfolding semilinearValue formValue decodeForm
-form-value-accepted s vars h ew ec ef = rw (ew, ec, ef) (simp (eq-eqb (semilinearRefusal s) 0 h))
+-- a number that is the sum of an accepted form's constant and rows is its value
+module _ (s vars : List ℕ) (h : semilinearRefusal s ≡ 0) {w c : ℕ} {f : List ℕ} (ew : w ≡ width s) (ec : c ≡ literal s)
+    (ef : f ≡ body s) where
+  sum-accepted : semilinearValue s vars ≡ (c + sumRows w vars (rowsOf 0 f (afterAtoms f))) % 2 ^ w
+  unfolding semilinearValue formValue decodeForm
+  sum-accepted = rw (ew, ec, ef) (simp (eq-eqb (semilinearRefusal s) 0 h))
+
+  pub form-value-accepted : {v : ℕ} → v ≡ (c + sumRows w vars (rowsOf 0 f (afterAtoms f))) % 2 ^ w
+      → v ≡ semilinearValue s vars
+  form-value-accepted e = e ∙ sym sum-accepted

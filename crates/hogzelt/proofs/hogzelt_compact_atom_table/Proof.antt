@@ -3,9 +3,6 @@ use Rattle.semilinear.proofs.OutcomeLaws.{gives-two}
 use borrow.Author.Needs.{needs}
 use Rattle.hogzelt.proofs.hogzelt_compact_atom_table.Statement.{statement}
 use Rattle.hogzelt.proofs.hogzelt_compact_atom_table.Tie as tie
-use Rattle.hogzelt.proofs.hogzelt_compact_atom_table.Reads as reads
-use Rattle.hogzelt.proofs.hogzelt_compact_atom_table.Lts as lts
-use Rattle.semilinear.proofs.compact.compact_atom_table.Reads as compact-atom-table-reads
 
 compact-atom-table-requires : tie.Need-compact-atom-table-requires
 compact-atom-table-requires c κs = search needs

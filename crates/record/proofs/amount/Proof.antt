@@ -1,11 +1,8 @@
+-- `amount` meets its contract: byte 1 of the root.
 use Rattle.record.specs.Fields.{amount}
 use borrow.Author.Needs.{needs}
 use Rattle.record.proofs.amount.Statement.{statement}
 use Rattle.record.proofs.amount.Tie as tie
-use Rattle.record.proofs.amount.Reads as reads
-use Rattle.record.proofs.amount.Lts as lts
-use Rattle.record.proofs.byte1.Reads as byte1-reads
-use Rattle.record.proofs.wide.Reads as wide-reads
 
 byte1-requires : tie.Need-byte1-requires
 byte1-requires c κs = search needs

@@ -1,14 +1,11 @@
+-- `body` meets its contract: the bytes without the root.
 use Rattle.record.proofs.SpanLaws.{body-short}
 use Rattle.record.specs.Span.{body}
 use native.Mathlib.Omega.{arith}
-use mathlib.Core.Path.{_≡_, ap}
-use lib.ListN.{length, take, length-take}
-use Prim.Native.Nat.{ℕ, _-_}
+use lib.ListN.{length-take}
 use borrow.Author.Needs.{needs}
 use Rattle.record.proofs.body.Statement.{statement}
 use Rattle.record.proofs.body.Tie as tie
-use Rattle.record.proofs.body.Reads as reads
-use Rattle.record.proofs.body.Lts as lts
 
 slice-aggregate-result : tie.Need-slice-aggregate-result
 slice-aggregate-result c = search needs

@@ -1,9 +1,8 @@
+-- `byte1` meets its contract: the byte at its place in the last record.
 use Rattle.record.specs.Fields.{byte1}
 use borrow.Author.Needs.{needs}
 use Rattle.record.proofs.byte1.Statement.{statement}
 use Rattle.record.proofs.byte1.Tie as tie
-use Rattle.record.proofs.byte1.Reads as reads
-use Rattle.record.proofs.byte1.Lts as lts
 
 sub-result : tie.Need-sub-result
 sub-result c = search needs

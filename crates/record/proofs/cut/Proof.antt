@@ -1,12 +1,10 @@
+-- `cut` meets its contract: the size field before the root says where the right child begins.
 use Rattle.record.specs.Span.{cut}
 use borrow.Author.Tests.{lt-ltb, le-ltb}
 use native.Mathlib.Omega.{arith}
 use borrow.Author.Needs.{needs}
 use Rattle.record.proofs.cut.Statement.{statement}
 use Rattle.record.proofs.cut.Tie as tie
-use Rattle.record.proofs.cut.Reads as reads
-use Rattle.record.proofs.cut.Lts as lts
-use Rattle.record.proofs.read_u16.Reads as read-u16-reads
 
 returns : tie.Need-returns
 unfolding cut

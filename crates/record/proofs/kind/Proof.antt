@@ -1,9 +1,8 @@
+-- `kind` meets its contract: the byte at its place in the last record.
 use Rattle.record.specs.Fields.{kind}
 use borrow.Author.Needs.{needs}
 use Rattle.record.proofs.kind.Statement.{statement}
 use Rattle.record.proofs.kind.Tie as tie
-use Rattle.record.proofs.kind.Reads as reads
-use Rattle.record.proofs.kind.Lts as lts
 
 sub-result : tie.Need-sub-result
 sub-result c = search needs

@@ -1,15 +1,13 @@
+-- `left` meets its contract: the bytes before the cut.
 use denote.Ref.{now}
 use Prim.Native.Nat.{ℕ}
 use Rattle.record.specs.Span.{left, cut}
 use native.Mathlib.Omega.{arith}
-use mathlib.Core.Path.{ap, sym}
+use mathlib.Core.Path.{ap}
 use lib.ListN.{take, length-take}
 use borrow.Author.Needs.{needs}
 use Rattle.record.proofs.left.Statement.{statement}
 use Rattle.record.proofs.left.Tie as tie
-use Rattle.record.proofs.left.Reads as reads
-use Rattle.record.proofs.left.Lts as lts
-use Rattle.record.proofs.cut.Reads as cut-reads
 
 cut-requires : tie.Need-cut-requires
 cut-requires c κs = search needs

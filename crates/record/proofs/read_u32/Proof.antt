@@ -1,10 +1,8 @@
+-- `read_u32` meets its contract: four bytes, little-endian, and below 2 ^ 32.
 use Rattle.record.specs.Fields.{u32}
 use borrow.Author.Needs.{needs}
 use Rattle.record.proofs.read_u32.Statement.{statement}
 use Rattle.record.proofs.read_u32.Tie as tie
-use Rattle.record.proofs.read_u32.Reads as reads
-use Rattle.record.proofs.read_u32.Lts as lts
-use Rattle.record.proofs.read_u16.Reads as read-u16-reads
 
 read-u16-requires : tie.Need-read-u16-requires
 read-u16-requires c κs = search needs

@@ -1,10 +1,8 @@
+-- `read_u64` meets its contract: eight bytes, little-endian.
 use Rattle.record.specs.Fields.{u64}
 use borrow.Author.Needs.{needs}
 use Rattle.record.proofs.read_u64.Statement.{statement}
 use Rattle.record.proofs.read_u64.Tie as tie
-use Rattle.record.proofs.read_u64.Reads as reads
-use Rattle.record.proofs.read_u64.Lts as lts
-use Rattle.record.proofs.read_u32.Reads as read-u32-reads
 
 read-u32-requires : tie.Need-read-u32-requires
 read-u32-requires c κs = search needs

@@ -1,17 +1,14 @@
+-- `right` meets its contract: the bytes from the cut to the root.
 use Rattle.record.proofs.SpanLaws.{right-short}
 use denote.Ref.{now}
 use Prim.Native.Nat.{ℕ, _-_}
 use lib.ListN.{length, drop}
 use Rattle.record.specs.Span.{right, cut}
-use native.Mathlib.Omega.{arith}
-use mathlib.Core.Path.{ap, sym}
-use lib.ListN.{take, length-take}
+use mathlib.Core.Path.{ap}
+use lib.ListN.{take}
 use borrow.Author.Needs.{needs}
 use Rattle.record.proofs.right.Statement.{statement}
 use Rattle.record.proofs.right.Tie as tie
-use Rattle.record.proofs.right.Reads as reads
-use Rattle.record.proofs.right.Lts as lts
-use Rattle.record.proofs.cut.Reads as cut-reads
 
 slice-aggregate-result : tie.Need-slice-aggregate-result
 slice-aggregate-result c = search needs
@@ -33,7 +30,10 @@ part-result-end c = search needs
 
 returns-2 : tie.Need-returns-2
 unfolding right
-returns-2 c = ap (λ (n : ℕ). take (length (now (c .before .before .before .before .args .t)) - 16 - n) (drop n (now (c .before .before .before .before .args .t)))) (c .before .cut .ensures .0)
+returns-2 c =
+    let at-start = c .before .before .before .before in
+    ap (λ (n : ℕ). take (length (now (at-start .args .t)) - 16 - n) (drop n (now (at-start .args .t))))
+    (c .before .cut .ensures .0)
 
 pub right-spec : {M : Type 1} → statement M
 right-spec =

@@ -1,12 +1,9 @@
+-- `root_arity` meets its contract: the arity of the root's kind.
 use Rattle.record.specs.Fields.{arity}
 use mathlib.Core.Path.{ap, _∙_}
 use borrow.Author.Needs.{needs}
 use Rattle.record.proofs.root_arity.Statement.{statement}
 use Rattle.record.proofs.root_arity.Tie as tie
-use Rattle.record.proofs.root_arity.Reads as reads
-use Rattle.record.proofs.root_arity.Lts as lts
-use Rattle.record.proofs.arity.Reads as arity-reads
-use Rattle.record.proofs.kind.Reads as kind-reads
 
 kind-requires : tie.Need-kind-requires
 kind-requires c κs = search needs

@@ -1,4 +1,5 @@
-use Prim.Native.Nat.{ℕ, _+_, _-_, _≤_}
+-- `same_bytes` meets its contract: the loop keeps that the bytes from `i` on decide.
+use Prim.Native.Nat.{_-_, _≤_}
 use mathlib.Core.Path.{_≡_, refl, sym, _∙_}
 use native.Mathlib.Omega.{arith}
 use lib.ListN.{length, drop}
@@ -7,8 +8,6 @@ use Rattle.record.specs.Lists.{eqList}
 use Rattle.record.proofs.ListsLaws.{eq-list-lengths, eq-list-differ, eq-list-next, eq-list-end}
 use Rattle.record.proofs.same_bytes.Statement.{statement}
 use Rattle.record.proofs.same_bytes.Tie as tie
-use Rattle.record.proofs.same_bytes.Reads as reads
-use Rattle.record.proofs.same_bytes.Lts as lts
 
 abbrev Inv-loop : tie.InvT-loop
 Inv-loop a b i₀ i = (i ≤ length a) × (eqList a b ≡ eqList (drop i a) (drop i b))
@@ -29,7 +28,13 @@ shared-slice-read-if2-2 : tie.Need-shared-slice-read-if2-2 Inv-loop μ-loop
 shared-slice-read-if2-2 c = omega (arith, c .before .before .before .before .if1 .left)
 
 returns-2 : tie.Need-returns-2 Inv-loop μ-loop
-returns-2 c = sym (c .before .before .before .before .loop .inv .1 ∙ eq-list-differ (now (c .before .before .before .before .before .before .args .a)) (now (c .before .before .before .before .before .before .args .b)) (c .before .before .before .before .loop .i) (omega arith) (omega (arith, c .before .before .before .before .before .if1 .left)) (c .if2 .taken))
+returns-2 c =
+    let at-loop = c .before .before .before .before in
+    let at-start = at-loop .before .before in
+    sym
+    (at-loop .loop .inv .1
+    ∙ eq-list-differ (now (at-start .args .a)) (now (at-start .args .b)) (at-loop .loop .i) (omega arith)
+    (omega (arith, at-loop .before .if1 .left)) (c .if2 .taken))
 
 add-i : tie.Need-add-i Inv-loop μ-loop
 add-i c = omega arith
@@ -38,10 +43,22 @@ loop-less : tie.Need-loop-less Inv-loop μ-loop
 loop-less c = omega arith
 
 loop-again : tie.Need-loop-again Inv-loop μ-loop
-loop-again c = (omega arith, c .before .before .before .before .loop .inv .1 ∙ eq-list-next (now (c .before .before .before .before .before .before .args .a)) (now (c .before .before .before .before .before .before .args .b)) (c .before .before .before .before .loop .i) (omega arith) (omega (arith, c .before .before .before .before .before .if1 .left)) (c .if2 .left))
+loop-again c =
+    let at-loop = c .before .before .before .before in
+    let at-start = at-loop .before .before in (
+      omega arith,
+      at-loop .loop .inv .1
+          ∙ eq-list-next (now (at-start .args .a)) (now (at-start .args .b)) (at-loop .loop .i) (omega arith)
+          (omega (arith, at-loop .before .if1 .left)) (c .if2 .left),
+    )
 
 returns-3 : tie.Need-returns-3 Inv-loop μ-loop
-returns-3 c = sym (c .before .loop .inv .1 ∙ eq-list-end (now (c .before .before .before .args .a)) (now (c .before .before .before .args .b)) (c .before .loop .i) (omega arith) (omega (arith, c .before .before .if1 .left)))
+returns-3 c =
+    let at-start = c .before .before .before in
+    sym
+    (c .before .loop .inv .1
+    ∙ eq-list-end (now (at-start .args .a)) (now (at-start .args .b)) (c .before .loop .i) (omega arith)
+    (omega (arith, c .before .before .if1 .left)))
 
 pub same-bytes-spec : {M : Type 1} → statement M
 same-bytes-spec =

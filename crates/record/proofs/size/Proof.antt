@@ -1,10 +1,8 @@
+-- `size` meets its contract: the two bytes at their place in the last record.
 use Rattle.record.specs.Fields.{size}
 use borrow.Author.Needs.{needs}
 use Rattle.record.proofs.size.Statement.{statement}
 use Rattle.record.proofs.size.Tie as tie
-use Rattle.record.proofs.size.Reads as reads
-use Rattle.record.proofs.size.Lts as lts
-use Rattle.record.proofs.read_u16.Reads as read-u16-reads
 
 sub-read-u16 : tie.Need-sub-read-u16
 sub-read-u16 c = search needs

@@ -1,11 +1,9 @@
+-- `spare` meets its contract: the three bytes at their place in the last record.
 use Rattle.record.specs.Fields.{spare}
 use native.Mathlib.Omega.{arith}
 use borrow.Author.Needs.{needs}
 use Rattle.record.proofs.spare.Statement.{statement}
 use Rattle.record.proofs.spare.Tie as tie
-use Rattle.record.proofs.spare.Reads as reads
-use Rattle.record.proofs.spare.Lts as lts
-use Rattle.record.proofs.wide.Reads as wide-reads
 
 sub-wide : tie.Need-sub-wide
 sub-wide c = search needs

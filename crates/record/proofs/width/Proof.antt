@@ -1,9 +1,8 @@
+-- `width` meets its contract: the byte at its place in the last record.
 use Rattle.record.specs.Fields.{width}
 use borrow.Author.Needs.{needs}
 use Rattle.record.proofs.width.Statement.{statement}
 use Rattle.record.proofs.width.Tie as tie
-use Rattle.record.proofs.width.Reads as reads
-use Rattle.record.proofs.width.Lts as lts
 
 sub-result : tie.Need-sub-result
 sub-result c = search needs

@@ -1,11 +1,9 @@
+-- `tag_hash` meets its contract: its product wraps.
 use Rattle.expr.specs.Hash.{tagHash}
 use Rattle.arith.specs.Width.{wrappingMul}
 use borrow.Author.Needs.{needs}
 use Rattle.expr.proofs.hash.tag_hash.Statement.{statement}
 use Rattle.expr.proofs.hash.tag_hash.Tie as tie
-use Rattle.expr.proofs.hash.tag_hash.Reads as reads
-use Rattle.expr.proofs.hash.tag_hash.Lts as lts
-use Rattle.arith.proofs.wrapping_mul.Reads as wrapping-mul-reads
 
 wrapping-mul-requires : tie.Need-wrapping-mul-requires
 wrapping-mul-requires c κs = search needs

@@ -1,11 +1,9 @@
+-- `var_hash` meets its contract: its product wraps.
 use Rattle.expr.specs.Hash.{varHash}
 use Rattle.arith.specs.Width.{wrappingMul}
 use borrow.Author.Needs.{needs}
 use Rattle.expr.proofs.hash.var_hash.Statement.{statement}
 use Rattle.expr.proofs.hash.var_hash.Tie as tie
-use Rattle.expr.proofs.hash.var_hash.Reads as reads
-use Rattle.expr.proofs.hash.var_hash.Lts as lts
-use Rattle.arith.proofs.wrapping_mul.Reads as wrapping-mul-reads
 
 add-wrapping-mul : tie.Need-add-wrapping-mul
 add-wrapping-mul c = search needs

@@ -1,12 +1,9 @@
+-- `expr_refusal` meets its contract: the length first, then the records.
 use Rattle.expr.specs.Refusal.{exprRefusal}
 use borrow.Author.Tests.{eq-eqb, ne-eqb, lt-ltb, le-ltb}
 use borrow.Author.Needs.{needs}
 use Rattle.expr.proofs.refusal.expr_refusal.Statement.{statement}
 use Rattle.expr.proofs.refusal.expr_refusal.Tie as tie
-use Rattle.expr.proofs.refusal.expr_refusal.Reads as reads
-use Rattle.expr.proofs.refusal.expr_refusal.Lts as lts
-use Rattle.expr.proofs.refusal.tree_refusal.Reads as tree-refusal-reads
-use Rattle.record.proofs.width.Reads as width-reads
 
 returns : tie.Need-returns
 unfolding exprRefusal
@@ -18,7 +15,8 @@ returns-2 c = simp (ne-eqb _ _ (c .before .if1 .left), lt-ltb _ _ (c .if2 .taken
 
 returns-3 : tie.Need-returns-3
 unfolding exprRefusal
-returns-3 c = simp (ne-eqb _ _ (c .before .before .if1 .left), le-ltb _ _ (c .before .if2 .left), ne-eqb _ _ (c .if3 .taken))
+returns-3 c =
+    simp (ne-eqb _ _ (c .before .before .if1 .left), le-ltb _ _ (c .before .if2 .left), ne-eqb _ _ (c .if3 .taken))
 
 width-requires : tie.Need-width-requires
 width-requires c κs = search needs
@@ -31,7 +29,14 @@ cast-result c = search needs
 
 returns-4 : tie.Need-returns-4
 unfolding exprRefusal
-returns-4 c = simp (ne-eqb _ _ (c .before .before .before .before .if1 .left), le-ltb _ _ (c .before .before .before .if2 .left), eq-eqb _ _ (c .before .before .if3 .left), ← c .before .width .ensures) (c .tree-refusal .ensures)
+returns-4 c =
+    let at-if2 = c .before .before .before in
+    simp (
+      ne-eqb _ _ (at-if2 .before .if1 .left),
+      le-ltb _ _ (at-if2 .if2 .left),
+      eq-eqb _ _ (c .before .before .if3 .left),
+      ← c .before .width .ensures,
+    ) (c .tree-refusal .ensures)
 
 pub expr-refusal-spec : {M : Type 1} → statement M
 expr-refusal-spec =

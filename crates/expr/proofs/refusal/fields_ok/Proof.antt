@@ -1,12 +1,10 @@
+-- `fields_ok` meets its contract: a case for each test.
 use Rattle.expr.specs.Refusal.{fieldsOk, usesByte1}
 use borrow.Author.Tests.{eq-eqb, ne-eqb}
 use mathlib.Core.Path.{sym, _∙_}
 use borrow.Author.Needs.{needs}
 use Rattle.expr.proofs.refusal.fields_ok.Statement.{statement}
 use Rattle.expr.proofs.refusal.fields_ok.Tie as tie
-use Rattle.expr.proofs.refusal.fields_ok.Reads as reads
-use Rattle.expr.proofs.refusal.fields_ok.Lts as lts
-use Rattle.expr.proofs.refusal.uses_byte1.Reads as uses-byte1-reads
 
 returns : tie.Need-returns
 unfolding fieldsOk usesByte1
@@ -21,11 +19,23 @@ uses-byte1-requires c κs = search needs
 
 returns-3 : tie.Need-returns-3
 unfolding fieldsOk
-returns-3 c = simp (ne-eqb _ _ (c .before .before .before .if1 .left), eq-eqb _ _ (c .before .before .if2 .left), sym (c .before .uses-byte1 .ensures) ∙ c .if3 .taken)
+returns-3 c =
+    let at-if1 = c .before .before .before in
+    simp (
+      ne-eqb _ _ (at-if1 .if1 .left),
+      eq-eqb _ _ (c .before .before .if2 .left),
+      sym (c .before .uses-byte1 .ensures) ∙ c .if3 .taken,
+    )
 
 returns-4 : tie.Need-returns-4
 unfolding fieldsOk
-returns-4 c = simp (ne-eqb _ _ (c .before .before .before .if1 .left), eq-eqb _ _ (c .before .before .if2 .left), sym (c .before .uses-byte1 .ensures) ∙ c .if3 .left)
+returns-4 c =
+    let at-if1 = c .before .before .before in
+    simp (
+      ne-eqb _ _ (at-if1 .if1 .left),
+      eq-eqb _ _ (c .before .before .if2 .left),
+      sym (c .before .uses-byte1 .ensures) ∙ c .if3 .left,
+    )
 
 pub fields-ok-spec : {M : Type 1} → statement M
 fields-ok-spec = tie.close (tie.spec returns returns-2 uses-byte1-requires returns-3 returns-4)

@@ -1,17 +1,10 @@
+-- `form_ok` meets its contract: a case for each test.
 use Rattle.expr.specs.Refusal.{formOk}
 use borrow.Author.Tests.{eq-eqb, ne-eqb, lt-leb, le-leb, not-true, not-false}
 use mathlib.Core.Path.{sym, _∙_}
 use borrow.Author.Needs.{needs}
 use Rattle.expr.proofs.refusal.form_ok.Statement.{statement}
 use Rattle.expr.proofs.refusal.form_ok.Tie as tie
-use Rattle.expr.proofs.refusal.form_ok.Reads as reads
-use Rattle.expr.proofs.refusal.form_ok.Lts as lts
-use Rattle.expr.proofs.refusal.fields_ok.Reads as fields-ok-reads
-use Rattle.expr.proofs.refusal.size_ok.Reads as size-ok-reads
-use Rattle.record.proofs.byte1.Reads as byte1-reads
-use Rattle.record.proofs.kind.Reads as kind-reads
-use Rattle.record.proofs.literal.Reads as literal-reads
-use Rattle.record.proofs.spare.Reads as spare-reads
 
 kind-requires : tie.Need-kind-requires
 kind-requires c κs = search needs
@@ -25,14 +18,28 @@ size-ok-requires c κs = search needs
 
 returns-2 : tie.Need-returns-2
 unfolding formOk
-returns-2 c = simp (← c .before .before .before .kind .ensures, le-leb _ _ (c .before .before .if1 .left), sym (c .before .size-ok .ensures) ∙ not-true _ (c .if2 .taken))
+returns-2 c =
+    let at-kind = c .before .before .before in
+    simp (
+      ← at-kind .kind .ensures,
+      le-leb _ _ (c .before .before .if1 .left),
+      sym (c .before .size-ok .ensures) ∙ not-true _ (c .if2 .taken),
+    )
 
 spare-requires : tie.Need-spare-requires
 spare-requires c κs = search needs
 
 returns-3 : tie.Need-returns-3
 unfolding formOk
-returns-3 c = simp (← c .before .before .before .before .before .kind .ensures, le-leb _ _ (c .before .before .before .before .if1 .left), sym (c .before .before .before .size-ok .ensures) ∙ not-false _ (c .before .before .if2 .left), ← c .before .spare .ensures, ne-eqb _ _ (c .if3 .taken))
+returns-3 c =
+    let at-size-ok = c .before .before .before in
+    simp (
+      ← at-size-ok .before .before .kind .ensures,
+      le-leb _ _ (at-size-ok .before .if1 .left),
+      sym (at-size-ok .size-ok .ensures) ∙ not-false _ (c .before .before .if2 .left),
+      ← c .before .spare .ensures,
+      ne-eqb _ _ (c .if3 .taken),
+    )
 
 byte1-requires : tie.Need-byte1-requires
 byte1-requires c κs = search needs
@@ -45,7 +52,18 @@ fields-ok-requires c κs = search needs
 
 returns-4 : tie.Need-returns-4
 unfolding formOk
-returns-4 c = simp (← c .before .before .before .before .before .before .before .before .kind .ensures, le-leb _ _ (c .before .before .before .before .before .before .before .if1 .left), sym (c .before .before .before .before .before .before .size-ok .ensures) ∙ not-false _ (c .before .before .before .before .before .if2 .left), ← c .before .before .before .before .spare .ensures, eq-eqb _ _ (c .before .before .before .if3 .left), ← c .before .before .byte1 .ensures, ← c .before .literal .ensures) (c .fields-ok .ensures)
+returns-4 c =
+    let at-if3 = c .before .before .before in
+    let at-size-ok = at-if3 .before .before .before in
+    simp (
+      ← at-size-ok .before .before .kind .ensures,
+      le-leb _ _ (at-size-ok .before .if1 .left),
+      sym (at-size-ok .size-ok .ensures) ∙ not-false _ (at-if3 .before .before .if2 .left),
+      ← at-if3 .before .spare .ensures,
+      eq-eqb _ _ (at-if3 .if3 .left),
+      ← c .before .before .byte1 .ensures,
+      ← c .before .literal .ensures,
+    ) (c .fields-ok .ensures)
 
 pub form-ok-spec : {M : Type 1} → statement M
 form-ok-spec =

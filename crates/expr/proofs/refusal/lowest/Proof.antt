@@ -1,11 +1,10 @@
+-- `lowest` meets its contract: 0 is no refusal.
 use Rattle.expr.specs.Refusal.{lowest}
 use borrow.Author.Tests.{eq-eqb, ne-eqb}
 use native.Mathlib.Nat.{min-eq-left, min-eq-right, le-of-lt}
 use mathlib.Core.Path.{sym}
 use Rattle.expr.proofs.refusal.lowest.Statement.{statement}
 use Rattle.expr.proofs.refusal.lowest.Tie as tie
-use Rattle.expr.proofs.refusal.lowest.Reads as reads
-use Rattle.expr.proofs.refusal.lowest.Lts as lts
 
 returns : tie.Need-returns
 unfolding lowest
@@ -17,11 +16,19 @@ returns-2 c = simp (ne-eqb _ _ (c .before .if1 .left), eq-eqb _ _ (c .if2 .taken
 
 returns-3 : tie.Need-returns-3
 unfolding lowest
-returns-3 c = simp (ne-eqb _ _ (c .before .before .if1 .left), ne-eqb _ _ (c .before .if2 .left)) (sym (min-eq-left (c .if3 .taken)))
+returns-3 c =
+    simp (
+      ne-eqb _ _ (c .before .before .if1 .left),
+      ne-eqb _ _ (c .before .if2 .left),
+    ) (sym (min-eq-left (c .if3 .taken)))
 
 returns-4 : tie.Need-returns-4
 unfolding lowest
-returns-4 c = simp (ne-eqb _ _ (c .before .before .if1 .left), ne-eqb _ _ (c .before .if2 .left)) (sym (min-eq-right (le-of-lt (c .if3 .left))))
+returns-4 c =
+    simp (
+      ne-eqb _ _ (c .before .before .if1 .left),
+      ne-eqb _ _ (c .before .if2 .left),
+    ) (sym (min-eq-right (le-of-lt (c .if3 .left))))
 
 pub lowest-spec : {M : Type 1} → statement M
 lowest-spec = tie.close (tie.spec returns returns-2 returns-3 returns-4)

@@ -1,16 +1,10 @@
+-- `root_refusal` meets its contract: a case for each refusal, the lowest first.
 use Rattle.expr.specs.Refusal.{rootRefusal}
 use borrow.Author.Tests.{eq-eqb, ne-eqb, lt-ltb, le-ltb, not-true, not-false}
 use mathlib.Core.Path.{sym, _∙_}
 use borrow.Author.Needs.{needs}
 use Rattle.expr.proofs.refusal.root_refusal.Statement.{statement}
 use Rattle.expr.proofs.refusal.root_refusal.Tie as tie
-use Rattle.expr.proofs.refusal.root_refusal.Reads as reads
-use Rattle.expr.proofs.refusal.root_refusal.Lts as lts
-use Rattle.expr.proofs.refusal.form_ok.Reads as form-ok-reads
-use Rattle.expr.proofs.refusal.width_ok.Reads as width-ok-reads
-use Rattle.record.proofs.amount.Reads as amount-reads
-use Rattle.record.proofs.kind.Reads as kind-reads
-use Rattle.record.proofs.width.Reads as width-reads
 
 form-ok-requires : tie.Need-form-ok-requires
 form-ok-requires c κs = search needs
@@ -27,29 +21,80 @@ width-ok-requires c κs = search needs
 
 returns-2 : tie.Need-returns-2
 unfolding rootRefusal
-returns-2 c = simp (sym (c .before .before .before .before .form-ok .ensures) ∙ not-false _ (c .before .before .before .if1 .left), ← c .before .before .width .ensures, sym (c .before .width-ok .ensures) ∙ not-true _ (c .if2 .taken))
+returns-2 c =
+    let at-if1 = c .before .before .before in
+    simp (
+      sym (at-if1 .before .form-ok .ensures) ∙ not-false _ (at-if1 .if1 .left),
+      ← c .before .before .width .ensures,
+      sym (c .before .width-ok .ensures) ∙ not-true _ (c .if2 .taken),
+    )
 
 kind-requires : tie.Need-kind-requires
 kind-requires c κs = search needs
 
 returns-3 : tie.Need-returns-3
 unfolding rootRefusal
-returns-3 c = simp (sym (c .before .before .before .before .before .before .form-ok .ensures) ∙ not-false _ (c .before .before .before .before .before .if1 .left), ← c .before .before .before .before .width .ensures, sym (c .before .before .before .width-ok .ensures) ∙ not-false _ (c .before .before .if2 .left), ← c .before .kind .ensures, lt-ltb _ _ (c .if3 .taken))
+returns-3 c =
+    let at-width-ok = c .before .before .before in
+    let at-form-ok = at-width-ok .before .before .before in
+    simp (
+      sym (at-form-ok .form-ok .ensures) ∙ not-false _ (at-width-ok .before .before .if1 .left),
+      ← at-width-ok .before .width .ensures,
+      sym (at-width-ok .width-ok .ensures) ∙ not-false _ (c .before .before .if2 .left),
+      ← c .before .kind .ensures,
+      lt-ltb _ _ (c .if3 .taken),
+    )
 
 amount-requires : tie.Need-amount-requires
 amount-requires c κs = search needs
 
 returns-4 : tie.Need-returns-4
 unfolding rootRefusal
-returns-4 c = simp (sym (c .before .before .before .before .before .before .before .before .before .form-ok .ensures) ∙ not-false _ (c .before .before .before .before .before .before .before .before .if1 .left), ← c .before .before .before .before .before .before .before .width .ensures, sym (c .before .before .before .before .before .before .width-ok .ensures) ∙ not-false _ (c .before .before .before .before .before .if2 .left), ← c .before .before .before .before .kind .ensures, le-ltb _ _ (c .before .before .before .if3 .left), eq-eqb _ _ (c .before .before .if4 .taken), ← c .before .amount .ensures .0, lt-ltb _ _ (c .if5 .taken))
+returns-4 c =
+    let at-if3 = c .before .before .before in
+    let at-width-ok = at-if3 .before .before .before in
+    let at-form-ok = at-width-ok .before .before .before in
+    simp (
+      sym (at-form-ok .form-ok .ensures) ∙ not-false _ (at-width-ok .before .before .if1 .left),
+      ← at-width-ok .before .width .ensures,
+      sym (at-width-ok .width-ok .ensures) ∙ not-false _ (at-if3 .before .before .if2 .left),
+      ← at-if3 .before .kind .ensures,
+      le-ltb _ _ (at-if3 .if3 .left),
+      eq-eqb _ _ (c .before .before .if4 .taken),
+      ← c .before .amount .ensures .0,
+      lt-ltb _ _ (c .if5 .taken),
+    )
 
 returns-5 : tie.Need-returns-5
 unfolding rootRefusal
-returns-5 c = simp (sym (c .before .before .before .before .before .before .before .before .before .form-ok .ensures) ∙ not-false _ (c .before .before .before .before .before .before .before .before .if1 .left), ← c .before .before .before .before .before .before .before .width .ensures, sym (c .before .before .before .before .before .before .width-ok .ensures) ∙ not-false _ (c .before .before .before .before .before .if2 .left), ← c .before .before .before .before .kind .ensures, le-ltb _ _ (c .before .before .before .if3 .left), eq-eqb _ _ (c .before .before .if4 .taken), ← c .before .amount .ensures .0, le-ltb _ _ (c .if5 .left))
+returns-5 c =
+    let at-if3 = c .before .before .before in
+    let at-width-ok = at-if3 .before .before .before in
+    let at-form-ok = at-width-ok .before .before .before in
+    simp (
+      sym (at-form-ok .form-ok .ensures) ∙ not-false _ (at-width-ok .before .before .if1 .left),
+      ← at-width-ok .before .width .ensures,
+      sym (at-width-ok .width-ok .ensures) ∙ not-false _ (at-if3 .before .before .if2 .left),
+      ← at-if3 .before .kind .ensures,
+      le-ltb _ _ (at-if3 .if3 .left),
+      eq-eqb _ _ (c .before .before .if4 .taken),
+      ← c .before .amount .ensures .0,
+      le-ltb _ _ (c .if5 .left),
+    )
 
 returns-6 : tie.Need-returns-6
 unfolding rootRefusal
-returns-6 c = simp (sym (c .before .before .before .before .before .before .before .form-ok .ensures) ∙ not-false _ (c .before .before .before .before .before .before .if1 .left), ← c .before .before .before .before .before .width .ensures, sym (c .before .before .before .before .width-ok .ensures) ∙ not-false _ (c .before .before .before .if2 .left), ← c .before .before .kind .ensures, le-ltb _ _ (c .before .if3 .left), ne-eqb _ _ (c .if4 .left))
+returns-6 c =
+    let at-if2 = c .before .before .before in
+    let at-if1 = at-if2 .before .before .before in
+    simp (
+      sym (at-if1 .before .form-ok .ensures) ∙ not-false _ (at-if1 .if1 .left),
+      ← at-if2 .before .before .width .ensures,
+      sym (at-if2 .before .width-ok .ensures) ∙ not-false _ (at-if2 .if2 .left),
+      ← c .before .before .kind .ensures,
+      le-ltb _ _ (c .before .if3 .left),
+      ne-eqb _ _ (c .if4 .left),
+    )
 
 pub root-refusal-spec : {M : Type 1} → statement M
 root-refusal-spec =

@@ -1,12 +1,9 @@
+-- `size_ok` meets its contract: a case for each test.
 use Rattle.expr.specs.Refusal.{sizeOk}
 use borrow.Author.Tests.{eq-eqb, ne-eqb, lt-ltb, le-ltb}
 use borrow.Author.Needs.{needs}
 use Rattle.expr.proofs.refusal.size_ok.Statement.{statement}
 use Rattle.expr.proofs.refusal.size_ok.Tie as tie
-use Rattle.expr.proofs.refusal.size_ok.Reads as reads
-use Rattle.expr.proofs.refusal.size_ok.Lts as lts
-use Rattle.record.proofs.kind.Reads as kind-reads
-use Rattle.record.proofs.size.Reads as size-reads
 
 size-requires : tie.Need-size-requires
 size-requires c κs = search needs
@@ -23,11 +20,25 @@ kind-requires c κs = search needs
 
 returns-2 : tie.Need-returns-2
 unfolding sizeOk
-returns-2 c = simp (← c .before .before .before .size .ensures .0, ← c .before .kind .ensures, eq-eqb _ _ (c .before .before .if1 .left), lt-ltb _ _ (c .if2 .taken))
+returns-2 c =
+    let at-size = c .before .before .before in
+    simp (
+      ← at-size .size .ensures .0,
+      ← c .before .kind .ensures,
+      eq-eqb _ _ (c .before .before .if1 .left),
+      lt-ltb _ _ (c .if2 .taken),
+    )
 
 returns-3 : tie.Need-returns-3
 unfolding sizeOk
-returns-3 c = simp (← c .before .before .before .size .ensures .0, ← c .before .kind .ensures, eq-eqb _ _ (c .before .before .if1 .left), le-ltb _ _ (c .if2 .left))
+returns-3 c =
+    let at-size = c .before .before .before in
+    simp (
+      ← at-size .size .ensures .0,
+      ← c .before .kind .ensures,
+      eq-eqb _ _ (c .before .before .if1 .left),
+      le-ltb _ _ (c .if2 .left),
+    )
 
 pub size-ok-spec : {M : Type 1} → statement M
 size-ok-spec = tie.close (tie.spec size-requires mul-if1 returns kind-requires returns-2 returns-3)

@@ -1,9 +1,8 @@
+-- `uses_byte1` meets its contract: a case for each test.
 use Rattle.expr.specs.Refusal.{usesByte1}
 use borrow.Author.Tests.{ne-eqb, lt-ltb, le-ltb}
 use Rattle.expr.proofs.refusal.uses_byte1.Statement.{statement}
 use Rattle.expr.proofs.refusal.uses_byte1.Tie as tie
-use Rattle.expr.proofs.refusal.uses_byte1.Reads as reads
-use Rattle.expr.proofs.refusal.uses_byte1.Lts as lts
 
 returns : tie.Need-returns
 unfolding usesByte1

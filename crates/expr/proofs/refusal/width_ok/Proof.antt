@@ -1,9 +1,8 @@
+-- `width_ok` meets its contract: a case for each test.
 use Rattle.expr.specs.Refusal.{widthOk}
 use borrow.Author.Tests.{eq-eqb, ne-eqb, lt-leb, le-leb}
 use Rattle.expr.proofs.refusal.width_ok.Statement.{statement}
 use Rattle.expr.proofs.refusal.width_ok.Tie as tie
-use Rattle.expr.proofs.refusal.width_ok.Reads as reads
-use Rattle.expr.proofs.refusal.width_ok.Lts as lts
 
 returns : tie.Need-returns
 unfolding widthOk

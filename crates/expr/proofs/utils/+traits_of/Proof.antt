@@ -1,3 +1,4 @@
+-- `traits_of` meets its contract: the equation of the fold at a root without, with one and with two children.
 use Rattle.record.proofs.SizedLaws.{sized-big}
 use Rattle.record.proofs.DecodeLaws.{decode-leaf, decode-one, decode-two, child-body, child-left, child-right}
 use Rattle.record.specs.Fields.{size}
@@ -6,9 +7,9 @@ use native.Mathlib.Omega.{arith}
 use borrow.Author.Needs.{needs}
 use Rattle.expr.proofs.UtilsLaws.{traits-one, traits-two}
 use Rattle.record.proofs.DecodeLaws.{kind-inner}
-use mathlib.Core.Path.{_≡_, ap, ap₂, _∙_, sym}
-use Rattle.expr.specs.Utils.{traitsOf, joinTraits, nodeTraits}
-use Rattle.record.specs.Fields.{kind, amount}
+use mathlib.Core.Path.{ap₂, _∙_}
+use Rattle.expr.specs.Utils.{joinTraits, nodeTraits}
+use Rattle.record.specs.Fields.{kind}
 use Prim.Native.Nat.{ℕ, _<_}
 use borrow.Fn.Kinds.{In}
 use borrow.Fn.PlainCycle.{Measures, is, falls, and}
@@ -37,16 +38,41 @@ traits-of-below t =
     and 1 traits-of-kinds.ps (falls 1 traits-of-kinds.ps _<_ μ-traits-of t) traits-of.Pre
 
 abbrev claims : ℕ → traits-of-lts.Claims
-claims t = (root-arity-reads.Asked, root-arity-reads.Learnt, leaf-traits-reads.Asked, leaf-traits-reads.Learnt, kind-reads.Asked, kind-reads.Learnt, body-reads.Asked, body-reads.Learnt, traits-of-below t, traits-of.Post, node-traits-reads.Asked, node-traits-reads.Learnt, left-reads.Asked, left-reads.Learnt, right-reads.Asked, right-reads.Learnt, join-traits-reads.Asked, join-traits-reads.Learnt)
+claims t = (
+  root-arity-reads.Asked,
+  root-arity-reads.Learnt,
+  leaf-traits-reads.Asked,
+  leaf-traits-reads.Learnt,
+  kind-reads.Asked,
+  kind-reads.Learnt,
+  body-reads.Asked,
+  body-reads.Learnt,
+  traits-of-below t,
+  traits-of.Post,
+  node-traits-reads.Asked,
+  node-traits-reads.Learnt,
+  left-reads.Asked,
+  left-reads.Learnt,
+  right-reads.Asked,
+  right-reads.Learnt,
+  join-traits-reads.Asked,
+  join-traits-reads.Learnt,
+)
 
-traits-of-root-arity-requires : (t : ℕ) → traits-of-lts.Need-root-arity-requires (claims t) (traits-of-at t) traits-of.Post
+traits-of-root-arity-requires : (t : ℕ)
+    → traits-of-lts.Need-root-arity-requires (claims t) (traits-of-at t) traits-of.Post
 traits-of-root-arity-requires t c κs = sized-big _ (c .before .pre .1)
 
-traits-of-leaf-traits-requires : (t : ℕ) → traits-of-lts.Need-leaf-traits-requires (claims t) (traits-of-at t) traits-of.Post
+traits-of-leaf-traits-requires : (t : ℕ)
+    → traits-of-lts.Need-leaf-traits-requires (claims t) (traits-of-at t) traits-of.Post
 traits-of-leaf-traits-requires t c κs = sized-big _ (c .before .before .before .pre .1)
 
 traits-of-returns : (t : ℕ) → traits-of-lts.Need-returns (claims t) (traits-of-at t) traits-of.Post
-traits-of-returns t c = rw (decode-leaf (now (c .before .before .before .before .args .t)) (c .before .before .before .before .pre .1) (c .before .before .root-arity .ensures) (c .before .if1 .taken)) (c .leaf-traits .ensures)
+traits-of-returns t c =
+    let at-start = c .before .before .before .before in
+    rw
+    (decode-leaf (now (at-start .args .t)) (at-start .pre .1) (c .before .before .root-arity .ensures)
+    (c .before .if1 .taken)) (c .leaf-traits .ensures)
 
 traits-of-kind-requires : (t : ℕ) → traits-of-lts.Need-kind-requires (claims t) (traits-of-at t) traits-of.Post
 traits-of-kind-requires t c κs = sized-big _ (c .before .before .before .pre .1)
@@ -54,35 +80,85 @@ traits-of-kind-requires t c κs = sized-big _ (c .before .before .before .pre .1
 traits-of-body-requires : (t : ℕ) → traits-of-lts.Need-body-requires (claims t) (traits-of-at t) traits-of.Post
 traits-of-body-requires t c κs = search needs
 
-traits-of-traits-of-requires : (t : ℕ) → traits-of-lts.Need-traits-of-requires (claims t) (traits-of-at t) traits-of.Post
-traits-of-traits-of-requires t c κs = let r = child-body (now (c .before .before .before .before .before .before .args .t)) (c .before .before .before .before .before .before .pre .1) (c .before .before .before .before .root-arity .ensures) (c .before .if2 .taken) (c .body .ensures) in (omega (arith, r .falls), r .ok)
+traits-of-traits-of-requires : (t : ℕ)
+    → traits-of-lts.Need-traits-of-requires (claims t) (traits-of-at t) traits-of.Post
+traits-of-traits-of-requires t c κs =
+    let at-root-arity = c .before .before .before .before in
+    let at-start = at-root-arity .before .before in
+    let r =
+    child-body (now (at-start .args .t)) (at-start .pre .1) (at-root-arity .root-arity .ensures) (c .before .if2 .taken)
+    (c .body .ensures) in
+    (omega (arith, r .falls), r .ok)
 
-traits-of-node-traits-requires : (t : ℕ) → traits-of-lts.Need-node-traits-requires (claims t) (traits-of-at t) traits-of.Post
+traits-of-node-traits-requires : (t : ℕ)
+    → traits-of-lts.Need-node-traits-requires (claims t) (traits-of-at t) traits-of.Post
 traits-of-node-traits-requires t c κs = tt
 
 traits-of-returns-2 : (t : ℕ) → traits-of-lts.Need-returns-2 (claims t) (traits-of-at t) traits-of.Post
-traits-of-returns-2 t c = rw (decode-one (now (c .before .before .before .before .before .before .before .before .args .t)) (c .before .before .before .before .before .before .before .before .pre .1) (c .before .before .before .before .before .before .root-arity .ensures) (c .before .before .before .if2 .taken) (c .before .before .body .ensures)) (c .node-traits .ensures ∙ ap₂ nodeTraits (c .before .before .before .before .kind .ensures) (c .before .traits-of .ensures) ∙ traits-one _ _ _ (kind-inner (now (c .before .before .before .before .before .before .before .before .args .t)) (c .before .before .before .before .before .before .before .before .pre .1) (c .before .before .before .before .before .before .root-arity .ensures) (c .before .before .before .before .before .if1 .left)))
+traits-of-returns-2 t c =
+    let at-if2 = c .before .before .before in
+    let at-root-arity = at-if2 .before .before .before in
+    let at-start = at-root-arity .before .before in
+    rw
+    (decode-one (now (at-start .args .t)) (at-start .pre .1) (at-root-arity .root-arity .ensures) (at-if2 .if2 .taken)
+    (c .before .before .body .ensures))
+    (c .node-traits .ensures
+    ∙ ap₂ nodeTraits (at-if2 .before .kind .ensures) (c .before .traits-of .ensures)
+    ∙ traits-one _ _ _
+    (kind-inner (now (at-start .args .t)) (at-start .pre .1) (at-root-arity .root-arity .ensures)
+    (at-if2 .before .before .if1 .left)))
 
 traits-of-left-requires : (t : ℕ) → traits-of-lts.Need-left-requires (claims t) (traits-of-at t) traits-of.Post
 traits-of-left-requires t c κs = search needs
 
-traits-of-traits-of-requires-2 : (t : ℕ) → traits-of-lts.Need-traits-of-requires-2 (claims t) (traits-of-at t) traits-of.Post
-traits-of-traits-of-requires-2 t c κs = let r = child-left (now (c .before .before .before .before .before .before .args .t)) (c .before .before .before .before .before .before .pre .1) (c .before .before .before .before .root-arity .ensures) (c .before .before .before .if1 .left) (c .before .if2 .left) (c .left .ensures) in (omega (arith, r .falls), r .ok)
+traits-of-traits-of-requires-2 : (t : ℕ)
+    → traits-of-lts.Need-traits-of-requires-2 (claims t) (traits-of-at t) traits-of.Post
+traits-of-traits-of-requires-2 t c κs =
+    let at-if1 = c .before .before .before in
+    let at-start = at-if1 .before .before .before in
+    let r =
+    child-left (now (at-start .args .t)) (at-start .pre .1) (at-if1 .before .root-arity .ensures) (at-if1 .if1 .left)
+    (c .before .if2 .left) (c .left .ensures) in
+    (omega (arith, r .falls), r .ok)
 
 traits-of-right-requires : (t : ℕ) → traits-of-lts.Need-right-requires (claims t) (traits-of-at t) traits-of.Post
 traits-of-right-requires t c κs = search needs
 
-traits-of-traits-of-requires-3 : (t : ℕ) → traits-of-lts.Need-traits-of-requires-3 (claims t) (traits-of-at t) traits-of.Post
-traits-of-traits-of-requires-3 t c κs = let r = child-right (now (c .before .before .before .before .before .before .before .before .args .t)) (c .before .before .before .before .before .before .before .before .pre .1) (c .before .before .before .before .before .before .root-arity .ensures) (c .before .before .before .before .before .if1 .left) (c .before .before .before .if2 .left) (c .right .ensures) in (omega (arith, r .falls), r .ok)
+traits-of-traits-of-requires-3 : (t : ℕ)
+    → traits-of-lts.Need-traits-of-requires-3 (claims t) (traits-of-at t) traits-of.Post
+traits-of-traits-of-requires-3 t c κs =
+    let at-if2 = c .before .before .before in
+    let at-root-arity = at-if2 .before .before .before in
+    let at-start = at-root-arity .before .before in
+    let r =
+    child-right (now (at-start .args .t)) (at-start .pre .1) (at-root-arity .root-arity .ensures)
+    (at-if2 .before .before .if1 .left) (at-if2 .if2 .left) (c .right .ensures) in
+    (omega (arith, r .falls), r .ok)
 
-traits-of-join-traits-requires : (t : ℕ) → traits-of-lts.Need-join-traits-requires (claims t) (traits-of-at t) traits-of.Post
+traits-of-join-traits-requires : (t : ℕ)
+    → traits-of-lts.Need-join-traits-requires (claims t) (traits-of-at t) traits-of.Post
 traits-of-join-traits-requires t c κs = tt
 
-traits-of-node-traits-requires-2 : (t : ℕ) → traits-of-lts.Need-node-traits-requires-2 (claims t) (traits-of-at t) traits-of.Post
+traits-of-node-traits-requires-2 : (t : ℕ)
+    → traits-of-lts.Need-node-traits-requires-2 (claims t) (traits-of-at t) traits-of.Post
 traits-of-node-traits-requires-2 t c κs = tt
 
 traits-of-returns-3 : (t : ℕ) → traits-of-lts.Need-returns-3 (claims t) (traits-of-at t) traits-of.Post
-traits-of-returns-3 t c = rw (decode-two (now (c .before .before .before .before .before .before .before .before .before .before .before .args .t)) (c .before .before .before .before .before .before .before .before .before .before .before .pre .1) (c .before .before .before .before .before .before .before .before .before .root-arity .ensures) (c .before .before .before .before .before .before .before .before .if1 .left) (c .before .before .before .before .before .before .if2 .left) (c .before .before .before .before .before .left .ensures) (c .before .before .before .right .ensures)) (c .node-traits2 .ensures ∙ ap₂ nodeTraits (c .before .before .before .before .before .before .before .kind .ensures) (c .before .join-traits .ensures ∙ ap₂ joinTraits (c .before .before .before .before .traits-of2 .ensures) (c .before .before .traits-of3 .ensures)) ∙ traits-two _ _ _ (kind-inner (now (c .before .before .before .before .before .before .before .before .before .before .before .args .t)) (c .before .before .before .before .before .before .before .before .before .before .before .pre .1) (c .before .before .before .before .before .before .before .before .before .root-arity .ensures) (c .before .before .before .before .before .before .before .before .if1 .left)))
+traits-of-returns-3 t c =
+    let at-right = c .before .before .before in
+    let at-if2 = at-right .before .before .before in
+    let at-if1 = at-if2 .before .before in
+    let at-root-arity = at-if1 .before in
+    let at-start = at-root-arity .before .before in
+    rw
+    (decode-two (now (at-start .args .t)) (at-start .pre .1) (at-root-arity .root-arity .ensures) (at-if1 .if1 .left)
+    (at-if2 .if2 .left) (at-right .before .before .left .ensures) (at-right .right .ensures))
+    (c .node-traits2 .ensures
+    ∙ ap₂ nodeTraits (at-if2 .before .kind .ensures)
+    (c .before .join-traits .ensures
+    ∙ ap₂ joinTraits (at-right .before .traits-of2 .ensures) (c .before .before .traits-of3 .ensures))
+    ∙ traits-two _ _ _
+    (kind-inner (now (at-start .args .t)) (at-start .pre .1) (at-root-arity .root-arity .ensures) (at-if1 .if1 .left)))
 
 pub +traits-of-spec : {M : Type 1} → statement M
 +traits-of-spec = close μ-traits-of λ t. traits-of-lts.spec (claims t)

@@ -1,11 +1,9 @@
+-- `constant_arith_at` meets its contract: a case for each test.
 use borrow.Author.Tests.{not-true, not-false}
 use mathlib.Core.Path.{sym, _∙_}
 use borrow.Author.Needs.{needs}
 use Rattle.expr.proofs.utils.constant_arith_at.Statement.{statement}
 use Rattle.expr.proofs.utils.constant_arith_at.Tie as tie
-use Rattle.expr.proofs.utils.constant_arith_at.Reads as reads
-use Rattle.expr.proofs.utils.constant_arith_at.Lts as lts
-use Rattle.expr.proofs.utils.is_bitwise.Reads as is-bitwise-reads
 
 is-bitwise-requires : tie.Need-is-bitwise-requires
 is-bitwise-requires c κs = search needs

@@ -1,12 +1,10 @@
+-- `has_var_dep` meets its contract: one of the traits of the tree.
 use Rattle.expr.specs.Utils.{traitsOf}
 use mathlib.Core.Path.{ap}
 use Rattle.expr.specs.declared.utils.Traits.{Traits}
 use borrow.Author.Needs.{needs}
 use Rattle.expr.proofs.utils.has_var_dep.Statement.{statement}
 use Rattle.expr.proofs.utils.has_var_dep.Tie as tie
-use Rattle.expr.proofs.utils.has_var_dep.Reads as reads
-use Rattle.expr.proofs.utils.has_var_dep.Lts as lts
-use Rattle.expr.proofs.utils.traits_of.Reads as traits-of-reads
 
 traits-of-requires : tie.Need-traits-of-requires
 traits-of-requires c κs = search needs

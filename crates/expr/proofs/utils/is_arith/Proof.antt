@@ -1,9 +1,8 @@
+-- `is_arith` meets its contract: a case for each kind.
 use Rattle.expr.specs.Utils.{isArith}
 use borrow.Author.Tests.{ne-eqb}
 use Rattle.expr.proofs.utils.is_arith.Statement.{statement}
 use Rattle.expr.proofs.utils.is_arith.Tie as tie
-use Rattle.expr.proofs.utils.is_arith.Reads as reads
-use Rattle.expr.proofs.utils.is_arith.Lts as lts
 
 returns : tie.Need-returns
 unfolding isArith
@@ -19,7 +18,8 @@ returns-3 c = rw (c .match .keys3)
 
 returns-4 : tie.Need-returns-4
 unfolding isArith
-returns-4 c = simp (ne-eqb _ _ (c .match .rest .0 .0 .1), ne-eqb _ _ (c .match .rest .0 .1), ne-eqb _ _ (c .match .rest .1))
+returns-4 c =
+    simp (ne-eqb _ _ (c .match .rest .0 .0 .1), ne-eqb _ _ (c .match .rest .0 .1), ne-eqb _ _ (c .match .rest .1))
 
 pub is-arith-spec : {M : Type 1} → statement M
 is-arith-spec = tie.close (tie.spec returns returns-2 returns-3 returns-4)

@@ -1,9 +1,8 @@
+-- `is_bitwise` meets its contract: a case for each test.
 use Rattle.expr.specs.Utils.{isBitwise}
 use borrow.Author.Tests.{lt-ltb, le-ltb}
 use Rattle.expr.proofs.utils.is_bitwise.Statement.{statement}
 use Rattle.expr.proofs.utils.is_bitwise.Tie as tie
-use Rattle.expr.proofs.utils.is_bitwise.Reads as reads
-use Rattle.expr.proofs.utils.is_bitwise.Lts as lts
 
 returns : tie.Need-returns
 unfolding isBitwise

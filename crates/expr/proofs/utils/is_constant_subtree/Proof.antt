@@ -1,3 +1,4 @@
+-- `is_constant_subtree` meets its contract: one of the traits of the tree, turned round.
 use Rattle.expr.specs.Utils.{traitsOf}
 use mathlib.Core.Path.{ap}
 use mathlib.Core.Bool.{not}
@@ -5,9 +6,6 @@ use Rattle.expr.specs.declared.utils.Traits.{Traits}
 use borrow.Author.Needs.{needs}
 use Rattle.expr.proofs.utils.is_constant_subtree.Statement.{statement}
 use Rattle.expr.proofs.utils.is_constant_subtree.Tie as tie
-use Rattle.expr.proofs.utils.is_constant_subtree.Reads as reads
-use Rattle.expr.proofs.utils.is_constant_subtree.Lts as lts
-use Rattle.expr.proofs.utils.traits_of.Reads as traits-of-reads
 
 traits-of-requires : tie.Need-traits-of-requires
 traits-of-requires c κs = search needs

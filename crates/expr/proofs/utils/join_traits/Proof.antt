@@ -1,10 +1,8 @@
+-- `join_traits` meets its contract: each trait is that of either child.
 use Rattle.expr.specs.Utils.{joinTraits}
 use borrow.Author.Needs.{needs}
 use Rattle.expr.proofs.utils.join_traits.Statement.{statement}
 use Rattle.expr.proofs.utils.join_traits.Tie as tie
-use Rattle.expr.proofs.utils.join_traits.Reads as reads
-use Rattle.expr.proofs.utils.join_traits.Lts as lts
-use Rattle.expr.proofs.utils.either.Reads as either-reads
 
 either-requires : tie.Need-either-requires
 either-requires c κs = search needs

@@ -1,12 +1,10 @@
+-- `leaf_traits` meets its contract: a literal or a variable.
 use Rattle.expr.specs.Utils.{traitsOf, hasKind, hasArith, hasConstantArith}
 use Rattle.record.specs.Decode.{leaf}
 use borrow.Author.Tests.{eq-eqb, ne-eqb}
 use borrow.Author.Needs.{needs}
 use Rattle.expr.proofs.utils.leaf_traits.Statement.{statement}
 use Rattle.expr.proofs.utils.leaf_traits.Tie as tie
-use Rattle.expr.proofs.utils.leaf_traits.Reads as reads
-use Rattle.expr.proofs.utils.leaf_traits.Lts as lts
-use Rattle.record.proofs.kind.Reads as kind-reads
 
 kind-requires : tie.Need-kind-requires
 kind-requires c κs = search needs

@@ -1,12 +1,8 @@
+-- `node_traits` meets its contract: each trait is the root's or the children's.
 use Rattle.expr.specs.Utils.{nodeTraits}
 use borrow.Author.Needs.{needs}
 use Rattle.expr.proofs.utils.node_traits.Statement.{statement}
 use Rattle.expr.proofs.utils.node_traits.Tie as tie
-use Rattle.expr.proofs.utils.node_traits.Reads as reads
-use Rattle.expr.proofs.utils.node_traits.Lts as lts
-use Rattle.expr.proofs.utils.constant_arith_at.Reads as constant-arith-at-reads
-use Rattle.expr.proofs.utils.either.Reads as either-reads
-use Rattle.expr.proofs.utils.is_arith.Reads as is-arith-reads
 
 either-requires : tie.Need-either-requires
 either-requires c κs = search needs

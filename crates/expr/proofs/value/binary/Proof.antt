@@ -1,3 +1,4 @@
+-- `binary` meets its contract: a case for each kind.
 use Rattle.expr.specs.Value.{binary}
 use borrow.Author.Tests.{ne-eqb}
 use Rattle.arith.proofs.WidthLaws.{mod-add, mod-mul}
@@ -5,10 +6,6 @@ use mathlib.Core.Path.{_∙_}
 use borrow.Author.Needs.{needs}
 use Rattle.expr.proofs.value.binary.Statement.{statement}
 use Rattle.expr.proofs.value.binary.Tie as tie
-use Rattle.expr.proofs.value.binary.Reads as reads
-use Rattle.expr.proofs.value.binary.Lts as lts
-use Rattle.arith.proofs.mod_add.Reads as mod-add-reads
-use Rattle.arith.proofs.mod_mul.Reads as mod-mul-reads
 
 mod-add-requires : tie.Need-mod-add-requires
 mod-add-requires c κs = search needs
@@ -38,7 +35,14 @@ returns-5 c = rw (c .match .keys5)
 
 returns-6 : tie.Need-returns-6
 unfolding binary
-returns-6 c = simp (ne-eqb _ _ (c .match .rest .0 .0 .0 .0 .1), ne-eqb _ _ (c .match .rest .0 .0 .0 .1), ne-eqb _ _ (c .match .rest .0 .0 .1), ne-eqb _ _ (c .match .rest .0 .1), ne-eqb _ _ (c .match .rest .1))
+returns-6 c =
+    simp (
+      ne-eqb _ _ (c .match .rest .0 .0 .0 .0 .1),
+      ne-eqb _ _ (c .match .rest .0 .0 .0 .1),
+      ne-eqb _ _ (c .match .rest .0 .0 .1),
+      ne-eqb _ _ (c .match .rest .0 .1),
+      ne-eqb _ _ (c .match .rest .1),
+    )
 
 pub binary-spec : {M : Type 1} → statement M
 binary-spec =

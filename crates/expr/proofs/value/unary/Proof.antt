@@ -1,3 +1,4 @@
+-- `unary` meets its contract: a case for each kind.
 use Rattle.expr.specs.Value.{unary}
 use borrow.Author.Tests.{ne-eqb}
 use Rattle.arith.proofs.WidthLaws.{mod-not, mod-neg, mod-shr-exact}
@@ -7,11 +8,6 @@ use Prim.Native.Nat.{ℕ, _-_, _%_, _^_}
 use borrow.Author.Needs.{needs}
 use Rattle.expr.proofs.value.unary.Statement.{statement}
 use Rattle.expr.proofs.value.unary.Tie as tie
-use Rattle.expr.proofs.value.unary.Reads as reads
-use Rattle.expr.proofs.value.unary.Lts as lts
-use Rattle.arith.proofs.mod_neg.Reads as mod-neg-reads
-use Rattle.arith.proofs.mod_not.Reads as mod-not-reads
-use Rattle.arith.proofs.mod_shr.Reads as mod-shr-reads
 
 mod-not-requires : tie.Need-mod-not-requires
 mod-not-requires c κs = search needs
@@ -24,19 +20,32 @@ mod-shr-requires c κs = search needs
 
 returns : tie.Need-returns
 unfolding unary
-returns c = rw (c .before .match .keys1) (c .mod-not .ensures ∙ mod-not _ _ (c .before .before .pre .0) ∙ ap (λ (y : ℕ). 2 ^ (c .before .before .args .w) - 1 - y) (mod-eq-of-lt (c .before .before .pre .1)))
+returns c =
+    let at-start = c .before .before in
+    rw (c .before .match .keys1)
+    (c .mod-not .ensures
+    ∙ mod-not _ _ (at-start .pre .0)
+    ∙ ap (λ (y : ℕ). 2 ^ (at-start .args .w) - 1 - y) (mod-eq-of-lt (at-start .pre .1)))
 
 returns-2 : tie.Need-returns-2
 unfolding unary
-returns-2 c = rw (c .before .match .keys2) (c .mod-neg .ensures ∙ mod-neg _ _ (c .before .before .pre .0) (search needs) ∙ ap (λ (y : ℕ). (2 ^ (c .before .before .args .w) - y) % 2 ^ (c .before .before .args .w)) (mod-eq-of-lt (c .before .before .pre .1)))
+returns-2 c =
+    let at-start = c .before .before in
+    rw (c .before .match .keys2)
+    (c .mod-neg .ensures
+    ∙ mod-neg _ _ (at-start .pre .0) (search needs)
+    ∙ ap (λ (y : ℕ). (2 ^ (at-start .args .w) - y) % 2 ^ (at-start .args .w)) (mod-eq-of-lt (at-start .pre .1)))
 
 returns-3 : tie.Need-returns-3
 unfolding unary
-returns-3 c = rw (c .before .match .keys3) (c .mod-shr .ensures ∙ mod-shr-exact _ _ _ (c .before .before .pre .0) (c .before .before .pre .1))
+returns-3 c =
+    let at-start = c .before .before in
+    rw (c .before .match .keys3) (c .mod-shr .ensures ∙ mod-shr-exact _ _ _ (at-start .pre .0) (at-start .pre .1))
 
 returns-4 : tie.Need-returns-4
 unfolding unary
-returns-4 c = simp (ne-eqb _ _ (c .match .rest .0 .0 .1), ne-eqb _ _ (c .match .rest .0 .1), ne-eqb _ _ (c .match .rest .1))
+returns-4 c =
+    simp (ne-eqb _ _ (c .match .rest .0 .0 .1), ne-eqb _ _ (c .match .rest .0 .1), ne-eqb _ _ (c .match .rest .1))
 
 pub unary-spec : {M : Type 1} → statement M
 unary-spec =

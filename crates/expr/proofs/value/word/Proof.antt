@@ -1,11 +1,10 @@
+-- `word` meets its contract: the word at its place, or 0 beyond the end.
 use denote.Ref.{now}
 use mathlib.Core.Path.{sym}
 use lib.ListN.{List·getD-eq-default}
 use borrow.Author.Needs.{needs}
 use Rattle.expr.proofs.value.word.Statement.{statement}
 use Rattle.expr.proofs.value.word.Tie as tie
-use Rattle.expr.proofs.value.word.Reads as reads
-use Rattle.expr.proofs.value.word.Lts as lts
 
 mul-result : tie.Need-mul-result
 mul-result c = search needs

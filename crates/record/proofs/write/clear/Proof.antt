@@ -1,15 +1,13 @@
 -- `clear` meets its contract: after i turns the first i bytes are zero and the rest is as it was.
 use mathlib.Core.Path.{_≡_, _∙_}
 use mathlib.Core.List.{List, _++_, append-nil}
-use Prim.Native.Nat.{ℕ, _≤_, _-_, _+_}
+use Prim.Native.Nat.{ℕ, _≤_, _-_}
 use native.Mathlib.Omega.{arith}
 use lib.ListN.{length, drop, replicate, length-set, drop-of-length-le}
 use borrow.Author.Fill.{fill-more}
 use borrow.Author.Needs.{needs}
 use Rattle.record.proofs.write.clear.Statement.{statement}
 use Rattle.record.proofs.write.clear.Tie as tie
-use Rattle.record.proofs.write.clear.Reads as reads
-use Rattle.record.proofs.write.clear.Lts as lts
 
 abbrev Inv-loop : tie.InvT-loop
 Inv-loop out₀ i₀ out i = (i ≤ length out₀) × (length out ≡ length out₀) × (out ≡ replicate i 0 ++ drop i out₀)

@@ -8,8 +8,6 @@ use lib.Seq.{paste, paste-zero, paste-suc}
 use Rattle.record.proofs.PutLaws.{put-all}
 use Rattle.record.proofs.write.put_bytes.Statement.{statement}
 use Rattle.record.proofs.write.put_bytes.Tie as tie
-use Rattle.record.proofs.write.put_bytes.Reads as reads
-use Rattle.record.proofs.write.put_bytes.Lts as lts
 
 abbrev Inv-loop : tie.InvT-loop
 Inv-loop d₀ at s i₀ d i = (d ≡ paste d₀ at s i) × (i ≤ length s) × (length d ≡ length d₀)

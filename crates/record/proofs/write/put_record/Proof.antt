@@ -6,10 +6,6 @@ use Rattle.record.specs.Tree.{recordBytes}
 use borrow.Author.Needs.{needs}
 use Rattle.record.proofs.write.put_record.Statement.{statement}
 use Rattle.record.proofs.write.put_record.Tie as tie
-use Rattle.record.proofs.write.put_record.Reads as reads
-use Rattle.record.proofs.write.put_record.Lts as lts
-use Rattle.record.proofs.write.byte.Reads as byte-reads
-use Rattle.record.proofs.write.put_bytes.Reads as put-bytes-reads
 
 byte-requires : tie.Need-byte-requires
 byte-requires c κs = search needs

@@ -1,10 +1,10 @@
+-- `compact_form` meets its contract: the copied rows and the sum record are the bytes of the compacted form.
 use Rattle.semilinear.proofs.PassLaws.{semilinear-front, sum-room, compacted}
 use Rattle.semilinear.proofs.ValidLaws.{semilinear-parts}
-use mathlib.Core.Path.{_≡_, ap, sym, _∙_}
+use mathlib.Core.Path.{ap, _∙_}
 use denote.Ref.{now}
 use native.Mathlib.Omega.{arith}
-use Prim.Native.Nat.{ℕ, _≤_}
-use mathlib.Core.List.{List}
+use Prim.Native.Nat.{ℕ}
 use lib.ListN.{length, replicate}
 use Rattle.record.proofs.SpanLaws.{length-body}
 use Rattle.record.proofs.PutLaws.{padded-nil}
@@ -12,41 +12,69 @@ use Rattle.record.specs.Fields.{width}
 use borrow.Author.Needs.{needs}
 use Rattle.semilinear.proofs.compact.compact_form.Statement.{statement}
 use Rattle.semilinear.proofs.compact.compact_form.Tie as tie
-use Rattle.semilinear.proofs.compact.compact_form.Reads as reads
-use Rattle.semilinear.proofs.compact.compact_form.Lts as lts
-use Rattle.record.proofs.body.Reads as body-reads
-use Rattle.record.proofs.literal.Reads as literal-reads
-use Rattle.record.proofs.width.Reads as width-reads
-use Rattle.record.proofs.write.clear.Reads as clear-reads
-use Rattle.semilinear.proofs.compact.copy_front.Reads as copy-front-reads
-use Rattle.semilinear.proofs.table.put_sum.Reads as put-sum-reads
 
 clear-requires : tie.Need-clear-requires
 clear-requires c κs = search needs
 
 width-requires : tie.Need-width-requires
-width-requires c κs = (semilinear-parts _ (c .before .before .before .before .before .before .pre .0)) .0 .big
+width-requires c κs =
+    let at-start = c .before .before .before .before .before .before in
+    (semilinear-parts _ (at-start .pre .0)) .0 .big
 
 literal-requires : tie.Need-literal-requires
-literal-requires c κs = (semilinear-parts _ (c .before .before .before .before .before .before .before .pre .0)) .0 .big
+literal-requires c κs =
+    let at-start = c .before .before .before .before .before .before .before in
+    (semilinear-parts _ (at-start .pre .0)) .0 .big
 
 body-requires : tie.Need-body-requires
 body-requires c κs = search needs
 
 copy-front-requires : tie.Need-copy-front-requires
-copy-front-requires c κs = (rw (c .before .before .before .width .ensures, c .before .body .ensures) (semilinear-front _ (c .before .before .before .before .before .before .before .before .before .before .pre .0)), omega (arith, ap length (c .before .body .ensures), length-body (now (c .before .before .before .before .before .before .before .before .before .before .args .s)), c .before .before .before .before .before .before .before .before .before .before .pre .1), c .before .before .before .before .before .before .clear .ensures ∙ ap (λ (n : ℕ). replicate n 0) (c .before .before .before .before .before .before .before .before .before .before .pre .2) ∙ padded-nil 57360)
+copy-front-requires c κs =
+    let at-width = c .before .before .before in
+    let at-clear = at-width .before .before .before in
+    let at-start = at-clear .before .before .before .before in (
+      rw (at-width .width .ensures, c .before .body .ensures) (semilinear-front _ (at-start .pre .0)),
+      omega (arith, ap length (c .before .body .ensures), length-body (now (at-start .args .s)), at-start .pre .1),
+      at-clear .clear .ensures ∙ ap (λ (n : ℕ). replicate n 0) (at-start .pre .2) ∙ padded-nil 57360,
+    )
 
 put-sum-requires : tie.Need-put-sum-requires
-put-sum-requires c κs = let p = sum-room (now (c .before .before .before .before .before .before .before .before .before .before .before .before .before .before .args .s)) (λ i. c .before .before .before .before .before .before .before .before .before .before .before .before .before .shared-slice-known .given i .fits) (c .before .before .before .before .before .before .before .before .before .before .before .before .before .before .pre .0) (c .before .before .before .before .before .before .before .width .ensures) (c .before .before .before .before .before .body .ensures) _ (c .before .before .before .copy-front .result) (c .before .before .before .copy-front .ensures) in omega (arith, p .0, p .1)
+put-sum-requires c κs =
+    let at-copy-front = c .before .before .before in
+    let at-width = at-copy-front .before .before .before .before in
+    let at-shared-slice-known = at-width .before .before .before .before .before .before in
+    let at-start = at-shared-slice-known .before in
+    let p =
+    sum-room (now (at-start .args .s)) (λ i. at-shared-slice-known .shared-slice-known .given i .fits)
+    (at-start .pre .0) (at-width .width .ensures) (at-copy-front .before .before .body .ensures) _
+    (at-copy-front .copy-front .result) (at-copy-front .copy-front .ensures) in
+    omega (arith, p .0, p .1)
 
 add-t15 : tie.Need-add-t15
-add-t15 c = omega (arith, sum-room (now (c .before .before .before .before .before .before .before .before .before .before .before .before .before .before .before .before .before .args .s)) (λ i. c .before .before .before .before .before .before .before .before .before .before .before .before .before .before .before .before .shared-slice-known .given i .fits) (c .before .before .before .before .before .before .before .before .before .before .before .before .before .before .before .before .before .pre .0) (c .before .before .before .before .before .before .before .before .before .before .width .ensures) (c .before .before .before .before .before .before .before .before .body .ensures) _ (c .before .before .before .before .before .before .copy-front .result) (c .before .before .before .before .before .before .copy-front .ensures) .0)
+add-t15 c =
+    let at-copy-front = c .before .before .before .before .before .before in
+    let at-width = at-copy-front .before .before .before .before in
+    let at-shared-slice-known = at-width .before .before .before .before .before .before in
+    let at-start = at-shared-slice-known .before in
+    omega (
+      arith,
+      sum-room (now (at-start .args .s)) (λ i. at-shared-slice-known .shared-slice-known .given i .fits)
+          (at-start .pre .0) (at-width .width .ensures) (at-copy-front .before .before .body .ensures) _
+          (at-copy-front .copy-front .result) (at-copy-front .copy-front .ensures) .0,
+    )
 
 same-length : tie.Need-same-length
 same-length c = search needs
 
 returns : tie.Need-returns
-returns c = compacted (now (c .before .before .before .before .before .before .before .before .before .before .before .before .before .before .before .before .before .args .s)) (c .before .before .before .before .before .before .before .before .before .before .width .ensures) (c .before .before .before .before .before .before .before .before .before .literal .ensures) (c .before .before .before .before .before .before .before .before .body .ensures) _ _ (c .before .before .before .before .before .before .copy-front .result) (c .before .before .before .before .before .before .copy-front .ensures) (c .before .before .put-sum .ensures)
+returns c =
+    let at-copy-front = c .before .before .before .before .before .before in
+    let at-literal = at-copy-front .before .before .before in
+    let at-start = at-literal .before .before .before .before .before .before .before .before in
+    compacted (now (at-start .args .s)) (at-literal .before .width .ensures) (at-literal .literal .ensures)
+    (at-copy-front .before .before .body .ensures) _ _ (at-copy-front .copy-front .result)
+    (at-copy-front .copy-front .ensures) (c .before .before .put-sum .ensures)
 
 pub compact-form-spec : {M : Type 1} → statement M
 compact-form-spec =

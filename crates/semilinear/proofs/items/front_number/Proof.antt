@@ -1,10 +1,8 @@
+-- `front_number` meets its contract: two bytes at their place in the first record.
 use Rattle.semilinear.specs.Items.{frontNumber}
 use borrow.Author.Needs.{needs}
 use Rattle.semilinear.proofs.items.front_number.Statement.{statement}
 use Rattle.semilinear.proofs.items.front_number.Tie as tie
-use Rattle.semilinear.proofs.items.front_number.Reads as reads
-use Rattle.semilinear.proofs.items.front_number.Lts as lts
-use Rattle.record.proofs.read_u16.Reads as read-u16-reads
 
 read-u16-requires : tie.Need-read-u16-requires
 read-u16-requires c κs = search needs

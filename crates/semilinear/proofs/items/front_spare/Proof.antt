@@ -1,11 +1,9 @@
+-- `front_spare` meets its contract: three bytes at their place in the first record.
 use Rattle.semilinear.specs.Items.{frontSpare}
 use native.Mathlib.Omega.{arith}
 use borrow.Author.Needs.{needs}
 use Rattle.semilinear.proofs.items.front_spare.Statement.{statement}
 use Rattle.semilinear.proofs.items.front_spare.Tie as tie
-use Rattle.semilinear.proofs.items.front_spare.Reads as reads
-use Rattle.semilinear.proofs.items.front_spare.Lts as lts
-use Rattle.semilinear.proofs.items.wide.Reads as wide-reads
 
 shared-slice-read-wide : tie.Need-shared-slice-read-wide
 shared-slice-read-wide c = search needs

@@ -1,9 +1,8 @@
+-- `front_width` meets its contract: the byte at its place in the first record.
 use Rattle.semilinear.specs.Items.{frontWidth}
 use borrow.Author.Needs.{needs}
 use Rattle.semilinear.proofs.items.front_width.Statement.{statement}
 use Rattle.semilinear.proofs.items.front_width.Tie as tie
-use Rattle.semilinear.proofs.items.front_width.Reads as reads
-use Rattle.semilinear.proofs.items.front_width.Lts as lts
 
 shared-slice-read-result : tie.Need-shared-slice-read-result
 shared-slice-read-result c = search needs

@@ -1,10 +1,8 @@
+-- `front_word` meets its contract: eight bytes at their place in the first record.
 use Rattle.semilinear.specs.Items.{frontWord}
 use borrow.Author.Needs.{needs}
 use Rattle.semilinear.proofs.items.front_word.Statement.{statement}
 use Rattle.semilinear.proofs.items.front_word.Tie as tie
-use Rattle.semilinear.proofs.items.front_word.Reads as reads
-use Rattle.semilinear.proofs.items.front_word.Lts as lts
-use Rattle.record.proofs.read_u64.Reads as read-u64-reads
 
 read-u64-requires : tie.Need-read-u64-requires
 read-u64-requires c κs = search needs

@@ -1,11 +1,9 @@
+-- `is_atom` meets its contract: a case for each test.
 use Rattle.semilinear.specs.Items.{isAtom, frontKind, atomLength}
 use borrow.Author.Tests.{lt-leb, le-leb, ne-eqb, eq-eqb}
 use borrow.Author.Needs.{needs}
 use Rattle.semilinear.proofs.items.is_atom.Statement.{statement}
 use Rattle.semilinear.proofs.items.is_atom.Tie as tie
-use Rattle.semilinear.proofs.items.is_atom.Reads as reads
-use Rattle.semilinear.proofs.items.is_atom.Lts as lts
-use Rattle.semilinear.proofs.items.front_number.Reads as front-number-reads
 
 returns : tie.Need-returns
 unfolding isAtom
@@ -29,7 +27,9 @@ add-result c = search needs
 
 returns-3 : tie.Need-returns-3
 unfolding isAtom frontKind atomLength
-returns-3 c = simp (le-leb _ _ (c .before .before .before .if1 .left), eq-eqb _ _ (c .before .if2 .left), ← c .front-number .ensures .0)
+returns-3 c =
+    let at-if1 = c .before .before .before in
+    simp (le-leb _ _ (at-if1 .if1 .left), eq-eqb _ _ (c .before .if2 .left), ← c .front-number .ensures .0)
 
 pub is-atom-spec : {M : Type 1} → statement M
 is-atom-spec =

@@ -1,10 +1,9 @@
+-- `is_term` meets its contract: a case for each test.
 use Rattle.semilinear.specs.Items.{isTerm, frontKind}
 use borrow.Author.Tests.{lt-leb, le-leb}
 use borrow.Author.Needs.{needs}
 use Rattle.semilinear.proofs.items.is_term.Statement.{statement}
 use Rattle.semilinear.proofs.items.is_term.Tie as tie
-use Rattle.semilinear.proofs.items.is_term.Reads as reads
-use Rattle.semilinear.proofs.items.is_term.Lts as lts
 
 returns : tie.Need-returns
 unfolding isTerm

@@ -1,9 +1,8 @@
+-- `provenance` meets its contract: the byte at its place in the first record.
 use Rattle.semilinear.specs.Items.{provenance}
 use borrow.Author.Needs.{needs}
 use Rattle.semilinear.proofs.items.provenance.Statement.{statement}
 use Rattle.semilinear.proofs.items.provenance.Tie as tie
-use Rattle.semilinear.proofs.items.provenance.Reads as reads
-use Rattle.semilinear.proofs.items.provenance.Lts as lts
 
 shared-slice-read-result : tie.Need-shared-slice-read-result
 shared-slice-read-result c = search needs

@@ -1,3 +1,4 @@
+-- `rest_from` meets its contract: a slice to the end drops what is before it.
 use Prim.Native.Nat.{_-_}
 use lib.ListN.{length, drop, length-drop}
 use native.Mathlib.Omega.{arith}
@@ -7,8 +8,6 @@ use lib.Seq.{take-all}
 use borrow.Author.Needs.{needs}
 use Rattle.semilinear.proofs.items.rest_from.Statement.{statement}
 use Rattle.semilinear.proofs.items.rest_from.Tie as tie
-use Rattle.semilinear.proofs.items.rest_from.Reads as reads
-use Rattle.semilinear.proofs.items.rest_from.Lts as lts
 
 sub-result : tie.Need-sub-result
 sub-result c = search needs
@@ -20,7 +19,10 @@ part-result-end : tie.Need-part-result-end
 part-result-end c = search needs
 
 returns : tie.Need-returns
-returns c = take-all (length (now (c .before .args .f)) - c .before .args .at) (drop (c .before .args .at) (now (c .before .args .f))) (omega (arith, length-drop (c .before .args .at) (now (c .before .args .f))))
+returns c =
+    take-all (length (now (c .before .args .f)) - c .before .args .at)
+    (drop (c .before .args .at) (now (c .before .args .f)))
+    (omega (arith, length-drop (c .before .args .at) (now (c .before .args .f))))
 
 pub rest-from-spec : {M : Type 1} → statement M
 rest-from-spec = tie.close (tie.spec sub-result part-result-start part-result-end returns)

@@ -1,3 +1,4 @@
+-- `tree_span` meets its contract: the atom without its head.
 use Rattle.semilinear.specs.Items.{treeSpan, atomLength, frontNumber}
 use native.Mathlib.Omega.{arith}
 use mathlib.Core.Path.{_≡_, ap}
@@ -7,9 +8,6 @@ use denote.Ref.{now}
 use borrow.Author.Needs.{needs}
 use Rattle.semilinear.proofs.items.tree_span.Statement.{statement}
 use Rattle.semilinear.proofs.items.tree_span.Tie as tie
-use Rattle.semilinear.proofs.items.tree_span.Reads as reads
-use Rattle.semilinear.proofs.items.tree_span.Lts as lts
-use Rattle.semilinear.proofs.items.atom_length.Reads as atom-length-reads
 
 atom-length-requires : tie.Need-atom-length-requires
 atom-length-requires c κs = search needs
@@ -25,7 +23,11 @@ part-result-end c = search needs
 
 returns : tie.Need-returns
 unfolding treeSpan atomLength
-returns c = let e : c .before .atom-length .result - 16 ≡ 16 * frontNumber (now (c .before .before .before .args .r)) = omega (arith, c .before .atom-length .ensures .0) in ap (λ (n : ℕ). take n (drop 16 (now (c .before .before .before .args .r)))) e
+returns c =
+    let at-start = c .before .before .before in
+    let e : c .before .atom-length .result - 16 ≡ 16 * frontNumber (now (at-start .args .r)) =
+    omega (arith, c .before .atom-length .ensures .0) in
+    ap (λ (n : ℕ). take n (drop 16 (now (at-start .args .r)))) e
 
 pub tree-span-spec : {M : Type 1} → statement M
 tree-span-spec =

@@ -1,14 +1,10 @@
+-- `fits_width` meets its contract: a number has w bits where it is at most the mask of w bits.
 use mathlib.Core.Path.{_∙_, ap}
-use mathlib.Core.Bool.{Bool}
-use Prim.Native.Nat.{ℕ}
 use lib.Dec.{leb}
 use Rattle.semilinear.proofs.ScanLaws.{leb-bitmask}
 use borrow.Author.Needs.{needs}
 use Rattle.semilinear.proofs.scan.fits_width.Statement.{statement}
 use Rattle.semilinear.proofs.scan.fits_width.Tie as tie
-use Rattle.semilinear.proofs.scan.fits_width.Reads as reads
-use Rattle.semilinear.proofs.scan.fits_width.Lts as lts
-use Rattle.arith.proofs.bitmask.Reads as bitmask-reads
 
 bitmask-requires : tie.Need-bitmask-requires
 bitmask-requires c κs = search needs

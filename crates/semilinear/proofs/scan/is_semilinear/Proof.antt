@@ -1,3 +1,4 @@
+-- `is_semilinear` meets its contract: the sum record first, then what is before it.
 use Rattle.semilinear.specs.Valid.{isSemilinear}
 use Rattle.semilinear.proofs.ValidLaws.{sum-parts}
 use borrow.Author.Tests.{not-true, not-false}
@@ -5,12 +6,6 @@ use mathlib.Core.Path.{sym, _∙_}
 use borrow.Author.Needs.{needs}
 use Rattle.semilinear.proofs.scan.is_semilinear.Statement.{statement}
 use Rattle.semilinear.proofs.scan.is_semilinear.Tie as tie
-use Rattle.semilinear.proofs.scan.is_semilinear.Reads as reads
-use Rattle.semilinear.proofs.scan.is_semilinear.Lts as lts
-use Rattle.record.proofs.body.Reads as body-reads
-use Rattle.record.proofs.width.Reads as width-reads
-use Rattle.semilinear.proofs.scan.front_ok.Reads as front-ok-reads
-use Rattle.semilinear.proofs.scan.sum_ok.Reads as sum-ok-reads
 
 sum-ok-requires : tie.Need-sum-ok-requires
 sum-ok-requires c κs = search needs
@@ -30,7 +25,13 @@ front-ok-requires c κs = search needs
 
 returns-2 : tie.Need-returns-2
 unfolding isSemilinear
-returns-2 c = simp (sym (c .before .before .before .before .sum-ok .ensures) ∙ not-false _ (c .before .before .before .if1 .left), ← c .before .before .width .ensures, ← c .before .body .ensures) (c .front-ok .ensures)
+returns-2 c =
+    let at-if1 = c .before .before .before in
+    simp (
+      sym (at-if1 .before .sum-ok .ensures) ∙ not-false _ (at-if1 .if1 .left),
+      ← c .before .before .width .ensures,
+      ← c .before .body .ensures,
+    ) (c .front-ok .ensures)
 
 pub is-semilinear-spec : {M : Type 1} → statement M
 is-semilinear-spec =

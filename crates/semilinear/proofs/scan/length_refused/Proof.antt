@@ -1,9 +1,8 @@
+-- `length_refused` meets its contract: a case for each test.
 use Rattle.semilinear.specs.Valid.{lengthRefused}
 use borrow.Author.Tests.{eq-eqb, ne-eqb, lt-ltb, le-ltb}
 use Rattle.semilinear.proofs.scan.length_refused.Statement.{statement}
 use Rattle.semilinear.proofs.scan.length_refused.Tie as tie
-use Rattle.semilinear.proofs.scan.length_refused.Reads as reads
-use Rattle.semilinear.proofs.scan.length_refused.Lts as lts
 
 returns : tie.Need-returns
 unfolding lengthRefused

@@ -1,12 +1,9 @@
+-- `semilinear_refusal` meets its contract: a case for each refusal, the lowest first.
 use Rattle.semilinear.specs.Valid.{semilinearRefusal}
 use mathlib.Core.Path.{sym, _∙_}
 use borrow.Author.Needs.{needs}
 use Rattle.semilinear.proofs.scan.semilinear_refusal.Statement.{statement}
 use Rattle.semilinear.proofs.scan.semilinear_refusal.Tie as tie
-use Rattle.semilinear.proofs.scan.semilinear_refusal.Reads as reads
-use Rattle.semilinear.proofs.scan.semilinear_refusal.Lts as lts
-use Rattle.semilinear.proofs.scan.is_semilinear.Reads as is-semilinear-reads
-use Rattle.semilinear.proofs.scan.length_refused.Reads as length-refused-reads
 
 length-refused-requires : tie.Need-length-refused-requires
 length-refused-requires c κs = search needs
@@ -20,11 +17,21 @@ is-semilinear-requires c κs = search needs
 
 returns-2 : tie.Need-returns-2
 unfolding semilinearRefusal
-returns-2 c = simp (sym (c .before .before .before .length-refused .ensures) ∙ c .before .before .if1 .left, sym (c .before .is-semilinear .ensures) ∙ c .if2 .taken)
+returns-2 c =
+    let at-length-refused = c .before .before .before in
+    simp (
+      sym (at-length-refused .length-refused .ensures) ∙ c .before .before .if1 .left,
+      sym (c .before .is-semilinear .ensures) ∙ c .if2 .taken,
+    )
 
 returns-3 : tie.Need-returns-3
 unfolding semilinearRefusal
-returns-3 c = simp (sym (c .before .before .before .length-refused .ensures) ∙ c .before .before .if1 .left, sym (c .before .is-semilinear .ensures) ∙ c .if2 .left)
+returns-3 c =
+    let at-length-refused = c .before .before .before in
+    simp (
+      sym (at-length-refused .length-refused .ensures) ∙ c .before .before .if1 .left,
+      sym (c .before .is-semilinear .ensures) ∙ c .if2 .left,
+    )
 
 pub semilinear-refusal-spec : {M : Type 1} → statement M
 semilinear-refusal-spec =

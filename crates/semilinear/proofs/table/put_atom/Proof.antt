@@ -5,12 +5,6 @@ use Rattle.record.proofs.SizedLaws.{sized-big}
 use borrow.Author.Needs.{needs}
 use Rattle.semilinear.proofs.table.put_atom.Statement.{statement}
 use Rattle.semilinear.proofs.table.put_atom.Tie as tie
-use Rattle.semilinear.proofs.table.put_atom.Reads as reads
-use Rattle.semilinear.proofs.table.put_atom.Lts as lts
-use Rattle.expr.proofs.hash.structural_hash.Reads as structural-hash-reads
-use Rattle.record.proofs.size.Reads as size-reads
-use Rattle.record.proofs.write.put_bytes.Reads as put-bytes-reads
-use Rattle.record.proofs.write.put_record.Reads as put-record-reads
 
 structural-hash-requires : tie.Need-structural-hash-requires
 structural-hash-requires c κs = search needs
@@ -32,9 +26,9 @@ same-length c = search needs
 
 returns : tie.Need-returns
 returns c =
-    let start = c .before .before .before .before .before .before .before .before .before .before .before .before in
-    let a = start .args in
-    cc (put-atom-span (now (a .out)) (a .at) (a .w) (a .prov) (now (a .t)) (start .pre .0))
+    let at-start = c .before .before .before .before .before .before .before .before .before .before .before .before in
+    let a = at-start .args in
+    cc (put-atom-span (now (a .out)) (a .at) (a .w) (a .prov) (now (a .t)) (at-start .pre .0))
 
 pub put-atom-spec : {M : Type 1} → statement M
 put-atom-spec =

@@ -3,9 +3,6 @@ use Rattle.semilinear.specs.Form.{sumBytes}
 use borrow.Author.Needs.{needs}
 use Rattle.semilinear.proofs.table.put_sum.Statement.{statement}
 use Rattle.semilinear.proofs.table.put_sum.Tie as tie
-use Rattle.semilinear.proofs.table.put_sum.Reads as reads
-use Rattle.semilinear.proofs.table.put_sum.Lts as lts
-use Rattle.record.proofs.write.put_record.Reads as put-record-reads
 
 put-record-requires : tie.Need-put-record-requires
 put-record-requires c κs = search needs

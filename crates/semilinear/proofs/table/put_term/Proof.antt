@@ -3,9 +3,6 @@ use Rattle.semilinear.specs.Form.{termBytes}
 use borrow.Author.Needs.{needs}
 use Rattle.semilinear.proofs.table.put_term.Statement.{statement}
 use Rattle.semilinear.proofs.table.put_term.Tie as tie
-use Rattle.semilinear.proofs.table.put_term.Reads as reads
-use Rattle.semilinear.proofs.table.put_term.Lts as lts
-use Rattle.record.proofs.write.put_record.Reads as put-record-reads
 
 put-record-requires : tie.Need-put-record-requires
 put-record-requires c κs = search needs

@@ -8,10 +8,6 @@ use Rattle.semilinear.proofs.TableLaws.{create-full, create-past, fits-
 use borrow.Author.Needs.{needs}
 use Rattle.semilinear.proofs.table.Table.create_atom.Statement.{statement}
 use Rattle.semilinear.proofs.table.Table.create_atom.Tie as tie
-use Rattle.semilinear.proofs.table.Table.create_atom.Reads as reads
-use Rattle.semilinear.proofs.table.Table.create_atom.Lts as lts
-use Rattle.record.proofs.size.Reads as size-reads
-use Rattle.semilinear.proofs.table.put_atom.Reads as put-atom-reads
 
 returns : tie.Need-returns
 returns c =
@@ -24,7 +20,8 @@ size-requires c κs = sized-big _ (c .before .before .before .pre .1)
 returns-2 : tie.Need-returns-2
 unfolding fullTable
 returns-2 c =
-    let a = c .before .before .before .before .before .args in
+    let at-start = c .before .before .before .before .before in
+    let a = at-start .args in
     sym
     (create-past (a .w) (a .prov) (now (a .t)) (a .self) (now (a .out)) (c .before .before .if1 .left)
     (fits-more-count (a .self) (now (a .t)) (c .if2 .taken)))
@@ -35,17 +32,21 @@ add-if3 c = search needs
 returns-3 : tie.Need-returns-3
 unfolding fullTable
 returns-3 c =
-    let a = c .before .before .before .before .before .before .args in
+    let at-if1 = c .before .before .before in
+    let at-start = at-if1 .before .before .before in
+    let a = at-start .args in
     sym
-    (create-past (a .w) (a .prov) (now (a .t)) (a .self) (now (a .out)) (c .before .before .before .if1 .left)
+    (create-past (a .w) (a .prov) (now (a .t)) (a .self) (now (a .out)) (at-if1 .if1 .left)
     (fits-more-records (a .self) (now (a .t)) (omega (arith, c .before .if2 .left))
     (omega (arith, c .before .before .size .ensures .0, c .if3 .taken))))
 
 put-atom-requires : tie.Need-put-atom-requires
 put-atom-requires c κs =
-    let a = c .before .before .before .before .before .before .before .args in
-    let pre = c .before .before .before .before .before .before .before .pre in
-    let n = c .before .before .before .size in
+    let at-size = c .before .before .before in
+    let at-start = at-size .before .before .before .before in
+    let a = at-start .args in
+    let pre = at-start .pre in
+    let n = at-size .size in
     (omega (arith, sized-length (now (a .t)) (pre .1), n .ensures .0, pre .0 .place, pre .0 .room), pre .1)
 
 add-self : tie.Need-add-self
@@ -65,11 +66,13 @@ same-length c = search needs
 
 returns-4 : tie.Need-returns-4
 returns-4 c =
-    let test = c .before .before .before .before in
-    let a = test .before .before .before .before .before .before .args in
-    created (a .w) (a .prov) (now (a .t)) (a .self) (now (a .out)) (test .before .before .before .if1 .left)
-    (omega (arith, test .before .if2 .left)) (test .before .before .size .ensures .0) (omega (arith, test .if3 .left))
-    (c .before .before .put-atom .ensures)
+    let at-if3 = c .before .before .before .before in
+    let at-if1 = at-if3 .before .before .before in
+    let at-start = at-if1 .before .before .before in
+    let a = at-start .args in
+    created (a .w) (a .prov) (now (a .t)) (a .self) (now (a .out)) (at-if1 .if1 .left)
+    (omega (arith, at-if3 .before .if2 .left)) (at-if3 .before .before .size .ensures .0)
+    (omega (arith, at-if3 .if3 .left)) (c .before .before .put-atom .ensures)
 
 pub create-atom-spec : {M : Type 1} → statement M
 create-atom-spec =

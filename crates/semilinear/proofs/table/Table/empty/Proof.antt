@@ -3,8 +3,6 @@ use mathlib.Core.Path.{refl}
 use Rattle.semilinear.specs.Table.{emptyTable}
 use Rattle.semilinear.proofs.table.Table.empty.Statement.{statement}
 use Rattle.semilinear.proofs.table.Table.empty.Tie as tie
-use Rattle.semilinear.proofs.table.Table.empty.Reads as reads
-use Rattle.semilinear.proofs.table.Table.empty.Lts as lts
 
 returns : tie.Need-returns
 unfolding emptyTable
