@@ -110,3 +110,173 @@ module _ (w v m c : ℕ) (l : List Row) (hm : m < 2 ^ w) where
       go : (b : Bool) → rowsOk w (when b (λ _. l) (λ _. l ++ (row ∷ []))) ≡ true
       go true = ok
       go false = rows-append w l (row ∷ []) ok (simp (good-row w row good))
+
+-- ---- one row
+
+-- what a row to flatten has
+pub record Complex (x : Row) : Type 0 where
+  pub one : length (support (x .tree)) ≡ 1
+  pub no-shr : hasShr (x .tree) ≡ false
+
+pub complex-parts : (w : ℕ) (x : Row) → isComplex w x ≡ true → Complex x
+unfolding isComplex
+complex-parts w x e =
+    let one : Bool = eqb (length (support (x .tree))) 1 in
+    let p = and-true (not (eqb (x .coeff) 0)) (not (isPlain w (x .tree)) && (one && not (hasShr (x .tree)))) e in
+    let q = and-true (not (isPlain w (x .tree))) (one && not (hasShr (x .tree))) (p .1) in
+    let r = and-true one (not (hasShr (x .tree))) (q .1) in
+    record { one = eqb-true _ _ (r .0); no-shr = not-true _ (r .1) }
+
+module _ (w : ℕ) (hw : w ≤ 64) (x : Row) (g : Good w x) (k : Complex x) where
+  abbrev index : ℕ
+  index = nextVar 0 (x .tree)
+
+  abbrev zeroed : ℕ
+  zeroed = atZero w (x .tree)
+
+  abbrev raised : ℕ
+  raised = atOnes w index (x .tree)
+
+  -- the masks of the bits passed and of the bits inverted
+  abbrev passes : ℕ
+  passes = bitAnd raised (2 ^ w - 1 - zeroed)
+
+  abbrev inverts : ℕ
+  inverts = bitAnd zeroed (2 ^ w - 1 - raised)
+
+  passes-lt : passes < 2 ^ w
+  passes-lt = lt-of-le-of-lt (and-le-l raised (2 ^ w - 1 - zeroed)) (at-ones-lt w index (x .tree))
+
+  inverts-lt : inverts < 2 ^ w
+  inverts-lt = lt-of-le-of-lt (and-le-l zeroed (2 ^ w - 1 - raised)) (at-zero-lt w (x .tree))
+
+  index-lt : index < 256
+  index-lt = occurs-lt index (x .tree) (tree-atom (x .tree) (g .atom) .expr) (one-var-occurs (x .tree) (k .one))
+
+  -- the rows and the constant that stand for the row
+  abbrev flatRows : List Row → List Row
+  flatRows l = flatRow w index inverts (modNeg (x .coeff) w) (flatRow w index passes (x .coeff) l)
+
+  abbrev flatConstant : ℕ → ℕ
+  flatConstant n = modAdd n (modMul (x .coeff) zeroed w) w
+
+  flat-rows-ok : (l : List Row) → rowsOk w l ≡ true → rowsOk w (flatRows l) ≡ true
+  flat-rows-ok l ok =
+      flat-row-ok w index inverts (modNeg (x .coeff) w) (flatRow w index passes (x .coeff) l) inverts-lt hw index-lt
+      (mod-neg-lt (x .coeff) w hw)
+      (flat-row-ok w index passes (x .coeff) l passes-lt hw index-lt (g .fits) ok)
+
+  -- they add the coefficient times the value
+  flat-rows-sum : (vars : List ℕ) (n : ℕ) (l : List Row)
+      → Eqm (2 ^ w) (flatConstant n + sumRows w vars (flatRows l))
+      (n + (x .coeff * value w vars (x .tree) + sumRows w vars l))
+  flat-rows-sum vars n l =
+      eqm-trans (eqm-add constant (eqm-of-eq rows))
+      (eqm-trans (eqm-of-eq (omega arith))
+      (eqm-trans (eqm-add (eqm-refl (n + sumRows w vars l)) (eqm-sym term)) (eqm-of-eq (omega arith))))
+    where
+      c : ℕ
+      c = x .coeff
+
+      d : ℕ
+      d = modNeg (x .coeff) w
+
+      u : ℕ
+      u = value w vars (x .tree)
+
+      passed : ℕ
+      passed = bitAnd (value w vars (Variable index)) passes
+
+      inverted : ℕ
+      inverted = bitAnd (value w vars (Variable index)) inverts
+
+      constant : Eqm (2 ^ w) (flatConstant n) (n + c * zeroed)
+      constant =
+          eqm-trans (mod-add-eqm n (modMul c zeroed w) w hw) (eqm-add (eqm-refl n) (mod-mul-eqm c zeroed w hw))
+
+      rows : sumRows w vars (flatRows l) ≡ sumRows w vars l + c * passed + d * inverted
+      rows =
+          flat-row-sum w index inverts d (flatRow w index passes c l) inverts-lt vars
+          ∙ ap (λ (y : ℕ). y + d * inverted) (flat-row-sum w index passes c l passes-lt vars)
+
+      term : Eqm (2 ^ w) (c * u) (c * zeroed + c * passed + d * inverted)
+      term =
+          eqm-minus d c inverted (mod-neg-eqm c w hw (lt-of-lt-of-le (g .fits) (pow-mono hw)))
+          (eqm-of-eq
+          (omega (arith, ap (λ (y : ℕ). c * y) (flatten-atom w vars (x .tree) (g .atom) (k .one) (k .no-shr)))))
+
+-- ---- all rows
+
+kept-none : (w : ℕ) → keptRows w [] ≡ []
+unfolding keptRows
+kept-none w = refl
+
+module _ (w : ℕ) (x : Row) (l : List Row) (s : Flat) where
+  flatten-row-other : isComplex w x ≡ false → flattenRow w x s ≡ s
+  unfolding flattenRow
+  flatten-row-other e = simp e
+
+  kept-other : isComplex w x ≡ false → keptRows w (x ∷ l) ≡ x ∷ keptRows w l
+  unfolding keptRows
+  kept-other e = simp e
+
+  kept-complex : isComplex w x ≡ true
+      → keptRows w (x ∷ l) ≡ record { provenance = x .provenance; tree = x .tree; coeff = 0 } ∷ keptRows w l
+  unfolding keptRows
+  kept-complex e = simp e
+
+-- the constant, and the sum of the rows that are being made
+abbrev total : ℕ → List ℕ → Flat → ℕ
+total w vars s = s .constant + sumRows w vars (s .added)
+
+module _ (w : ℕ) (hw : w ≤ 64) (vars : List ℕ) where
+  -- one row: what it adds beside what is kept of it is its coefficient times its value
+  pub flatten-row-value : (x : Row) → Good w x → isComplex w x ≡ true → (s : Flat)
+      → Eqm (2 ^ w) (total w vars (flattenRow w x s)) (x .coeff * value w vars (x .tree) + total w vars s)
+  unfolding flattenRow
+  flatten-row-value x g e s =
+      simp e
+      (eqm-trans (flat-rows-sum w hw x g (complex-parts w x e) vars (s .constant) (s .added))
+      (eqm-of-eq (omega arith)))
+
+  pub flatten-rows-value : (l : List Row) → rowsOk w l ≡ true → (s : Flat)
+      → Eqm (2 ^ w) (sumRows w vars (keptRows w l) + total w vars (flattenRows w l s))
+      (sumRows w vars l + total w vars s)
+  unfolding flattenRows sumRows
+  flatten-rows-value [] ok s = eqm-of-eq (ap (λ (m : List Row). sumRows w vars m + total w vars s) (kept-none w))
+  flatten-rows-value (x ∷ l) ok s =
+      let p = rows-cons w x l ok in
+      go (p .0) (flatten-rows-value l (p .1)) (isComplex w x) refl
+    where
+      v : ℕ
+      v = x .coeff * value w vars (x .tree)
+
+      go : Good w x
+          → ((s : Flat) → Eqm (2 ^ w) (sumRows w vars (keptRows w l) + total w vars (flattenRows w l s))
+          (sumRows w vars l + total w vars s))
+          → (b : Bool) → isComplex w x ≡ b
+          → Eqm (2 ^ w) (sumRows w vars (keptRows w (x ∷ l)) + total w vars (flattenRows w l (flattenRow w x s)))
+          (v + sumRows w vars l + total w vars s)
+      go g below true e =
+          rw (kept-complex w x l s e)
+          (eqm-trans (eqm-of-eq (omega arith))
+          (eqm-trans (below (flattenRow w x s))
+          (eqm-trans (eqm-add (eqm-refl (sumRows w vars l)) (flatten-row-value x g e s)) (eqm-of-eq (omega arith)))))
+      go g below false e =
+          rw (kept-other w x l s e, flatten-row-other w x l s e)
+          (eqm-trans (eqm-of-eq (omega arith))
+          (eqm-trans (eqm-add (eqm-refl v) (below s)) (eqm-of-eq (omega arith))))
+
+-- flattening keeps the value of a form, under every assignment
+pub value-flatten : (vars : List ℕ) (f : Form) → validForm f ≡ true → formValue vars (flattenForm f) ≡ formValue vars f
+unfolding formValue flattenForm flattened sumRows
+value-flatten vars f e =
+    let v = form-parts f e in
+    let w : ℕ = f .bitwidth in
+    let start : Flat = record { added = []; constant = f .constant; flag = false } in
+    let end : Flat = flattenRows w (f .rows) start in
+    let same : Eqm (2 ^ w) (end .constant + sumRows w vars (keptRows w (f .rows) ++ end .added))
+    (f .constant + sumRows w vars (f .rows)) =
+    eqm-trans (eqm-of-eq (omega (arith, sum-append w vars (keptRows w (f .rows)) (end .added))))
+    (eqm-trans (flatten-rows-value w (v .width-le) vars (f .rows) (v .rows-ok) start) (eqm-of-eq (omega arith))) in
+    same .eqm
