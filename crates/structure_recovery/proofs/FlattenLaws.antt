@@ -10,8 +10,8 @@ use mathlib.Core.Bool.{Bool, true, false, not, _&&_}
 use lib.ListN.{length}
 use lib.Bits.{bitAnd, and-le-l, and-zero-r}
 use lib.Dec.{eqb}
-use lib.Pow.{pow-mono}
-use borrow.Author.Tests.{eqb-true, eq-eqb, ne-eqb, not-true}
+use lib.Pow.{pow-pos, pow-mono}
+use borrow.Author.Tests.{eqb-true, eq-eqb, ne-eqb, le-leb, lt-ltb, not-true}
 use Rattle.arith.specs.Congruence.{Eqm}
 use Rattle.arith.specs.Width.{modAdd, modMul, modNeg}
 use Rattle.arith.proofs.CongruenceLaws.{eqm-of-eq, eqm-refl, eqm-sym, eqm-trans, eqm-add, eqm-minus}
@@ -280,3 +280,67 @@ value-flatten vars f e =
     eqm-trans (eqm-of-eq (omega (arith, sum-append w vars (keptRows w (f .rows)) (end .added))))
     (eqm-trans (flatten-rows-value w (v .width-le) vars (f .rows) (v .rows-ok) start) (eqm-of-eq (omega arith))) in
     same .eqm
+
+-- ---- valid forms
+
+-- what holds of the form that is being made
+record GoodFlat (w : ℕ) (s : Flat) : Type 0 where
+  fits : s .constant < 2 ^ w
+  rows-ok : rowsOk w (s .added) ≡ true
+
+module _ (w : ℕ) (hw : w ≤ 64) where
+  flatten-row-good : (x : Row) → Good w x → (s : Flat) → GoodFlat w s → GoodFlat w (flattenRow w x s)
+  unfolding flattenRow
+  flatten-row-good x g s h = go (isComplex w x) refl
+    where
+      go : (b : Bool) → isComplex w x ≡ b → GoodFlat w (flattenRow w x s)
+      go true e =
+          simp e
+          (record {
+            fits = mod-add-lt (s .constant) (modMul (x .coeff) (atZero w (x .tree)) w) w hw;
+            rows-ok = flat-rows-ok w hw x g (complex-parts w x e) (s .added) (h .rows-ok);
+          })
+      go false e = simp e h
+
+  flatten-rows-good : (l : List Row) → rowsOk w l ≡ true → (s : Flat) → GoodFlat w s → GoodFlat w (flattenRows w l s)
+  unfolding flattenRows
+  flatten-rows-good [] ok s h = h
+  flatten-rows-good (x ∷ l) ok s h =
+      let p = rows-cons w x l ok in
+      flatten-rows-good l (p .1) (flattenRow w x s) (flatten-row-good x (p .0) s h)
+
+  kept-rows-ok : (l : List Row) → rowsOk w l ≡ true → rowsOk w (keptRows w l) ≡ true
+  unfolding keptRows rowsOk
+  kept-rows-ok [] ok = refl
+  kept-rows-ok (x ∷ l) ok =
+      let p = rows-cons w x l ok in
+      go (isComplex w x) (p .0) (kept-rows-ok l (p .1))
+    where
+      bare : Row
+      bare = record { provenance = x .provenance; tree = x .tree; coeff = 0 }
+
+      go : (b : Bool) → Good w x → rowsOk w (keptRows w l) ≡ true
+          → rowsOk w (when b (λ _. bare ∷ keptRows w l) (λ _. x ∷ keptRows w l)) ≡ true
+      go true g below =
+          let good : Good w bare = record { known = g .known; atom = g .atom; fits = pow-pos w } in
+          simp (good-row w bare good, below)
+      go false g below = simp (good-row w x g, below)
+
+-- flattening gives a valid form where its table keeps the limits
+pub valid-flatten : (f : Form) → validForm f ≡ true → fitsTable (flattenForm f .rows) ≡ true
+    → validForm (flattenForm f) ≡ true
+unfolding validForm flattenForm flattened rowsOk
+valid-flatten f e fits =
+    let v = form-parts f e in
+    let w : ℕ = f .bitwidth in
+    let start : Flat = record { added = []; constant = f .constant; flag = false } in
+    let good : GoodFlat w (flattenRows w (f .rows) start) =
+    flatten-rows-good w (v .width-le) (f .rows) (v .rows-ok) start (record { fits = v .fits; rows-ok = refl }) in
+    simp (
+      le-leb 1 w (v .width-pos),
+      le-leb w 64 (v .width-le),
+      lt-ltb (flattenRows w (f .rows) start .constant) (2 ^ w) (good .fits),
+      fits,
+      rows-append w (keptRows w (f .rows)) (flattenRows w (f .rows) start .added)
+      (kept-rows-ok w (v .width-le) (f .rows) (v .rows-ok)) (good .rows-ok),
+    )
