@@ -134,7 +134,7 @@ table-row p vs n t b i hi h there =
 
 -- ---- trees with the same table
 
-no-shift : (t : Tree) → hasShr t ≡ false → hasShift t ≡ false
+pub no-shift : (t : Tree) → hasShr t ≡ false → hasShift t ≡ false
 unfolding hasKind hasShift
 no-shift (Constant v) e = refl
 no-shift (Variable i) e = refl

@@ -1,0 +1,4 @@
+-- The laws of the definitions, for the crates above.
+pub mod OneVarLaws
+pub mod FlatRowsLaws
+pub mod FlattenLaws
