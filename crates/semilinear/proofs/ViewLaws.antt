@@ -55,7 +55,7 @@ seen-and w l r s = go (hasVarDep r) (hasVarDep l) refl refl
           basis = record { expr = s .expr-r; variable = hr; plain = s .plain-r };
           mask-lt = value-lt w [] l;
           value-is = λ vars.
-            and-comm (value w vars l) (value w vars r) ∙ ap (bitAnd (value w vars r)) (value-closed w vars l hl);
+              and-comm (value w vars l) (value w vars r) ∙ ap (bitAnd (value w vars r)) (value-closed w vars l hl);
         }
     go true true hr hl = tt
     go false false hr hl = tt

@@ -29,7 +29,7 @@ use Rattle.expr.proofs.IsExprLaws.{occurs-lt, expr-of-variable}
 use Rattle.semilinear.specs.Form.{Row, sumRows, isAtomTree, rowsOk}
 use Rattle.semilinear.specs.Group.{maskedTree}
 use Rattle.semilinear.proofs.FormLaws.{Good, good-row, rows-cons}
-use Rattle.semilinear_normalizer.proofs.AtomLaws.{Atom, atom-tree, tree-atom, masked-atom}
+use Rattle.semilinear.proofs.AtomLaws.{Atom, atom-tree, tree-atom, masked-atom}
 use Rattle.structure_recovery.specs.FlattenComplexAtoms.{isPlain, isComplex, atZero, atOnes, flatRow}
 use Rattle.structure_recovery.proofs.OneVarLaws.{one-var-occurs, at-zero-lt, at-ones-lt, flatten-atom}
 

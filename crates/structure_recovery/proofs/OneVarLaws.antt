@@ -29,7 +29,7 @@ use Rattle.expr.proofs.ValueLaws.{value-lt}
 use Rattle.expr.proofs.VarsLaws.{next-var-le, supportFrom, support-from-zero, support-from-next, support-from-end}
 use Rattle.expr.proofs.SupportLaws.{next-var-occurs}
 use Rattle.semilinear.specs.Form.{isAtomTree}
-use Rattle.semilinear_normalizer.proofs.AtomLaws.{tree-atom}
+use Rattle.semilinear.proofs.AtomLaws.{tree-atom}
 use Rattle.semilinear_normalizer.proofs.BitOfLaws.{Bitwise, bit-value, bit-of-agree}
 use Rattle.semilinear_normalizer.proofs.TruthLaws.{occurs-support, no-shift}
 use Rattle.structure_recovery.specs.FlattenComplexAtoms.{atZero, atOnes}
