@@ -19,3 +19,4 @@ pub mod CompactLaws
 pub mod CopyLaws
 pub mod PassLaws
 pub mod EntryLaws
+pub mod TotalLaws
