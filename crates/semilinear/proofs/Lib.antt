@@ -20,3 +20,5 @@ pub mod CopyLaws
 pub mod PassLaws
 pub mod EntryLaws
 pub mod TotalLaws
+pub mod WorkLaws
+pub mod SearchLaws

@@ -1,5 +1,5 @@
--- What the live entries of a group come to beside a basis of value x (specs/Group.antt), and that this sum is kept modulo
--- M where one, two or three entries change and their own sum is kept. The tests `isLive` of entries.
+-- What the live entries of a group come to beside a basis of value x (specs/Group.antt). The sum is kept modulo M where
+-- one, two or three entries change and their own sum is kept. The tests `isLive` of entries.
 use mathlib.Core.Path.{_≡_, refl, ap, _∙_}
 use mathlib.Core.Logic.{_≢_}
 use mathlib.Core.Bool.{true, false, not}
