@@ -23,3 +23,6 @@ pub mod EntryLaws
 pub mod BasesLaws
 pub mod GroupsLaws
 pub mod SettleLaws
+pub mod TotalLaws
+pub mod WorkLaws
+pub mod SearchLaws
