@@ -1,5 +1,5 @@
 -- Laws of the end of a pass (specs/Group.antt): every live entry is added to its row.
-use mathlib.Core.Path.{_≡_, refl, sym, ap, ap₂, _∙_, subst}
+use mathlib.Core.Path.{_≡_, refl, ap, _∙_}
 use Prim.Native.Nat.{ℕ, zero, suc, _+_, _*_, _^_, _≤_, _<_}
 use native.Mathlib.Omega.{arith}
 use mathlib.Core.List.{List, [], _∷_}
@@ -16,22 +16,12 @@ use Rattle.semilinear.specs.Form.{Row, sumRows, rowsOk}
 use Rattle.semilinear.specs.Group.{Entry, at, isLive, addCoeff, settleAt, settle}
 use Rattle.semilinear.proofs.FormLaws.{Good, good-row, rows-cons}
 use Rattle.semilinear.proofs.EntryLaws.{for-ind}
-
-unfoldable pub sumTo : (ℕ → ℕ) → ℕ → ℕ
-sumTo f zero = 0
-sumTo f (suc n) = sumTo f n + f n
+use Rattle.semilinear.proofs.TotalLaws.{sumTo}
+use Rattle.semilinear.proofs.WorkLaws.{rowValue}
 
 pub sum-next : (f : ℕ → ℕ) (i : ℕ) → sumTo f (i + 1) ≡ sumTo f i + f i
 unfolding sumTo
 sum-next f i = ap (sumTo f) (let e : i + 1 ≡ suc i = omega arith in e)
-
--- ---- rows by their numbers
-
--- the value of the tree of row j
-unfoldable pub rowValue : ℕ → List ℕ → List Row → ℕ → ℕ
-rowValue w vars [] j = 0
-rowValue w vars (x ∷ l) zero = value w vars (x .tree)
-rowValue w vars (x ∷ l) (suc j) = rowValue w vars l j
 
 -- what an entry adds to the sum
 unfoldable pub owed : ℕ → List ℕ → List Row → Entry → ℕ
