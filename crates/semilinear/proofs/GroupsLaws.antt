@@ -16,7 +16,7 @@ use Rattle.semilinear.specs.Form.{Row, sumRows, eqTree, rowsOk}
 use Rattle.semilinear.specs.Decompose.{Decomposed, opaque, masked}
 use Rattle.semilinear.specs.Group.{viewRow, insertBasis, basesOf, ungrouped}
 use Rattle.semilinear.proofs.FormLaws.{rows-cons}
-use Rattle.semilinear.proofs.AtomLaws.{tree-atom, eq-of-eq-tree}
+use Rattle.semilinear.proofs.AtomLaws.{Atom, tree-atom, eq-of-eq-tree}
 use Rattle.semilinear.proofs.ViewLaws.{View, Seen, seen-row}
 use Rattle.semilinear.proofs.BasesLaws.{hits, risingFrom, inserted}
 
@@ -151,9 +151,10 @@ module _ (only : Tree → Bool) (w : ℕ) where
           (omega (arith, z, o .once c ec), omega (arith, z))
       go false e = let z = others c ec e in (omega (arith, z), omega (arith, z, o .once c ec))
 
-  more : (b : Tree) → isExpr b ≡ true → (found : List Tree) → Once found → More b found (insertBasis w b found)
-  more b eb found o =
-      let i = inserted w b eb 0 found (o .rising) in
+  more : (b : Tree) → Atom b → (found : List Tree) → Once found → More b found (insertBasis w b found)
+  more b ab found o =
+      let eb = ab .expr in
+      let i = inserted w b ab 0 found (o .rising) in
       let one : hits w b (insertBasis w b found) ≡ 1 =
       omega (arith, i .there, i .there-most (o .once b eb)) in
       let f = between b eb found (insertBasis w b found) o one (i .others) in
@@ -196,7 +197,7 @@ module _ (only : Tree → Bool) (w : ℕ) where
           (record { still = b .still; grows = b .grows; covered = covers-opaque x l _ e (b .covered) })
       go (masked t m) e v below =
           let et = v .basis .expr in
-          let i = more t et found o in
+          let i = more t (v .basis) found o in
           let b = below (insertBasis w t found) (i .still) in
           let one : hits w t (basesOf only w l (insertBasis w t found)) ≡ 1 =
           omega (arith, i .there, b .grows t et, b .still .once t et) in
@@ -218,6 +219,6 @@ module _ (only : Tree → Bool) (w : ℕ) where
   groups-share vars rows ok =
       shared-out only w vars (basesOf only w rows []) rows (found-all rows ok [] once-none .covered)
 
-  -- and every basis is an expression
+  -- and every basis is an atom
   pub bases-rising : (rows : List Row) → rowsOk w rows ≡ true → risingFrom 0 (basesOf only w rows []) ≡ true
   bases-rising rows ok = found-all rows ok [] once-none .still .rising

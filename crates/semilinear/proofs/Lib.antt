@@ -20,9 +20,10 @@ pub mod CompactLaws
 pub mod CopyLaws
 pub mod PassLaws
 pub mod EntryLaws
-pub mod BasesLaws
-pub mod GroupsLaws
-pub mod SettleLaws
 pub mod TotalLaws
 pub mod WorkLaws
 pub mod SearchLaws
+pub mod BasesLaws
+pub mod GroupsLaws
+pub mod GroupOfLaws
+pub mod SettleLaws
