@@ -1,2 +1,4 @@
 -- The laws of the definitions, for the crates above.
 pub mod KeptLaws
+pub mod StepsLaws
+pub mod MergeLaws
