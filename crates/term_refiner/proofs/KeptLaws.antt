@@ -14,7 +14,7 @@ use Rattle.arith.proofs.CongruenceLaws.{eqm-refl, eqm-trans}
 use Rattle.record.specs.Tree.{Tree}
 use Rattle.expr.specs.Value.{value}
 use Rattle.semilinear.specs.declared.group.Group.{Group}
-use Rattle.semilinear.specs.Form.{Row}
+use Rattle.semilinear.specs.Form.{Row, sumRows, rowsOk}
 use Rattle.semilinear.specs.Group.{Entry, at, putEntry, isLive, Work, work, createMasked}
 use Rattle.semilinear.proofs.EntryLaws.{Sized, sized-put, at-put, at-put-other}
 use Rattle.semilinear.proofs.TotalLaws.{worth, total, len-put, sum-one, sum-two, sum-three}
@@ -80,6 +80,12 @@ pub record Kept (w : ℕ) (vars : List ℕ) (b : Tree) (g0 : Group) (rows0 : Lis
   pub grown : Grown w vars rows0 (x .rows)
 
 module _ (w : ℕ) (vars : List ℕ) (b : Tree) (g0 : Group) (rows0 : List Row) where
+  pub kept-rows-ok : (x : Work) → Kept w vars b g0 rows0 x → rowsOk w rows0 ≡ true → rowsOk w (x .rows) ≡ true
+  kept-rows-ok x h ok = h .grown .rows-ok ok
+
+  pub kept-sum-rows : (x : Work) → Kept w vars b g0 rows0 x → sumRows w vars (x .rows) ≡ sumRows w vars rows0
+  kept-sum-rows x h = h .grown .sum-same
+
   pub kept-start : Sized g0 → AllFit w vars b g0 rows0 → Kept w vars b g0 rows0 (work g0 rows0)
   unfolding work
   kept-start s a =

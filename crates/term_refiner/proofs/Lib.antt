@@ -2,3 +2,5 @@
 pub mod KeptLaws
 pub mod StepsLaws
 pub mod MergeLaws
+pub mod CollapseLaws
+pub mod RefineLaws
