@@ -1,26 +1,24 @@
--- What every step of refining keeps of a group beside its table: the sum of the live entries modulo 2 ^ w, the rows that
--- were there, and that a live entry's atom is the basis b under the entry's mask.
+-- What every step of refining keeps of a group beside its table: the sum of the live entries modulo 2 ^ w, the rows
+-- that were there, and that a live entry's atom is the basis b under the entry's mask.
 use mathlib.Core.Path.{_≡_, refl, ap, sym, subst, _∙_}
 use mathlib.Core.Logic.{_≢_}
-use Prim.Native.Nat.{ℕ, _+_, _*_, _^_, _≤_, _<_}
+use Prim.Native.Nat.{ℕ, _+_, _^_, _<_}
 use native.Mathlib.Omega.{arith}
-use native.Mathlib.Nat.{lt-of-lt-of-le}
 use native.Mathlib.Decide.{ℕ-discrete}
 use mathlib.Core.List.{List}
 use mathlib.Core.Bool.{true}
 use lib.ListN.{length}
 use lib.Bits.{bitAnd}
-use lib.Pow.{pow-mono}
 use Rattle.arith.specs.Congruence.{Eqm}
 use Rattle.arith.proofs.CongruenceLaws.{eqm-refl, eqm-trans}
 use Rattle.record.specs.Tree.{Tree}
 use Rattle.expr.specs.Value.{value}
 use Rattle.semilinear.specs.declared.group.Group.{Group}
-use Rattle.semilinear.specs.Form.{Row, isAtomTree}
+use Rattle.semilinear.specs.Form.{Row, sumRows, rowsOk}
 use Rattle.semilinear.specs.Group.{Entry, at, putEntry, isLive, Work, work, createMasked}
 use Rattle.semilinear.proofs.EntryLaws.{Sized, sized-put, at-put, at-put-other}
 use Rattle.semilinear.proofs.TotalLaws.{worth, total, len-put, sum-one, sum-two, sum-three}
-use Rattle.semilinear.proofs.WorkLaws.{rowValue, Grown, grown-refl, grown-trans, length-masked, row-value-masked, grown-masked}
+use Rattle.semilinear.proofs.WorkLaws.{rowValue, Grown, grown-refl, grown-trans, length-masked, row-value-masked}
 
 -- ---- the atoms of entries
 
@@ -35,7 +33,7 @@ pub record AllFit (w : ℕ) (vars : List ℕ) (b : Tree) (g : Group) (rows : Lis
   pub fit : (i : ℕ) → i < g .len → isLive (at g i) ≡ true → Fits w vars b rows (at g i)
 
 module _ (w : ℕ) (vars : List ℕ) (b : Tree) where
-  fits-grown : {l m : List Row} (e : Entry) → Grown w vars l m → Fits w vars b l e → Fits w vars b m e
+  pub fits-grown : {l m : List Row} (e : Entry) → Grown w vars l m → Fits w vars b l e → Fits w vars b m e
   fits-grown e g f =
       record {
         coeff-lt = f .coeff-lt;
@@ -58,7 +56,8 @@ module _ (w : ℕ) (vars : List ℕ) (b : Tree) where
         atom-value = row-value-masked w vars b m l hm;
       }
 
-  module _ (g : Group) (s : Sized g) (l : List Row) (a : AllFit w vars b g l) (i : ℕ) (e : Entry) (li : i < g .len) where
+  module _ (g : Group) (s : Sized g) (l : List Row) (a : AllFit w vars b g l) (i : ℕ) (e : Entry)
+      (li : i < g .len) where
     all-put : (isLive e ≡ true → Fits w vars b l e) → AllFit w vars b (putEntry g i e) l
     all-put h = record { fit = λ k lk live. go k (ℕ-discrete k i) (subst (λ (n : ℕ). k < n) (len-put g i e) lk) live }
       where
@@ -81,6 +80,12 @@ pub record Kept (w : ℕ) (vars : List ℕ) (b : Tree) (g0 : Group) (rows0 : Lis
   pub grown : Grown w vars rows0 (x .rows)
 
 module _ (w : ℕ) (vars : List ℕ) (b : Tree) (g0 : Group) (rows0 : List Row) where
+  pub kept-rows-ok : (x : Work) → Kept w vars b g0 rows0 x → rowsOk w rows0 ≡ true → rowsOk w (x .rows) ≡ true
+  kept-rows-ok x h ok = h .grown .rows-ok ok
+
+  pub kept-sum-rows : (x : Work) → Kept w vars b g0 rows0 x → sumRows w vars (x .rows) ≡ sumRows w vars rows0
+  kept-sum-rows x h = h .grown .sum-same
+
   pub kept-start : Sized g0 → AllFit w vars b g0 rows0 → Kept w vars b g0 rows0 (work g0 rows0)
   unfolding work
   kept-start s a =

@@ -1,0 +1,31 @@
+-- Laws of specs/RefineTerms.antt: refining a group keeps the sum of its live entries modulo 2 ^ w, and what else `Kept`
+-- says.
+use mathlib.Core.Path.{_≡_}
+use Prim.Native.Nat.{ℕ, _≤_}
+use mathlib.Core.List.{List}
+use mathlib.Core.Bool.{true}
+use Rattle.record.specs.Tree.{Tree}
+use Rattle.semilinear.specs.declared.group.Group.{Group}
+use Rattle.semilinear.specs.Form.{Row, isAtomTree}
+use Rattle.semilinear.specs.Group.{Work, work}
+use Rattle.term_refiner.specs.Steps.{cutMasks, dropZero, bucketMerge, pairMerge, toMinusOne}
+use Rattle.term_refiner.specs.RefineTerms.{refineGroup}
+use Rattle.term_refiner.proofs.KeptLaws.{Kept}
+use Rattle.term_refiner.proofs.StepsLaws.{cut-masks-keep, drop-zero-keeps, minus-one-keeps}
+use Rattle.term_refiner.proofs.MergeLaws.{bucket-keeps, pair-merge-keeps}
+use Rattle.term_refiner.proofs.CollapseLaws.{three-term-keeps}
+
+module _ (w : ℕ) (hw : w ≤ 64) (vars : List ℕ) (b : Tree) (hb : isAtomTree b ≡ true) (g0 : Group)
+    (rows0 : List Row) where
+  pub refine-keeps : (x : Work) → Kept w vars b g0 rows0 x → Kept w vars b g0 rows0 (refineGroup w b x)
+  unfolding refineGroup work
+  refine-keeps x h =
+      let cut : Work = cutMasks w b x in
+      let merged : Work = pairMerge w b (bucketMerge w b (work (dropZero w (cut .group)) (cut .rows))) in
+      three-term-keeps w hw vars b hb g0 rows0 _
+      (pair-merge-keeps w hw vars b hb g0 rows0 (work (toMinusOne w (merged .group)) (merged .rows))
+      (minus-one-keeps w hw vars b hb g0 rows0 (merged .group) (merged .rows)
+      (pair-merge-keeps w hw vars b hb g0 rows0 _
+      (bucket-keeps w hw vars b hb g0 rows0 _
+      (drop-zero-keeps w hw vars b hb g0 rows0 (cut .group) (cut .rows)
+      (cut-masks-keep w hw vars b hb g0 rows0 x h))))))
