@@ -27,3 +27,4 @@ pub mod BasesLaws
 pub mod GroupsLaws
 pub mod GroupOfLaws
 pub mod SettleLaws
+pub mod ExtendsLaws

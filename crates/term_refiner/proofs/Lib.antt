@@ -4,3 +4,4 @@ pub mod StepsLaws
 pub mod MergeLaws
 pub mod CollapseLaws
 pub mod RefineLaws
+pub mod RefineFormLaws

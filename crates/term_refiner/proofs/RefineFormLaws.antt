@@ -1,0 +1,134 @@
+-- Refining a semilinear form keeps its value and its validity.
+use mathlib.Core.Path.{_≡_, refl, ap, ap₂, sym, _∙_, subst}
+use Prim.Native.Nat.{ℕ, _+_, _*_, _%_, _^_, _≤_, _<_}
+use native.Mathlib.Omega.{arith}
+use mathlib.Core.List.{List, [], _∷_}
+use mathlib.Core.Bool.{Bool, true, false}
+use lib.ListN.{length}
+use borrow.Author.Tests.{le-leb, lt-ltb}
+use Rattle.arith.specs.Congruence.{Eqm}
+use Rattle.arith.proofs.CongruenceLaws.{eqm-of-eq, eqm-refl, eqm-trans, eqm-add}
+use Rattle.record.specs.Tree.{Tree}
+use Rattle.expr.specs.Hash.{structuralHash}
+use Rattle.expr.specs.Value.{value}
+use Rattle.semilinear.specs.declared.group.Group.{Group}
+use Rattle.semilinear.specs.Form.{Row, Form, isAtomTree, sumRows, formValue, rowsOk, fitsTable, validForm}
+use Rattle.semilinear.specs.Group.{Entry, Work, work, at, isLive, emptyGroup, anyBasis, basesOf, groupOf, ungrouped, settle}
+use Rattle.semilinear.proofs.FormLaws.{form-parts, parts-form}
+use Rattle.semilinear.proofs.AtomLaws.{atom-tree, tree-atom}
+use Rattle.semilinear.proofs.TotalLaws.{sumTo, sum-ext, worth, worth-live, worth-dead, total}
+use Rattle.semilinear.proofs.WorkLaws.{rowValue}
+use Rattle.semilinear.proofs.BasesLaws.{risingFrom, risen}
+use Rattle.semilinear.proofs.GroupsLaws.{basisSum, basesSum, groups-share, bases-rising}
+use Rattle.semilinear.proofs.GroupOfLaws.{Fresh, Group-of, group-of}
+use Rattle.semilinear.proofs.SettleLaws.{owed, owed-live, owed-consumed, settled}
+use Rattle.semilinear.proofs.ExtendsLaws.{Extends, extends-trans, grown-extends, settled-extends, ungrouped-extends}
+use Rattle.term_refiner.specs.RefineTerms.{refineGroup, refineAll, refineForm}
+use Rattle.term_refiner.proofs.KeptLaws.{Fits, AllFit, Kept, kept-start}
+use Rattle.term_refiner.proofs.RefineLaws.{refine-keeps}
+
+-- what the live entries owe is what they come to beside the basis
+owed-total : (w : ℕ) (vars : List ℕ) (b : Tree) (g : Group) (rows : List Row) → AllFit w vars b g rows
+    → sumTo (λ (k : ℕ). owed w vars rows (at g k)) (g .len) ≡ total (value w vars b) g
+unfolding total
+owed-total w vars b g rows a =
+    sum-ext (λ (k : ℕ). owed w vars rows (at g k)) (λ (k : ℕ). worth (value w vars b) (at g k)) (g .len)
+    (λ k lk. go k lk (isLive (at g k)) refl)
+  where
+    go : (k : ℕ) → k < g .len → (p : Bool) → isLive (at g k) ≡ p
+        → owed w vars rows (at g k) ≡ worth (value w vars b) (at g k)
+    go k lk true e =
+        owed-live w vars rows (at g k) e
+        ∙ ap (λ (n : ℕ). at g k .coeff * n) (a .fit k lk e .atom-value)
+        ∙ sym (worth-live (value w vars b) (at g k) e)
+    go k lk false e = owed-consumed w vars rows (at g k) e ∙ sym (worth-dead (value w vars b) (at g k) e)
+
+module _ (w : ℕ) (hw : w ≤ 64) (vars : List ℕ) (before : List Row) (most : length before ≤ 256)
+    (ok : rowsOk w before ≡ true) where
+  -- the table after the group of the basis b
+  record Step (b : Tree) (rows after : List Row) : Type 0 where
+    sum : Eqm (2 ^ w) (sumRows w vars after) (sumRows w vars rows + basisSum anyBasis w vars b before)
+    extends : Extends w vars rows after
+
+  fresh-fits : (b : Tree) (rows : List Row) → Extends w vars before rows → (e : Entry) → Fresh w vars b before e
+      → Fits w vars b rows e
+  fresh-fits b rows x e f =
+      record {
+        coeff-lt = f .coeff-lt;
+        mask-lt = f .mask-lt;
+        atom-lt = omega (arith, f .atom-lt, x .longer);
+        atom-value = x .older (e .atom) (f .atom-lt) ∙ f .atom-value;
+      }
+
+  step : (b : Tree) → isAtomTree b ≡ true → (rows : List Row) → Extends w vars before rows
+      → let x : Work = refineGroup w b (work (groupOf anyBasis w b 0 before emptyGroup) rows) in
+      Step b rows (settle w (x .group) (x .rows))
+  step b hb rows e =
+      let g : Group = groupOf anyBasis w b 0 before emptyGroup in
+      let o = group-of anyBasis w vars b (tree-atom b hb .expr) before most ok in
+      let a : AllFit w vars b g rows =
+      record { fit = λ k lk live. fresh-fits b rows e (at g k) (o .fresh k lk) } in
+      let k = refine-keeps w hw vars b hb g rows (work g rows) (kept-start w vars b g rows (o .sized) a) in
+      let x : Work = refineGroup w b (work g rows) in
+      let s = settled w vars hw (x .group) (x .rows) (λ i li live. k .all-fit .fit i li live .atom-lt) in
+      record {
+        sum =
+            eqm-trans (s .sum)
+            (eqm-add (eqm-of-eq (k .grown .sum-same))
+            (eqm-trans (eqm-of-eq (owed-total w vars b (x .group) (x .rows) (k .all-fit)))
+            (eqm-trans (k .total-same) (eqm-of-eq (o .sum)))));
+        extends = extends-trans w vars (grown-extends w vars (k .grown)) (settled-extends w vars s);
+      }
+
+  -- and after all groups
+  record Steps (bases : List Tree) (rows after : List Row) : Type 0 where
+    sum : Eqm (2 ^ w) (sumRows w vars after) (sumRows w vars rows + basesSum anyBasis w vars bases before)
+    extends : Extends w vars before after
+
+  steps : (bases : List Tree) (n : ℕ) → risingFrom n bases ≡ true → (rows : List Row) → Extends w vars before rows
+      → Steps bases rows (refineAll w before bases rows)
+  unfolding refineAll basesSum
+  steps [] n r rows e = record { sum = eqm-of-eq (omega arith); extends = e }
+  steps (b ∷ l) n r rows e =
+      let p = risen n b l r in
+      let s = step b (atom-tree b (p .atom)) rows e in
+      let t = steps l (structuralHash b) (p .rest) _ (extends-trans w vars e (s .extends)) in
+      record {
+        sum =
+            eqm-trans (t .sum)
+            (eqm-trans (eqm-add (s .sum) (eqm-refl (basesSum anyBasis w vars l before))) (eqm-of-eq (omega arith)));
+        extends = t .extends;
+      }
+
+-- ---- the form
+
+module _ (f : Form) (e : validForm f ≡ true) where
+  made : (vars : List ℕ) → Steps (f .bitwidth) (form-parts f e .width-le) vars (f .rows) (form-parts f e .atoms-le)
+      (form-parts f e .rows-ok) (basesOf anyBasis (f .bitwidth) (f .rows) [])
+      (ungrouped anyBasis (f .bitwidth) (f .rows)) (refineForm f .rows)
+  unfolding refineForm
+  made vars =
+      let v = form-parts f e in
+      steps (f .bitwidth) (v .width-le) vars (f .rows) (v .atoms-le) (v .rows-ok)
+      (basesOf anyBasis (f .bitwidth) (f .rows) []) 0 (bases-rising anyBasis (f .bitwidth) (f .rows) (v .rows-ok))
+      (ungrouped anyBasis (f .bitwidth) (f .rows)) (ungrouped-extends anyBasis (f .bitwidth) vars (f .rows))
+
+  pub value-refine : (vars : List ℕ) → formValue vars (refineForm f) ≡ formValue vars f
+  unfolding formValue refineForm
+  value-refine vars =
+      let v = form-parts f e in
+      eqm-add (eqm-refl (f .constant))
+      (eqm-trans (made vars .sum) (eqm-of-eq (sym (groups-share anyBasis (f .bitwidth) vars (f .rows) (v .rows-ok)))))
+      .eqm
+
+  pub valid-refine : fitsTable (refineForm f .rows) ≡ true → validForm (refineForm f) ≡ true
+  unfolding refineForm validForm
+  valid-refine h =
+      let v = form-parts f e in
+      simp (
+        le-leb 1 (f .bitwidth) (v .width-pos),
+        le-leb (f .bitwidth) 64 (v .width-le),
+        lt-ltb (f .constant) (2 ^ f .bitwidth) (v .fits),
+        h,
+        made [] .extends .ok (v .rows-ok),
+      )
