@@ -1,2 +1,3 @@
--- The worked examples computed.
+-- The worked examples computed, and the claim about any list of calls.
 mod ExamplesLaws
+pub mod CallsLaws

@@ -1,2 +1,3 @@
--- The worked examples of document 01 (starred puzzles), and cases that are easy to get wrong.
+-- The worked examples of document 01 (starred puzzles), cases that are easy to get wrong, and any list of calls.
 pub mod Examples
+pub mod Calls

@@ -28,3 +28,4 @@ pub mod GroupsLaws
 pub mod GroupOfLaws
 pub mod SettleLaws
 pub mod ExtendsLaws
+pub mod MadeLaws

@@ -1,0 +1,116 @@
+-- Any list of calls of the five passes keeps the value: from a valid form, and so from any expression that normalising
+-- accepts (specs/Calls.antt). By induction on the list; a refused call changes nothing, and no hash is a premise.
+use mathlib.Core.Path.{_≡_, refl, ap, sym, _∙_}
+use Prim.Native.Nat.{ℕ}
+use mathlib.Core.List.{List, [], _∷_}
+use mathlib.Core.Bool.{Bool, true}
+use Rattle.record.specs.Tree.{IsBytes}
+use Rattle.expr.specs.ExprValue.{exprValue}
+use Rattle.semilinear.specs.Form.{Form, formValue, encodeForm, validForm}
+use Rattle.semilinear.specs.Outcome.{Outcome, accepted, refused, formOutcome}
+use Rattle.semilinear.specs.Value.{semilinearValue}
+use Rattle.semilinear.specs.Compact.{limitOutcome}
+use Rattle.semilinear.proofs.MadeLaws.{Kept, Made, made, not-made, limit-made, pass-made, compact-made}
+use Rattle.semilinear_normalizer.specs.Normalize.{normalizeToSemilinear}
+use Rattle.semilinear_normalizer.proofs.NormalizeLaws.{encoded-value, Normalized, normalize-form, normalize-value}
+use Rattle.term_refiner.specs.RefineTerms.{refineForm, refineTerms}
+use Rattle.term_refiner.proofs.RefineFormLaws.{value-refine, valid-refine}
+use Rattle.structure_recovery.specs.RecoverStructure.{recoverForm, recoverStructure}
+use Rattle.structure_recovery.specs.CoalesceTerms.{coalesceForm, coalesceTerms}
+use Rattle.structure_recovery.specs.FlattenComplexAtoms.{flattened, flattenForm, flattenComplexAtoms}
+use Rattle.structure_recovery.proofs.FlattenLaws.{value-flatten, valid-flatten}
+use Rattle.claims.specs.Calls.{Pass, Call, refine-terms, recover-structure, coalesce-terms}
+use Rattle.claims.specs.Calls.{flatten-complex-atoms, compact-atom-table, passGives, useOf, afterCall, inUse}
+use Rattle.claims.specs.Calls.{SameValue}
+
+-- ---- one call
+
+module _ (f : Form) (ok : validForm f ≡ true) (len : ℕ) where
+  refine-made : Made f (refineTerms (encodeForm f) len)
+  unfolding refineTerms refineForm
+  refine-made =
+      pass-made (λ f. limitOutcome (refineForm f) false) f ok
+      (limit-made f (refineForm f) false
+      (λ fits. record { valid = valid-refine f ok fits; wide = refl; value = value-refine f ok })) len
+
+  flatten-made : Made f (flattenComplexAtoms (encodeForm f) len)
+  unfolding flattenComplexAtoms flattenForm
+  flatten-made =
+      pass-made (λ f. limitOutcome (flattenForm f) (flattened f .flag)) f ok
+      (limit-made f (flattenForm f) (flattened f .flag)
+      (λ fits. record { valid = valid-flatten f ok fits; wide = refl; value = λ vars. value-flatten vars f ok })) len
+
+  recover-made : Made f (recoverStructure (encodeForm f) len)
+  recover-made = ?recover
+
+  coalesce-made : Made f (coalesceTerms (encodeForm f) len)
+  coalesce-made = ?coalesce
+
+  pub pass-keeps : (p : Pass) → Made f (passGives p (encodeForm f) len)
+  unfolding passGives
+  pass-keeps refine-terms = refine-made
+  pass-keeps recover-structure = recover-made
+  pass-keeps coalesce-terms = coalesce-made
+  pass-keeps flatten-complex-atoms = flatten-made
+  pass-keeps compact-atom-table = compact-made f ok len
+
+-- ---- any list of calls
+
+-- the bytes t are those of a valid form with the value of f
+record InUse (f : Form) (t : List ℕ) : Type 0 where
+  form : Form
+  encoded : t ≡ encodeForm form
+  kept : Kept f form
+
+call-keeps : (f : Form) → validForm f ≡ true → (c : Call) → InUse f (afterCall c (encodeForm f))
+unfolding afterCall useOf formOutcome
+call-keeps f ok c = go (passGives (c .pass) (encodeForm f) (c .len)) (pass-keeps f ok (c .len) (c .pass))
+  where
+    go : (o : Outcome) → Made f o → InUse f (useOf (encodeForm f) o)
+    go o (made g flag k e) = record { form = g; encoded = ap (useOf (encodeForm f)) e; kept = k }
+    go o (not-made n e) =
+        record {
+          form = f;
+          encoded = ap (useOf (encodeForm f)) e;
+          kept = record { valid = ok; wide = refl; value = λ vars. refl };
+        }
+
+list-keeps : (calls : List Call) (f : Form) → validForm f ≡ true → InUse f (inUse calls (encodeForm f))
+unfolding inUse
+list-keeps [] f ok =
+    record { form = f; encoded = refl; kept = record { valid = ok; wide = refl; value = λ vars. refl } }
+list-keeps (c ∷ l) f ok =
+    let one = call-keeps f ok c in
+    let rest = list-keeps l (one .form) (one .kept .valid) in
+    record {
+      form = rest .form;
+      encoded = ap (inUse l) (one .encoded) ∙ rest .encoded;
+      kept =
+          record {
+            valid = rest .kept .valid;
+            wide = rest .kept .wide ∙ one .kept .wide;
+            value = λ vars. rest .kept .value vars ∙ one .kept .value vars;
+          };
+    }
+
+-- after any list of calls from the bytes of a valid form
+pub any-calls : (calls : List Call) (f : Form) → validForm f ≡ true
+    → SameValue (encodeForm f) (inUse calls (encodeForm f))
+any-calls calls f ok =
+    let r = list-keeps calls f ok in
+    record {
+      form = r .form;
+      encoded = r .encoded;
+      valid = r .kept .valid;
+      value = λ vars.
+          ap (λ (t : List ℕ). semilinearValue t vars) (r .encoded)
+          ∙ encoded-value (r .form) (r .kept .valid) vars
+          ∙ r .kept .value vars
+          ∙ sym (encoded-value f ok vars);
+    }
+
+-- and so from any expression that normalising accepts: the value is the expression's
+pub any-calls-expr : (s : List ℕ) → IsBytes s → (len : ℕ) (bytes numbers : List ℕ)
+    → normalizeToSemilinear s len ≡ accepted bytes numbers → (calls : List Call) (vars : List ℕ)
+    → semilinearValue (inUse calls bytes) vars ≡ exprValue s vars
+any-calls-expr s h len bytes numbers e calls vars = ?expr
