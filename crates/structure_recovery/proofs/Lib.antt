@@ -2,3 +2,5 @@
 pub mod OneVarLaws
 pub mod FlatRowsLaws
 pub mod FlattenLaws
+pub mod BareLaws
+pub mod HeldLaws
