@@ -4,3 +4,5 @@ pub mod FlatRowsLaws
 pub mod FlattenLaws
 pub mod BareLaws
 pub mod HeldLaws
+pub mod RecoverPairLaws
+pub mod RecoverGroupLaws
