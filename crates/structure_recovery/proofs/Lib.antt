@@ -6,3 +6,4 @@ pub mod BareLaws
 pub mod HeldLaws
 pub mod RecoverPairLaws
 pub mod RecoverGroupLaws
+pub mod RecoverLaws
