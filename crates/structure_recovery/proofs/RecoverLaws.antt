@@ -197,15 +197,17 @@ module _ (vars : List ℕ) (f : Form) (e : validForm f ≡ true) where
       (bases-rising anyBasis w (f .rows) (v .rows-ok)) (ungrouped anyBasis w (f .rows)) (f .constant) (v .fits)
       (u .fits) (record { longer = omega (arith, u .count); older = λ j l. u .same j })
 
-  -- recovering structure keeps the value of a form, under every assignment
-  pub value-recover : formValue vars (recoverForm f) ≡ formValue vars f
-  unfolding formValue
-  value-recover =
-      let r : Form = recoverForm f in
-      let share = groups-share anyBasis w vars (f .rows) (form-parts f e .rows-ok) in
-      let same : Eqm (2 ^ w) (r .constant + sumRows w vars (r .rows)) (f .constant + sumRows w vars (f .rows)) =
-      eqm-trans (recover-ends .sum) (eqm-of-eq (omega (arith, share))) in
-      ap (λ (n : ℕ). (r .constant + sumRows n vars (r .rows)) % 2 ^ n) (recover-ends .width) ∙ same .eqm
+-- recovering structure keeps the value of a form, under every assignment
+pub value-recover : (vars : List ℕ) (f : Form) → validForm f ≡ true → formValue vars (recoverForm f) ≡ formValue vars f
+unfolding formValue
+value-recover vars f e =
+    let w : ℕ = f .bitwidth in
+    let r : Form = recoverForm f in
+    let h = recover-ends vars f e in
+    let share = groups-share anyBasis w vars (f .rows) (form-parts f e .rows-ok) in
+    let same : Eqm (2 ^ w) (r .constant + sumRows w vars (r .rows)) (f .constant + sumRows w vars (f .rows)) =
+    eqm-trans (h .sum) (eqm-of-eq (omega (arith, share))) in
+    ap (λ (n : ℕ). (r .constant + sumRows n vars (r .rows)) % 2 ^ n) (h .width) ∙ same .eqm
 
 -- and gives a valid form where its table keeps the limits
 pub valid-recover : (f : Form) → validForm f ≡ true → fitsTable (recoverForm f .rows) ≡ true
