@@ -2,3 +2,8 @@
 pub mod OneVarLaws
 pub mod FlatRowsLaws
 pub mod FlattenLaws
+pub mod BareLaws
+pub mod HeldLaws
+pub mod RecoverPairLaws
+pub mod RecoverGroupLaws
+pub mod RecoverLaws
