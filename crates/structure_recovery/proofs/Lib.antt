@@ -2,3 +2,6 @@
 pub mod OneVarLaws
 pub mod FlatRowsLaws
 pub mod FlattenLaws
+pub mod BareLaws
+pub mod BitSumLaws
+pub mod CarriedLaws
