@@ -5,3 +5,6 @@ pub mod FlattenLaws
 pub mod BareLaws
 pub mod BitSumLaws
 pub mod CarriedLaws
+pub mod AddedLaws
+pub mod UngroupedLaws
+pub mod CoalesceLaws
