@@ -1,11 +1,11 @@
 -- The coefficient of each bit (specs/CoalesceTerms.antt): a group of live entries comes, modulo 2 ^ w, to the sum over
--- the bits of the basis of value x, each times the sum of the coefficients whose masks have it. The laws are of the
--- masks cut to p bits, none, one more and all w of them.
+-- the bits of the basis of value x, each times the sum of the coefficients whose masks have it. First the
+-- masks cut to p bits: none, one more, all w of them.
 use mathlib.Core.Path.{_≡_, refl, sym, ap, _∙_}
 use Prim.Native.Nat.{ℕ, zero, suc, _+_, _*_, _%_, _^_, _≤_, _<_}
 use native.Mathlib.Omega.{arith}
 use native.Mathlib.Nat.{mod-eq-of-lt, mod-lt, mod-one}
-use mathlib.Core.Bool.{true}
+use mathlib.Core.Bool.{Bool, true, false}
 use lib.Arith.{mod-mul}
 use lib.Bits.{bitAnd, and-comm, and-zero-r, or-disjoint}
 use lib.Dec.{eqb}
@@ -15,12 +15,12 @@ use Rattle.arith.specs.Congruence.{Eqm}
 use Rattle.arith.specs.Width.{modAdd}
 use Rattle.arith.proofs.BitLaws.{bit-lt, bit-past, and-pow, bit-cases}
 use Rattle.arith.proofs.MaskLaws.{and-split}
-use Rattle.arith.proofs.CongruenceLaws.{eqm-of-eq, eqm-refl, eqm-trans, eqm-add}
-use Rattle.arith.proofs.WidthLaws.{mod-add-eqm}
+use Rattle.arith.proofs.CongruenceLaws.{eqm-of-eq, eqm-refl, eqm-sym, eqm-trans, eqm-add, eqm-mul-r}
+use Rattle.arith.proofs.WidthLaws.{mod-add-eqm, mod-add-lt}
 use Rattle.record.specs.Choice.{when}
 use Rattle.semilinear.specs.declared.group.Group.{Group}
 use Rattle.semilinear.specs.Group.{at, isLive}
-use Rattle.semilinear.proofs.EntryLaws.{for-ind}
+use Rattle.semilinear.proofs.EntryLaws.{for-ind, for-keeps}
 use Rattle.semilinear.proofs.TotalLaws.{sumTo, sum-ext, worth, worth-live, total}
 use Rattle.semilinear.proofs.SettleLaws.{sum-next}
 use Rattle.structure_recovery.specs.CoalesceTerms.{bitCoeffAt, bitCoeff}
@@ -132,3 +132,47 @@ module _ (w : ℕ) (hw : w ≤ 64) (g : Group) (p : ℕ) where
   bit-coeff =
       for-ind (λ i s. Eqm (2 ^ w) s (bitSum g p i)) (bitCoeffAt w g p) 0 0 (g .len) (omega arith)
       (λ i s l u h. bit-turn i s h) bit-start
+
+-- ---- as sums over the bits
+
+pub and-one : (x p : ℕ) → bitAnd x (2 ^ p) ≡ bitAt x p * 2 ^ p
+and-one x p = and-comm x (2 ^ p) ∙ and-pow p x
+
+low-bits : (x m p : ℕ) → bitAnd x (m % 2 ^ p) ≡ sumTo (λ k. bitAt m k * (bitAt x k * 2 ^ k)) p
+unfolding sumTo
+low-bits x m zero = ap (bitAnd x) (mod-one m) ∙ and-zero-r x
+low-bits x m (suc p) =
+    ap (λ (n : ℕ). bitAnd x (m % 2 ^ n)) (let e : suc p ≡ p + 1 = omega arith in e)
+    ∙ and-next x m p
+    ∙ omega (arith, low-bits x m p, ap (λ (n : ℕ). bitAt m p * n) (and-one x p))
+
+-- what a mask of w bits keeps, bit by bit
+pub and-bits : (w x m : ℕ) → m < 2 ^ w → bitAnd x m ≡ sumTo (λ k. bitAt m k * (bitAt x k * 2 ^ k)) w
+and-bits w x m h = ap (bitAnd x) (sym (mod-eq-of-lt h)) ∙ low-bits x m w
+
+module _ (w : ℕ) (hw : w ≤ 64) (x : ℕ) (g : Group) where
+  low-total-bits : (p : ℕ) → Eqm (2 ^ w) (lowTotal x g p) (sumTo (λ k. bitCoeff w g k * (bitAt x k * 2 ^ k)) p)
+  unfolding sumTo
+  low-total-bits zero = eqm-of-eq (low-total-none x g)
+  low-total-bits (suc p) =
+      eqm-trans
+      (eqm-of-eq (ap (lowTotal x g) (let e : suc p ≡ p + 1 = omega arith in e) ∙ low-total-next x g p))
+      (eqm-add (low-total-bits p)
+      (eqm-trans (eqm-mul-r (bitAnd x (2 ^ p)) (eqm-sym (bit-coeff w hw g p)))
+      (eqm-of-eq (ap (λ (n : ℕ). bitCoeff w g p * n) (and-one x p)))))
+
+  -- what a group of live entries comes to, bit by bit
+  pub total-bits : ((k : ℕ) → k < g .len → isLive (at g k) ≡ true) → ((k : ℕ) → k < g .len → at g k .mask < 2 ^ w)
+      → Eqm (2 ^ w) (total x g) (sumTo (λ k. bitCoeff w g k * (bitAt x k * 2 ^ k)) w)
+  total-bits live small = eqm-trans (eqm-of-eq (sym (low-total-all x g w live small))) (low-total-bits w)
+
+-- the coefficient of a bit fits
+pub bit-coeff-lt : (w : ℕ) → w ≤ 64 → (g : Group) (p : ℕ) → bitCoeff w g p < 2 ^ w
+unfolding bitCoeff bitCoeffAt
+bit-coeff-lt w hw g p =
+    for-keeps (λ s. s < 2 ^ w) (bitCoeffAt w g p) 0 (g .len) 0
+    (λ i s l u h. turn (at g i .coeff) s (eqb (bitAt (at g i .mask) p) 1) h) (pow-pos w)
+  where
+    turn : (c s : ℕ) (b : Bool) → s < 2 ^ w → when b (λ _. modAdd s c w) (λ _. s) < 2 ^ w
+    turn c s true h = mod-add-lt s c w hw
+    turn c s false h = h

@@ -4,7 +4,7 @@ use mathlib.Core.Path.{_≡_, refl, sym, ap, _∙_, subst}
 use Prim.Native.Nat.{ℕ, suc, _+_, _*_, _^_, _≤_, _<_}
 use native.Mathlib.Omega.{arith}
 use mathlib.Core.List.{List, [], _∷_}
-use mathlib.Core.Bool.{Bool, true, false, _&&_}
+use mathlib.Core.Bool.{Bool, true, false, not, _&&_}
 use lib.Bits.{bitAnd}
 use lib.Dec.{eqb, ltb}
 use lib.Pow.{pow-pos}
@@ -15,11 +15,11 @@ use Rattle.record.specs.Choice.{when}
 use Rattle.record.proofs.SizedLaws.{and-true}
 use Rattle.semilinear.specs.declared.group.Group.{Group}
 use Rattle.semilinear.specs.Group.{at, isLive}
-use Rattle.semilinear.proofs.EntryLaws.{for-ind}
+use Rattle.semilinear.proofs.EntryLaws.{for-ind, for-keeps}
 use Rattle.semilinear.proofs.TotalLaws.{total}
 use Rattle.structure_recovery.specs.CoalesceTerms.{Carried, bitCoeff, carry, carryAt, carriedOf}
 use Rattle.structure_recovery.proofs.BitSumLaws.{and-above, lowTotal, low-total-none, low-total-next}
-use Rattle.structure_recovery.proofs.BitSumLaws.{low-total-all, bit-coeff}
+use Rattle.structure_recovery.proofs.BitSumLaws.{low-total-all, bit-coeff, bit-coeff-lt}
 
 -- what the bits come to beside a basis of value x
 unfoldable pub carriedSum : ℕ → List Carried → ℕ
@@ -160,3 +160,44 @@ module _ (w : ℕ) (hw : w ≤ 64) (x : ℕ) (g : Group) where
   pub carried-sum : ((k : ℕ) → k < g .len → isLive (at g k) ≡ true) → ((k : ℕ) → k < g .len → at g k .mask < 2 ^ w)
       → Eqm (2 ^ w) (carriedSum x (carriedOf w g)) (total x g)
   carried-sum live small = eqm-trans (carried-all .sum) (eqm-of-eq (low-total-all x g w live small))
+
+-- ---- the coefficients
+
+-- none is 0, and all are below n
+unfoldable pub coeffsFit : ℕ → List Carried → Bool
+coeffsFit n [] = true
+coeffsFit n (y ∷ l) = (not (eqb (y .coeff) 0) && ltb (y .coeff) n) && coeffsFit n l
+
+module _ (n c p : ℕ) (ne : eqb c 0 ≡ false) (lt : c < n) where
+  fit-cons : (m : ℕ) (l : List Carried) → coeffsFit n l ≡ true → coeffsFit n (carried c m ∷ l) ≡ true
+  unfolding coeffsFit
+  fit-cons m l e = simp (ne, lt-ltb c n lt, e)
+
+  carry-fits : (l : List Carried) → coeffsFit n l ≡ true → coeffsFit n (carry c p l) ≡ true
+  unfolding coeffsFit carry
+  carry-fits [] e = fit-cons (2 ^ p) [] e
+  carry-fits (y ∷ l) e =
+      let q = and-true (not (eqb (y .coeff) 0) && ltb (y .coeff) n) (coeffsFit n l) e in
+      go (q .0) (q .1) (carry-fits l (q .1)) (eqb (y .coeff) c) (ltb c (y .coeff))
+    where
+      go : not (eqb (y .coeff) 0) && ltb (y .coeff) n ≡ true → coeffsFit n l ≡ true → coeffsFit n (carry c p l) ≡ true
+          → (s t : Bool)
+          → coeffsFit n
+          (when s (λ _. carried c (y .bits + 2 ^ p) ∷ l)
+          (λ _. when t (λ _. carried c (2 ^ p) ∷ y ∷ l) (λ _. y ∷ carry c p l)))
+          ≡ true
+      go one ok below true t = fit-cons (y .bits + 2 ^ p) l ok
+      go one ok below false true = fit-cons (2 ^ p) (y ∷ l) e
+      go one ok below false false = simp (one, below)
+
+-- each coefficient is one that a term may have
+pub carried-fits : (w : ℕ) → w ≤ 64 → (g : Group) → coeffsFit (2 ^ w) (carriedOf w g) ≡ true
+unfolding carriedOf carryAt coeffsFit
+carried-fits w hw g =
+    for-keeps (λ l. coeffsFit (2 ^ w) l ≡ true) (carryAt w g) 0 w []
+    (λ p l a u h. turn p l h (eqb (bitCoeff w g p) 0) refl) refl
+  where
+    turn : (p : ℕ) (l : List Carried) → coeffsFit (2 ^ w) l ≡ true → (b : Bool) → eqb (bitCoeff w g p) 0 ≡ b
+        → coeffsFit (2 ^ w) (when b (λ _. l) (λ _. carry (bitCoeff w g p) p l)) ≡ true
+    turn p l h true e = h
+    turn p l h false e = carry-fits (2 ^ w) (bitCoeff w g p) p e (bit-coeff-lt w hw g p) l h
