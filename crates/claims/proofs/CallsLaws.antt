@@ -3,7 +3,7 @@
 use mathlib.Core.Path.{_≡_, refl, ap, sym, _∙_}
 use Prim.Native.Nat.{ℕ}
 use mathlib.Core.List.{List, [], _∷_}
-use mathlib.Core.Bool.{Bool, true}
+use mathlib.Core.Bool.{Bool, true, false}
 use Rattle.record.specs.Tree.{IsBytes}
 use Rattle.expr.specs.ExprValue.{exprValue}
 use Rattle.semilinear.specs.Form.{Form, formValue, encodeForm, validForm}
@@ -12,12 +12,14 @@ use Rattle.semilinear.specs.Value.{semilinearValue}
 use Rattle.semilinear.specs.Compact.{limitOutcome}
 use Rattle.semilinear.proofs.MadeLaws.{Kept, Made, made, not-made, limit-made, pass-made, compact-made}
 use Rattle.semilinear_normalizer.specs.Normalize.{normalizeToSemilinear}
-use Rattle.semilinear_normalizer.proofs.NormalizeLaws.{encoded-value, Normalized, normalize-form, normalize-value}
+use Rattle.semilinear_normalizer.proofs.NormalizeLaws.{encoded-value, normalize-form}
 use Rattle.term_refiner.specs.RefineTerms.{refineForm, refineTerms}
 use Rattle.term_refiner.proofs.RefineFormLaws.{value-refine, valid-refine}
 use Rattle.structure_recovery.specs.RecoverStructure.{recoverForm, recoverStructure}
 use Rattle.structure_recovery.specs.CoalesceTerms.{coalesceForm, coalesceTerms}
 use Rattle.structure_recovery.specs.FlattenComplexAtoms.{flattened, flattenForm, flattenComplexAtoms}
+use Rattle.structure_recovery.proofs.RecoverLaws.{value-recover, valid-recover, width-recover}
+use Rattle.structure_recovery.proofs.CoalesceLaws.{value-coalesce, valid-coalesce}
 use Rattle.structure_recovery.proofs.FlattenLaws.{value-flatten, valid-flatten}
 use Rattle.claims.specs.Calls.{Pass, Call, refine-terms, recover-structure, coalesce-terms}
 use Rattle.claims.specs.Calls.{flatten-complex-atoms, compact-atom-table, passGives, useOf, afterCall, inUse}
@@ -41,10 +43,18 @@ module _ (f : Form) (ok : validForm f ≡ true) (len : ℕ) where
       (λ fits. record { valid = valid-flatten f ok fits; wide = refl; value = λ vars. value-flatten vars f ok })) len
 
   recover-made : Made f (recoverStructure (encodeForm f) len)
-  recover-made = ?recover
+  unfolding recoverStructure
+  recover-made =
+      pass-made (λ f. limitOutcome (recoverForm f) false) f ok
+      (limit-made f (recoverForm f) false
+      (λ fits. record { valid = valid-recover f ok fits; wide = width-recover f ok; value = λ vars. value-recover vars f ok })) len
 
   coalesce-made : Made f (coalesceTerms (encodeForm f) len)
-  coalesce-made = ?coalesce
+  unfolding coalesceTerms coalesceForm
+  coalesce-made =
+      pass-made (λ f. limitOutcome (coalesceForm f) false) f ok
+      (limit-made f (coalesceForm f) false
+      (λ fits. record { valid = valid-coalesce f ok fits; wide = refl; value = λ vars. value-coalesce vars f ok })) len
 
   pub pass-keeps : (p : Pass) → Made f (passGives p (encodeForm f) len)
   unfolding passGives
@@ -113,4 +123,10 @@ any-calls calls f ok =
 pub any-calls-expr : (s : List ℕ) → IsBytes s → (len : ℕ) (bytes numbers : List ℕ)
     → normalizeToSemilinear s len ≡ accepted bytes numbers → (calls : List Call) (vars : List ℕ)
     → semilinearValue (inUse calls bytes) vars ≡ exprValue s vars
-any-calls-expr s h len bytes numbers e calls vars = ?expr
+any-calls-expr s h len bytes numbers e calls vars =
+    let n = normalize-form s h len bytes numbers e in
+    let a = any-calls calls (n .form) (n .valid) in
+    ap (λ (t : List ℕ). semilinearValue (inUse calls t) vars) (n .encoded)
+    ∙ a .value vars
+    ∙ encoded-value (n .form) (n .valid) vars
+    ∙ n .kept vars

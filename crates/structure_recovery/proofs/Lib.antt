@@ -7,3 +7,8 @@ pub mod HeldLaws
 pub mod RecoverPairLaws
 pub mod RecoverGroupLaws
 pub mod RecoverLaws
+pub mod BitSumLaws
+pub mod CarriedLaws
+pub mod AddedLaws
+pub mod UngroupedLaws
+pub mod CoalesceLaws

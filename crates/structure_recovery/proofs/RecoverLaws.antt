@@ -227,3 +227,6 @@ valid-recover f e t =
       records-le = leb-true _ _ (u .1);
       rows-ok = subst (λ (n : ℕ). rowsOk n (r .rows) ≡ true) (sym (h .width)) (h .rows-ok);
     })
+
+pub width-recover : (f : Form) → validForm f ≡ true → recoverForm f .bitwidth ≡ f .bitwidth
+width-recover f e = recover-ends [] f e .width

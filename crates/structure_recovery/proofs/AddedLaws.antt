@@ -1,0 +1,129 @@
+-- Rows to which terms are added (specs/CoalesceTerms.antt): the rows that were there stay, and the sum changes by what
+-- is added, modulo 2 ^ w. The new terms of a group add what its carried bits come to.
+use mathlib.Core.Path.{_≡_, refl, sym, ap, _∙_, subst}
+use Prim.Native.Nat.{ℕ, _+_, _-_, _*_, _^_, _≤_, _<_}
+use native.Mathlib.Omega.{arith}
+use native.Mathlib.Nat.{lt-of-lt-of-le}
+use mathlib.Core.List.{List, [], _∷_}
+use mathlib.Core.Bool.{Bool, true, false}
+use lib.ListN.{length}
+use lib.Bits.{bitAnd}
+use lib.Dec.{eqb}
+use lib.Pow.{pow-mono}
+use borrow.Author.Tests.{eqb-true}
+use Rattle.arith.specs.Congruence.{Eqm}
+use Rattle.arith.proofs.CongruenceLaws.{eqm-of-eq, eqm-refl, eqm-trans, eqm-add}
+use Rattle.arith.proofs.MaskLaws.{and-full}
+use Rattle.record.specs.Tree.{Tree}
+use Rattle.expr.specs.Value.{value}
+use Rattle.expr.proofs.ValueLaws.{value-lt}
+use Rattle.semilinear.specs.Form.{Row, sumRows, rowsOk}
+use Rattle.semilinear.specs.Group.{createMasked, addCoeff}
+use Rattle.semilinear.proofs.AtomLaws.{Atom, atom-tree}
+use Rattle.semilinear.proofs.WorkLaws.{rowValue, Grown, length-masked, row-value-masked, grown-masked}
+use Rattle.semilinear.proofs.SettleLaws.{add-sum, add-value, add-length, add-ok}
+use Rattle.structure_recovery.specs.RecoverStructure.{rowWith, withBare}
+use Rattle.structure_recovery.specs.CoalesceTerms.{Carried, carriedRows}
+use Rattle.structure_recovery.proofs.BareLaws.{with-bare}
+use Rattle.structure_recovery.proofs.CarriedLaws.{carriedSum, bitsBelow, below-cons}
+
+-- after has the rows of before, perhaps others too, and n more in its sum
+pub record Added (w : ℕ) (vars : List ℕ) (n : ℕ) (before after : List Row) : Type 0 where
+  pub longer : length before ≤ length after
+  pub older : (j : ℕ) → j < length before → rowValue w vars after j ≡ rowValue w vars before j
+  pub sum : Eqm (2 ^ w) (sumRows w vars after) (sumRows w vars before + n)
+  pub rows-ok : rowsOk w before ≡ true → rowsOk w after ≡ true
+
+module _ (w : ℕ) (hw : w ≤ 64) (vars : List ℕ) where
+  pub added-refl : (l : List Row) → Added w vars 0 l l
+  added-refl l =
+      record { longer = omega arith; older = λ j h. refl; sum = eqm-of-eq (omega arith); rows-ok = λ h. h }
+
+  pub added-trans : {n m : ℕ} {a b c : List Row} → Added w vars n a b → Added w vars m b c → Added w vars (n + m) a c
+  added-trans {n} {m} p q =
+      record {
+        longer = omega (arith, p .longer, q .longer);
+        older = λ j h. q .older j (omega (arith, p .longer)) ∙ p .older j h;
+        sum =
+            eqm-trans (q .sum) (eqm-trans (eqm-add (p .sum) (eqm-refl m)) (eqm-of-eq (omega arith)));
+        rows-ok = λ h. q .rows-ok (p .rows-ok h);
+      }
+
+  pub added-eqm : {n m : ℕ} {a b : List Row} → Eqm (2 ^ w) n m → Added w vars n a b → Added w vars m a b
+  added-eqm {n} {m} {a} {b} e p =
+      record {
+        longer = p .longer;
+        older = p .older;
+        sum = eqm-trans (p .sum) (eqm-add (eqm-refl (sumRows w vars a)) e);
+        rows-ok = p .rows-ok;
+      }
+
+  -- a term of row j, after rows were added without one
+  pub added-term : (c j : ℕ) (a b : List Row) → Grown w vars a b → j < length b
+      → Added w vars (c * rowValue w vars b j) a (addCoeff w c j b)
+  added-term c j a b g lt =
+      record {
+        longer = omega (arith, g .longer, add-length w vars hw c j b);
+        older = λ k h. add-value w vars hw c j b k ∙ g .older k h;
+        sum =
+            eqm-trans (add-sum w vars hw c j b lt)
+            (eqm-of-eq (ap (λ (n : ℕ). n + c * rowValue w vars b j) (g .sum-same)));
+        rows-ok = λ h. add-ok w vars hw c j b (g .rows-ok h);
+      }
+
+  module _ (b : Tree) (hb : Atom b) where
+    -- one new term, of the basis alone
+    added-bare : (c m : ℕ) (rows : List Row) → rowsOk w rows ≡ true → m ≡ 2 ^ w - 1
+        → Added w vars (c * bitAnd (value w vars b) m) rows (addCoeff w c (rowWith w b 0 rows) (withBare w b rows))
+    added-bare c m rows ok e =
+        let r = with-bare w vars b hb rows ok in
+        let all : bitAnd (value w vars b) m ≡ value w vars b =
+        ap (bitAnd (value w vars b)) e ∙ and-full w (value w vars b) (value-lt w vars b) in
+        added-eqm (eqm-of-eq (ap (λ (n : ℕ). c * n) (r .bare-value ∙ sym all)))
+        (added-term c (rowWith w b 0 rows) rows (withBare w b rows) (r .grown) (r .bare-lt))
+
+    -- and of the basis under a mask
+    added-masked : (c m : ℕ) (rows : List Row) → m < 2 ^ w
+        → Added w vars (c * bitAnd (value w vars b) m) rows (addCoeff w c (length rows) (createMasked w b m rows))
+    added-masked c m rows hm =
+        added-eqm (eqm-of-eq (ap (λ (n : ℕ). c * n) (row-value-masked w vars b m rows hm)))
+        (added-term c (length rows) rows (createMasked w b m rows)
+        (grown-masked w vars b m rows (atom-tree b hb) (lt-of-lt-of-le hm (pow-mono hw)))
+        (omega (arith, length-masked w vars b m rows)))
+
+    carried-first : (y : Carried) (l : List Carried) (rows : List Row) → eqb (y .bits) (2 ^ w - 1) ≡ true
+        → carriedRows w b (y ∷ l) rows
+        ≡ carriedRows w b l (addCoeff w (y .coeff) (rowWith w b 0 rows) (withBare w b rows))
+    unfolding carriedRows
+    carried-first y l rows e = simp e
+
+    carried-other : (y : Carried) (l : List Carried) (rows : List Row) → eqb (y .bits) (2 ^ w - 1) ≡ false
+        → carriedRows w b (y ∷ l) rows
+        ≡ carriedRows w b l (addCoeff w (y .coeff) (length rows) (createMasked w b (y .bits) rows))
+    unfolding carriedRows
+    carried-other y l rows e = simp e
+
+    -- all new terms of a group
+    pub added-carried : (l : List Carried) → bitsBelow (2 ^ w) l ≡ true → (rows : List Row) → rowsOk w rows ≡ true
+        → Added w vars (carriedSum (value w vars b) l) rows (carriedRows w b l rows)
+    unfolding carriedSum carriedRows
+    added-carried [] small rows ok = added-refl rows
+    added-carried (y ∷ l) small rows ok =
+        let p = below-cons (2 ^ w) y l small in
+        go (p .0) (added-carried l (p .1)) (eqb (y .bits) (2 ^ w - 1)) refl
+      where
+        v : ℕ
+        v = value w vars b
+
+        go : y .bits < 2 ^ w
+            → ((r : List Row) → rowsOk w r ≡ true → Added w vars (carriedSum v l) r (carriedRows w b l r))
+            → (s : Bool) → eqb (y .bits) (2 ^ w - 1) ≡ s
+            → Added w vars (y .coeff * bitAnd v (y .bits) + carriedSum v l) rows (carriedRows w b (y ∷ l) rows)
+        go lt below true e =
+            let a = added-bare (y .coeff) (y .bits) rows ok (eqb-true (y .bits) (2 ^ w - 1) e) in
+            subst (Added w vars (y .coeff * bitAnd v (y .bits) + carriedSum v l) rows) (sym (carried-first y l rows e))
+            (added-trans a (below _ (a .rows-ok ok)))
+        go lt below false e =
+            let a = added-masked (y .coeff) (y .bits) rows lt in
+            subst (Added w vars (y .coeff * bitAnd v (y .bits) + carriedSum v l) rows) (sym (carried-other y l rows e))
+            (added-trans a (below _ (a .rows-ok ok)))
