@@ -12,3 +12,4 @@ pub mod CarriedLaws
 pub mod AddedLaws
 pub mod UngroupedLaws
 pub mod CoalesceLaws
+pub mod OppositeLaws
