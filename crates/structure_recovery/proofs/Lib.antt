@@ -10,5 +10,5 @@ pub mod RecoverLaws
 pub mod BitSumLaws
 pub mod CarriedLaws
 pub mod AddedLaws
-pub mod UngroupedLaws
+pub mod FreshLaws
 pub mod CoalesceLaws
