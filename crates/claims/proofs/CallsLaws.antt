@@ -3,11 +3,11 @@
 use mathlib.Core.Path.{_≡_, refl, ap, sym, _∙_}
 use Prim.Native.Nat.{ℕ}
 use mathlib.Core.List.{List, [], _∷_}
-use mathlib.Core.Bool.{Bool, true, false}
+use mathlib.Core.Bool.{true, false}
 use Rattle.record.specs.Tree.{IsBytes}
 use Rattle.expr.specs.ExprValue.{exprValue}
-use Rattle.semilinear.specs.Form.{Form, formValue, encodeForm, validForm}
-use Rattle.semilinear.specs.Outcome.{Outcome, accepted, refused, formOutcome}
+use Rattle.semilinear.specs.Form.{Form, encodeForm, validForm}
+use Rattle.semilinear.specs.Outcome.{Outcome, accepted, formOutcome}
 use Rattle.semilinear.specs.Value.{semilinearValue}
 use Rattle.semilinear.specs.Compact.{limitOutcome}
 use Rattle.semilinear.proofs.MadeLaws.{Kept, Made, made, not-made, limit-made, pass-made, compact-made}
@@ -47,7 +47,11 @@ module _ (f : Form) (ok : validForm f ≡ true) (len : ℕ) where
   recover-made =
       pass-made (λ f. limitOutcome (recoverForm f) false) f ok
       (limit-made f (recoverForm f) false
-      (λ fits. record { valid = valid-recover f ok fits; wide = width-recover f ok; value = λ vars. value-recover vars f ok })) len
+      (λ fits. record {
+        valid = valid-recover f ok fits;
+        wide = width-recover f ok;
+        value = λ vars. value-recover vars f ok;
+      })) len
 
   coalesce-made : Made f (coalesceTerms (encodeForm f) len)
   unfolding coalesceTerms coalesceForm

@@ -6,7 +6,7 @@ use native.Mathlib.Omega.{arith}
 use mathlib.Core.Bool.{true, false, not, _&&_, _||_}
 use borrow.Author.Tests.{ne-eqb, not-true}
 use Rattle.record.specs.Tree.{Tree, encode}
-use Rattle.record.specs.Tree.Tree.{Constant, Variable, Unary, Binary}
+use Rattle.record.specs.Tree.Tree.{Constant, Unary, Binary}
 use Rattle.record.proofs.SizedLaws.{and-true, or-false}
 use Rattle.record.proofs.ListsLaws.{eq-of-eq-list}
 use Rattle.record.proofs.EncodeLaws.{encode-injective}

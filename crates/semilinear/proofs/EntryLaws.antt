@@ -96,7 +96,8 @@ at-push-other g c m a k ne =
 
 -- what every turn keeps, given how far the loop has come, holds in the end
 module _ {S : Type 0} (P : ℕ → S → Type 0) (f : ℕ → S → S) (a : ℕ) (s : S) where
-  turns-ind : (n : ℕ) → ((i : ℕ) (t : S) → a ≤ i → i < a + n → P i t → P (i + 1) (f i t)) → P a s → P (a + n) (turnsF n f a s)
+  turns-ind : (n : ℕ) → ((i : ℕ) (t : S) → a ≤ i → i < a + n → P i t → P (i + 1) (f i t)) → P a s
+      → P (a + n) (turnsF n f a s)
   unfolding turnsF
   turns-ind zero step start = rw (let z : a + 0 ≡ a = omega arith in z) start
   turns-ind (suc n) step start =
@@ -104,7 +105,8 @@ module _ {S : Type 0} (P : ℕ → S → Type 0) (f : ℕ → S → S) (a : ℕ)
       (step (a + n) (turnsF n f a s) (omega arith) (omega arith)
       (turns-ind n (λ i t l u p. step i t l (omega arith) p) start))
 
-  pub for-ind : (b : ℕ) → a ≤ b → ((i : ℕ) (t : S) → a ≤ i → i < b → P i t → P (i + 1) (f i t)) → P a s → P b (forIn f a b s)
+  pub for-ind : (b : ℕ) → a ≤ b → ((i : ℕ) (t : S) → a ≤ i → i < b → P i t → P (i + 1) (f i t)) → P a s
+      → P b (forIn f a b s)
   unfolding forIn
   for-ind b le step start =
       let e : a + (b - a) ≡ b = omega arith in

@@ -1,5 +1,5 @@
--- Tables that hold the rows of another, with the same trees under the same numbers, whatever the coefficients: what a pass
--- makes of a form, group by group.
+-- Tables that hold the rows of another, with the same trees under the same numbers, whatever the coefficients: what a
+-- pass makes of a form, group by group.
 use mathlib.Core.Path.{_≡_, refl, ap, _∙_}
 use Prim.Native.Nat.{ℕ, zero, suc, _≤_, _<_}
 use native.Mathlib.Omega.{arith}
@@ -36,7 +36,8 @@ module _ (w : ℕ) (vars : List ℕ) where
   grown-extends g = record { longer = g .longer; older = g .older; ok = g .rows-ok }
 
   -- coefficients added
-  pub settled-extends : {le : w ≤ 64} {g : Group} {l m : List Row} {i : ℕ} → Settled w vars le g l i m → Extends w vars l m
+  pub settled-extends : {le : w ≤ 64} {g : Group} {l m : List Row} {i : ℕ} → Settled w vars le g l i m
+      → Extends w vars l m
   settled-extends {le} {g} {l} {m} s =
       record { longer = omega (arith, s .count); older = λ j h. s .same j; ok = s .ok }
 

@@ -1,21 +1,19 @@
 -- The group of a basis (specs/Group.antt): its entries are the rows of the basis, live, and come to what these come to.
 use mathlib.Core.Path.{_≡_, refl, sym, ap, _∙_, subst}
-use mathlib.Core.Logic.{_≢_}
-use Prim.Native.Nat.{ℕ, zero, suc, _+_, _*_, _^_, _≤_, _<_}
+use Prim.Native.Nat.{ℕ, suc, _+_, _*_, _^_, _≤_, _<_}
 use native.Mathlib.Omega.{arith}
 use native.Mathlib.Decide.{ℕ-discrete}
 use mathlib.Core.List.{List, [], _∷_}
 use mathlib.Core.Bool.{Bool, true, false}
 use lib.ListN.{length}
 use lib.Bits.{bitAnd}
-use Rattle.record.specs.Choice.{when}
 use Rattle.record.specs.Tree.{Tree}
 use Rattle.expr.specs.Refusal.{isExpr}
 use Rattle.expr.specs.Value.{value}
 use Rattle.semilinear.specs.declared.group.Group.{Group}
 use Rattle.semilinear.specs.Form.{Row, eqTree, rowsOk}
 use Rattle.semilinear.specs.Decompose.{Decomposed, opaque, masked}
-use Rattle.semilinear.specs.Group.{Entry, at, isLive, emptyGroup, pushEntry, viewRow, groupOf}
+use Rattle.semilinear.specs.Group.{Entry, at, emptyGroup, pushEntry, viewRow, groupOf}
 use Rattle.semilinear.proofs.FormLaws.{Good, rows-cons}
 use Rattle.semilinear.proofs.AtomLaws.{tree-atom, eq-of-eq-tree}
 use Rattle.semilinear.proofs.ViewLaws.{View, Seen, seen-row}

@@ -1,7 +1,7 @@
 -- The groups of a form share it out (specs/Group.antt): its sum is that of the rows in no group and of the groups, each
 -- basis once.
 use mathlib.Core.Path.{_≡_, refl, sym, ap, _∙_, subst}
-use Prim.Native.Nat.{ℕ, zero, suc, _+_, _*_, _≤_, _<_}
+use Prim.Native.Nat.{ℕ, _+_, _*_, _≤_}
 use native.Mathlib.Omega.{arith}
 use mathlib.Core.List.{List, [], _∷_}
 use mathlib.Core.Bool.{Bool, true, false, _&&_}
@@ -17,7 +17,7 @@ use Rattle.semilinear.specs.Decompose.{Decomposed, opaque, masked}
 use Rattle.semilinear.specs.Group.{viewRow, insertBasis, basesOf, ungrouped}
 use Rattle.semilinear.proofs.FormLaws.{rows-cons}
 use Rattle.semilinear.proofs.AtomLaws.{Atom, tree-atom, eq-of-eq-tree}
-use Rattle.semilinear.proofs.ViewLaws.{View, Seen, seen-row}
+use Rattle.semilinear.proofs.ViewLaws.{Seen, seen-row}
 use Rattle.semilinear.proofs.BasesLaws.{hits, risingFrom, inserted}
 
 -- ---- the sums

@@ -1,4 +1,5 @@
--- Laws of the search `firstIn` (specs/Loop.antt): a number that it finds is not below its start, and passes the test.
+-- Laws of a choice by a test, and of the search `firstIn` (specs/Loop.antt): a number that it finds is not below its
+-- start, and passes the test.
 use mathlib.Core.Path.{_≡_, refl}
 use Prim.Native.Nat.{ℕ, zero, suc, _+_, _-_, _≤_, _<_}
 use native.Mathlib.Omega.{arith}
@@ -6,26 +7,26 @@ use mathlib.Core.Bool.{Bool, true, false}
 use Rattle.record.specs.Choice.{when}
 use Rattle.semilinear.specs.Loop.{firstF, firstIn}
 
+-- what holds of both sides of a choice
+pub when-both : {A : Type 0} (P : A → Type 0) (t : Bool) (x y : A) → (t ≡ true → P x) → (t ≡ false → P y)
+    → P (when t (λ _. x) (λ _. y))
+when-both P true x y p q = p refl
+when-both P false x y p q = q refl
+
 module _ (p : ℕ → Bool) where
   first-f-from : (n a : ℕ) → a ≤ firstF n p a
   unfolding firstF
   first-f-from zero a = omega arith
-  first-f-from (suc n) a = go (p a) (first-f-from n (a + 1))
-    where
-      go : (t : Bool) → a + 1 ≤ firstF n p (a + 1) → a ≤ when t (λ _. a) (λ _. firstF n p (a + 1))
-      go true below = omega arith
-      go false below = omega arith
+  first-f-from (suc n) a =
+      when-both (λ (k : ℕ). a ≤ k) (p a) a (firstF n p (a + 1)) (λ _. omega arith)
+      (λ _. omega (arith, first-f-from n (a + 1)))
 
   first-f-true : (n a : ℕ) → firstF n p a < a + n → p (firstF n p a) ≡ true
   unfolding firstF
   first-f-true zero a l = absurd (omega arith)
-  first-f-true (suc n) a l = go (p a) refl (first-f-true n (a + 1)) l
-    where
-      go : (t : Bool) → p a ≡ t → (firstF n p (a + 1) < a + 1 + n → p (firstF n p (a + 1)) ≡ true)
-          → when t (λ _. a) (λ _. firstF n p (a + 1)) < a + suc n
-          → p (when t (λ _. a) (λ _. firstF n p (a + 1))) ≡ true
-      go true e below l = e
-      go false e below l = below (omega arith)
+  first-f-true (suc n) a l =
+      when-both (λ (k : ℕ). k < a + suc n → p k ≡ true) (p a) a (firstF n p (a + 1)) (λ e _. e)
+      (λ _ u. first-f-true n (a + 1) (omega (arith, u))) l
 
   pub first-from : (a b : ℕ) → a ≤ firstIn p a b
   unfolding firstIn

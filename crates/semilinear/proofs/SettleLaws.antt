@@ -82,7 +82,8 @@ module _ (w : ℕ) (vars : List ℕ) (le : w ≤ 64) where
     pub count : length t ≡ length rows
     pub ok : rowsOk w rows ≡ true → rowsOk w t ≡ true
 
-  settle-turn : (g : Group) (rows : List Row) (i : ℕ) (t : List Row) → (isLive (at g i) ≡ true → at g i .atom < length rows)
+  settle-turn : (g : Group) (rows : List Row) (i : ℕ) (t : List Row)
+      → (isLive (at g i) ≡ true → at g i .atom < length rows)
       → Settled g rows i t → Settled g rows (i + 1) (settleAt w g i t)
   unfolding settleAt
   settle-turn g rows i t has h = go (isLive (at g i)) refl

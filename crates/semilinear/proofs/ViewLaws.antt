@@ -1,23 +1,22 @@
--- Laws of `decomposeAtom` (specs/Decompose.antt) on an atom: the basis is an atom, and the atom's value is the basis's under
--- the mask.
+-- Laws of `decomposeAtom` (specs/Decompose.antt) on an atom: the basis is an atom, and the atom's value is the basis's
+-- under the mask.
 use mathlib.Core.Path.{_≡_, refl, ap, sym, subst, _∙_}
-use Prim.Native.Nat.{ℕ, _-_, _^_, _<_}
+use Prim.Native.Nat.{ℕ, _^_, _<_}
 use native.Mathlib.Omega.{arith}
 use native.Mathlib.Decide.{ℕ-discrete}
 use mathlib.Core.List.{List, []}
 use mathlib.Core.Bool.{Bool, true, false, not, _&&_, _||_}
 use lib.Bits.{bitAnd, and-comm}
-use lib.Pow.{ones-sub-lt, pow-pos}
+use lib.Pow.{pow-pos}
 use lib.Dec.{eqb}
 use borrow.Author.Tests.{eqb-true, eq-eqb, ne-eqb}
 use Rattle.arith.proofs.MaskLaws.{and-full}
 use Rattle.record.specs.Choice.{when}
 use Rattle.record.specs.Tree.{Tree}
 use Rattle.record.specs.Tree.Tree.{Constant, Variable, Unary, Binary}
-use Rattle.record.proofs.SizedLaws.{and-true, or-false}
-use Rattle.expr.specs.Refusal.{isExpr}
-use Rattle.expr.specs.Utils.{hasKind, hasVarDep, isConstantSubtree, isArith, hasArith}
-use Rattle.expr.specs.Value.{unary, binary, value}
+use Rattle.record.proofs.SizedLaws.{or-false}
+use Rattle.expr.specs.Utils.{hasKind, hasVarDep, isArith, hasArith}
+use Rattle.expr.specs.Value.{binary, value}
 use Rattle.expr.proofs.IsExprLaws.{binary-of-expr}
 use Rattle.expr.proofs.ValueLaws.{value-lt, value-closed}
 use Rattle.semilinear.specs.Form.{Row}

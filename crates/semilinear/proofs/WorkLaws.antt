@@ -6,23 +6,22 @@ use native.Mathlib.Omega.{arith}
 use native.Mathlib.Nat.{mod-eq-of-lt}
 use native.Mathlib.Decide.{ℕ-discrete}
 use mathlib.Core.List.{List, [], _∷_, _++_}
-use mathlib.Core.Bool.{true, not}
+use mathlib.Core.Bool.{Bool, true, false}
 use lib.ListN.{length, length-append}
 use lib.Bits.{bitAnd}
+use lib.Dec.{eqb}
 use lib.Pow.{pow-pos}
-use borrow.Author.Tests.{eq-eqb, ne-eqb, lt-ltb, not-true}
+use borrow.Author.Tests.{eq-eqb, ne-eqb}
 use Rattle.arith.proofs.MaskLaws.{and-full}
+use Rattle.record.specs.Choice.{when}
 use Rattle.record.specs.Tree.{Tree}
 use Rattle.record.specs.Tree.Tree.{Constant, Binary}
-use Rattle.record.proofs.SizedLaws.{and-true}
-use Rattle.expr.specs.Refusal.{isExpr}
-use Rattle.expr.specs.Utils.{hasKind, hasVarDep, isArith, hasArith}
 use Rattle.expr.specs.Value.{value, binary}
 use Rattle.expr.proofs.ValueLaws.{value-lt}
 use Rattle.semilinear.specs.Form.{Row, sumRows, isAtomTree, rowOk, rowsOk}
 use Rattle.semilinear.specs.Group.{createRow, maskedTree, createMasked}
 use Rattle.semilinear.proofs.FormLaws.{good-row, rows-cons}
-use Rattle.semilinear.proofs.RowsLaws.{atom-expr-parts}
+use Rattle.semilinear.proofs.AtomLaws.{atom-tree, tree-atom, masked-atom}
 
 -- ---- the value of a row's tree
 
@@ -116,20 +115,14 @@ masked-value w vars b m hm = go (ℕ-discrete m (2 ^ w - 1))
         (sym (ap (bitAnd (value w vars b)) e ∙ and-full w (value w vars b) (value-lt w vars b)))
     go (no e) = simp (ne-eqb m (2 ^ w - 1) e) (and-value w vars b m hm)
 
-and-atom : (b : Tree) (m : ℕ) → isAtomTree b ≡ true → m < 2 ^ 64 → isAtomTree (Binary 4 b (Constant m)) ≡ true
-unfolding isAtomTree isExpr hasKind isArith hasArith
-and-atom b m hb hm =
-    let p = atom-expr-parts b hb in
-    let q = and-true (hasVarDep b) (not (hasArith b)) (p .1) in
-    simp (p .0, lt-ltb m (2 ^ 64) hm, q .0, not-true (hasArith b) (q .1))
-
-pub masked-atom : (w : ℕ) (b : Tree) (m : ℕ) → isAtomTree b ≡ true → m < 2 ^ 64 → isAtomTree (maskedTree w b m) ≡ true
+pub masked-tree-atom : (w : ℕ) (b : Tree) (m : ℕ) → isAtomTree b ≡ true → m < 2 ^ 64
+    → isAtomTree (maskedTree w b m) ≡ true
 unfolding maskedTree
-masked-atom w b m hb hm = go (ℕ-discrete m (2 ^ w - 1))
+masked-tree-atom w b m hb hm = go (eqb m (2 ^ w - 1))
   where
-    go : Dec (m ≡ 2 ^ w - 1) → isAtomTree (maskedTree w b m) ≡ true
-    go (yes e) = simp (eq-eqb m (2 ^ w - 1) e) hb
-    go (no e) = simp (ne-eqb m (2 ^ w - 1) e) (and-atom b m hb hm)
+    go : (full : Bool) → isAtomTree (when full (λ _. b) (λ _. Binary 4 b (Constant m))) ≡ true
+    go true = hb
+    go false = atom-tree (Binary 4 b (Constant m)) (masked-atom b m hm (tree-atom b hb))
 
 module _ (w : ℕ) (vars : List ℕ) (b : Tree) (m : ℕ) (l : List Row) where
   pub length-masked : length (createMasked w b m l) ≡ length l + 1
@@ -142,4 +135,4 @@ module _ (w : ℕ) (vars : List ℕ) (b : Tree) (m : ℕ) (l : List Row) where
 
   pub grown-masked : isAtomTree b ≡ true → m < 2 ^ 64 → Grown w vars l (createMasked w b m l)
   unfolding createMasked
-  grown-masked hb hm = grown-create w vars 0 (maskedTree w b m) l (omega arith) (masked-atom w b m hb hm)
+  grown-masked hb hm = grown-create w vars 0 (maskedTree w b m) l (omega arith) (masked-tree-atom w b m hb hm)

@@ -22,16 +22,12 @@ use Rattle.expr.proofs.ValueLaws.{value-lt}
 use Rattle.expr.proofs.IsExprLaws.{unary-of-expr, binary-of-expr}
 use Rattle.semilinear.proofs.AtomLaws.{Atom, bitwise-one, Sides, sides, sides-atom, left-atom, right-atom}
 use Rattle.semilinear.proofs.AtomLaws.{literal-sides, masked-atom}
+use Rattle.semilinear.proofs.SearchLaws.{when-both}
 use Rattle.semilinear_normalizer.specs.Collect.{Emitted, Collected, nonlinear, linear}
 use Rattle.semilinear_normalizer.specs.Collect.{joinCollected, collectAtom, collectConstant, isNot, operand}
 use Rattle.semilinear_normalizer.specs.Collect.{collectNot, isMaskedNot, collectAnd, andCoeff, collectMasked}
 use Rattle.semilinear_normalizer.specs.Collect.{collectTerms}
 use Rattle.semilinear_normalizer.proofs.RootLaws.{four, operand-atom}
-
-pub when-both : (P : Collected → Type 0) (b : Bool) (x y : Collected) → (b ≡ true → P x) → (b ≡ false → P y)
-    → P (when b (λ _. x) (λ _. y))
-when-both P true x y p q = p refl
-when-both P false x y p q = q refl
 
 module _ (w : ℕ) (hw : w ≤ 64) where
   pub record GoodEmitted (e : Emitted) : Type 0 where

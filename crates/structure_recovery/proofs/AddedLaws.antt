@@ -22,6 +22,7 @@ use Rattle.semilinear.specs.Group.{createMasked, addCoeff}
 use Rattle.semilinear.proofs.AtomLaws.{Atom, atom-tree}
 use Rattle.semilinear.proofs.WorkLaws.{rowValue, Grown, length-masked, row-value-masked, grown-masked}
 use Rattle.semilinear.proofs.SettleLaws.{add-sum, add-value, add-length, add-ok}
+use Rattle.semilinear.proofs.ExtendsLaws.{Extends}
 use Rattle.structure_recovery.specs.RecoverStructure.{rowWith, withBare}
 use Rattle.structure_recovery.specs.CoalesceTerms.{Carried, carriedRows}
 use Rattle.structure_recovery.proofs.BareLaws.{with-bare}
@@ -57,6 +58,9 @@ module _ (w : ℕ) (hw : w ≤ 64) (vars : List ℕ) where
         sum = eqm-trans (p .sum) (eqm-add (eqm-refl (sumRows w vars a)) e);
         rows-ok = p .rows-ok;
       }
+
+  pub added-extends : {n : ℕ} {a b : List Row} → Added w vars n a b → Extends w vars a b
+  added-extends p = record { longer = p .longer; older = p .older; ok = p .rows-ok }
 
   -- a term of row j, after rows were added without one
   pub added-term : (c j : ℕ) (a b : List Row) → Grown w vars a b → j < length b

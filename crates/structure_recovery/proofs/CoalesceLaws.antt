@@ -22,17 +22,19 @@ use Rattle.semilinear.proofs.TotalLaws.{total}
 use Rattle.semilinear.proofs.BasesLaws.{risingFrom, risen}
 use Rattle.semilinear.proofs.GroupsLaws.{basisSum, basesSum, groups-share, bases-rising}
 use Rattle.semilinear.proofs.GroupOfLaws.{Fresh, group-of}
+use Rattle.semilinear.proofs.ExtendsLaws.{Extends, extends-trans, ungrouped-extends}
 use Rattle.structure_recovery.specs.CoalesceTerms.{carriedOf, carriedRows}
 use Rattle.structure_recovery.specs.CoalesceTerms.{coalesceGroup, coalesceAll, coalesceForm}
 use Rattle.structure_recovery.proofs.CarriedLaws.{carriedSum, carried-below, carried-sum}
-use Rattle.structure_recovery.proofs.AddedLaws.{Added, added-refl, added-trans, added-eqm, added-carried}
-use Rattle.structure_recovery.proofs.UngroupedLaws.{Follows, follows-added, ungrouped-follows, live-fresh}
-use Rattle.structure_recovery.proofs.UngroupedLaws.{added-settled}
+use Rattle.structure_recovery.proofs.AddedLaws.{Added, added-refl, added-trans, added-eqm, added-extends}
+use Rattle.structure_recovery.proofs.AddedLaws.{added-carried}
+use Rattle.structure_recovery.proofs.FreshLaws.{live-fresh, added-settled}
 
-module _ (w : ℕ) (hw : w ≤ 64) (vars : List ℕ) (before : List Row) where
+module _ (w : ℕ) (hw : w ≤ 64) (vars : List ℕ) (before : List Row)
+    (ok : rowsOk w before ≡ true) where
   -- a group adds what it comes to, rewritten or not
   pub group-added : (b : Tree) → Atom b → (g : Group) → ((k : ℕ) → k < g .len → Fresh w vars b before (at g k))
-      → (rows : List Row) → Follows w vars before rows
+      → (rows : List Row) → Extends w vars before rows
       → Added w vars (total (value w vars b) g) rows (coalesceGroup w b g rows)
   unfolding coalesceGroup
   group-added b hb g fresh rows f = go (ltb (g .len) 2 || leb (g .len) (length (carriedOf w g)))
@@ -49,22 +51,23 @@ module _ (w : ℕ) (hw : w ≤ 64) (vars : List ℕ) (before : List Row) where
       go true = added-settled w hw vars b before g fresh rows f
       go false =
           added-eqm w hw vars same
-          (added-carried w hw vars b hb (carriedOf w g) (carried-below w hw v g) rows (f .rows-ok))
+          (added-carried w hw vars b hb (carriedOf w g) (carried-below w hw v g) rows (f .ok ok))
 
   -- all groups
-  pub all-added : length before ≤ 256 → rowsOk w before ≡ true → (l : List Tree) (n : ℕ) → risingFrom n l ≡ true
-      → (rows : List Row) → Follows w vars before rows
+  pub all-added : length before ≤ 256 → (l : List Tree) (n : ℕ) → risingFrom n l ≡ true
+      → (rows : List Row) → Extends w vars before rows
       → Added w vars (basesSum variableBasis w vars l before) rows (coalesceAll w before l rows)
   unfolding basesSum coalesceAll
-  all-added most ok [] n r rows f = added-refl w hw vars rows
-  all-added most ok (b ∷ l) n r rows f =
+  all-added most [] n r rows f = added-refl w hw vars rows
+  all-added most (b ∷ l) n r rows f =
       let q = risen n b l r in
       let o = group-of variableBasis w vars b (q .atom .expr) before most ok in
       let g : Group = groupOf variableBasis w b 0 before emptyGroup in
       let first : Added w vars (basisSum variableBasis w vars b before) rows (coalesceGroup w b g rows) =
       added-eqm w hw vars (eqm-of-eq (o .sum)) (group-added b (q .atom) g (o .fresh) rows f) in
       added-trans w hw vars first
-      (all-added most ok l (structuralHash b) (q .rest) (coalesceGroup w b g rows) (follows-added w vars f first))
+      (all-added most l (structuralHash b) (q .rest) (coalesceGroup w b g rows)
+      (extends-trans w vars f (added-extends w hw vars first)))
 
 -- what the rows of a valid form become
 coalesced : (vars : List ℕ) (f : Form) → validForm f ≡ true
@@ -75,9 +78,9 @@ unfolding coalesceForm
 coalesced vars f e =
     let v = form-parts f e in
     let w : ℕ = f .bitwidth in
-    all-added w (v .width-le) vars (f .rows) (v .atoms-le) (v .rows-ok) (basesOf variableBasis w (f .rows) []) 0
+    all-added w (v .width-le) vars (f .rows) (v .rows-ok) (v .atoms-le) (basesOf variableBasis w (f .rows) []) 0
     (bases-rising variableBasis w (f .rows) (v .rows-ok)) (ungrouped variableBasis w (f .rows))
-    (ungrouped-follows variableBasis w vars (f .rows) (v .rows-ok))
+    (ungrouped-extends variableBasis w vars (f .rows))
 
 -- coalescing keeps the value of a form, under every assignment
 pub value-coalesce : (vars : List ℕ) (f : Form) → validForm f ≡ true
@@ -101,5 +104,5 @@ valid-coalesce f e fits =
     let v = form-parts f e in
     let w : ℕ = f .bitwidth in
     let ok : rowsOk w (coalesceForm f .rows) ≡ true =
-    coalesced [] f e .rows-ok (ungrouped-follows variableBasis w [] (f .rows) (v .rows-ok) .rows-ok) in
+    coalesced [] f e .rows-ok (ungrouped-extends variableBasis w [] (f .rows) .ok (v .rows-ok)) in
     simp (le-leb 1 w (v .width-pos), le-leb w 64 (v .width-le), lt-ltb (f .constant) (2 ^ w) (v .fits), fits, ok)

@@ -1,9 +1,9 @@
 -- The rows that stand for a row that is flattened (specs/FlattenComplexAtoms.antt): with what is added to the constant
 -- they have its coefficient times its value, and they are valid.
-use mathlib.Core.Path.{_≡_, refl, ap, sym, _∙_}
+use mathlib.Core.Path.{_≡_, refl, ap, _∙_}
 use Prim.Native.Nat.{ℕ, _+_, _-_, _*_, _^_, _≤_, _<_}
 use native.Mathlib.Omega.{arith}
-use native.Mathlib.Nat.{lt-of-lt-of-le, lt-of-le-of-lt, mod-eq-of-lt}
+use native.Mathlib.Nat.{lt-of-lt-of-le, lt-of-le-of-lt}
 use native.Mathlib.Decide.{ℕ-discrete}
 use mathlib.Core.List.{List, [], _∷_, _++_}
 use mathlib.Core.Bool.{Bool, true, false, not, _&&_}
@@ -16,20 +16,18 @@ use Rattle.arith.specs.Congruence.{Eqm}
 use Rattle.arith.specs.Width.{modAdd, modMul, modNeg}
 use Rattle.arith.proofs.CongruenceLaws.{eqm-of-eq, eqm-refl, eqm-sym, eqm-trans, eqm-add, eqm-minus}
 use Rattle.arith.proofs.WidthLaws.{mod-add-eqm, mod-mul-eqm, mod-neg-eqm, mod-neg-lt}
-use Rattle.arith.proofs.MaskLaws.{and-full}
 use Rattle.record.specs.Choice.{when}
-use Rattle.record.specs.Tree.{Tree}
-use Rattle.record.specs.Tree.Tree.{Constant, Variable, Binary}
+use Rattle.record.specs.Tree.Tree.{Variable}
 use Rattle.record.proofs.SizedLaws.{and-true}
 use Rattle.expr.specs.Utils.{hasKind, hasShr, hasArith}
-use Rattle.expr.specs.Value.{binary, value}
+use Rattle.expr.specs.Value.{value}
 use Rattle.expr.specs.Vars.{nextVar, support}
-use Rattle.expr.proofs.ValueLaws.{value-lt}
 use Rattle.expr.proofs.IsExprLaws.{occurs-lt, expr-of-variable}
-use Rattle.semilinear.specs.Form.{Row, sumRows, isAtomTree, rowsOk}
+use Rattle.semilinear.specs.Form.{Row, sumRows, rowsOk}
 use Rattle.semilinear.specs.Group.{maskedTree}
 use Rattle.semilinear.proofs.FormLaws.{Good, good-row, rows-cons}
-use Rattle.semilinear.proofs.AtomLaws.{Atom, atom-tree, tree-atom, masked-atom}
+use Rattle.semilinear.proofs.AtomLaws.{Atom, atom-tree, tree-atom}
+use Rattle.semilinear.proofs.WorkLaws.{masked-value, masked-tree-atom}
 use Rattle.structure_recovery.specs.FlattenComplexAtoms.{isPlain, isComplex, atZero, atOnes, flatRow}
 use Rattle.structure_recovery.proofs.OneVarLaws.{one-var-occurs, at-zero-lt, at-ones-lt, flatten-atom}
 
@@ -48,32 +46,11 @@ rows-append w (x ∷ l) m a b =
     let p = rows-cons w x l a in
     simp (good-row w x (p .0), rows-append w l m (p .1) b)
 
--- ---- a basis under a mask
-
-pub masked-value : (w : ℕ) (vars : List ℕ) (b : Tree) (m : ℕ) → m < 2 ^ w
-    → value w vars (maskedTree w b m) ≡ bitAnd (value w vars b) m
-unfolding maskedTree value binary
-masked-value w vars b m hm = go (ℕ-discrete m (2 ^ w - 1))
-  where
-    go : Dec (m ≡ 2 ^ w - 1) → value w vars (maskedTree w b m) ≡ bitAnd (value w vars b) m
-    go (yes e) =
-        simp (eq-eqb m (2 ^ w - 1) e)
-        (sym (ap (bitAnd (value w vars b)) e ∙ and-full w (value w vars b) (value-lt w vars b)))
-    go (no n) = simp (ne-eqb m (2 ^ w - 1) n) (ap (bitAnd (value w vars b)) (mod-eq-of-lt hm))
-
-pub masked-tree-atom : (w : ℕ) (b : Tree) (m : ℕ) → m < 2 ^ 64 → Atom b → isAtomTree (maskedTree w b m) ≡ true
-unfolding maskedTree
-masked-tree-atom w b m hm h = go (eqb m (2 ^ w - 1))
-  where
-    go : (full : Bool) → isAtomTree (when full (λ _. b) (λ _. Binary 4 b (Constant m))) ≡ true
-    go true = atom-tree b h
-    go false = atom-tree (Binary 4 b (Constant m)) (masked-atom b m hm h)
+-- ---- a new row
 
 variable-atom : (v : ℕ) → v < 256 → Atom (Variable v)
 unfolding hasKind hasArith
 variable-atom v hv = record { expr = expr-of-variable v hv; variable = refl; plain = refl }
-
--- ---- a new row
 
 module _ (w v m c : ℕ) (l : List Row) (hm : m < 2 ^ w) where
   pub flat-row-sum : (vars : List ℕ)
@@ -104,7 +81,9 @@ module _ (w v m c : ℕ) (l : List Row) (hm : m < 2 ^ w) where
       good =
           record {
             known = omega arith;
-            atom = masked-tree-atom w (Variable v) m (lt-of-lt-of-le hm (pow-mono hw)) (variable-atom v hv);
+            atom =
+                masked-tree-atom w (Variable v) m (atom-tree (Variable v) (variable-atom v hv))
+                (lt-of-lt-of-le hm (pow-mono hw));
             fits = hc;
           }
 

@@ -10,6 +10,6 @@ pub mod RecoverLaws
 pub mod BitSumLaws
 pub mod CarriedLaws
 pub mod AddedLaws
-pub mod UngroupedLaws
+pub mod FreshLaws
 pub mod CoalesceLaws
 pub mod OppositeLaws

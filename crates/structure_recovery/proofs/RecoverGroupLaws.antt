@@ -1,17 +1,16 @@
 -- Laws of `recoverPair`, `recoverAt` and `recoverGroup` (specs/RecoverStructure.antt): they keep what `Kept` says of a
 -- group beside its table and the constant.
-use mathlib.Core.Path.{_≡_, refl, sym, ap, _∙_}
+use mathlib.Core.Path.{_≡_, sym, ap, _∙_}
 use Prim.Native.Nat.{ℕ, _+_, _-_, _%_, _^_, _≤_, _<_}
 use native.Mathlib.Omega.{arith}
 use native.Mathlib.Nat.{add-comm}
 use mathlib.Core.List.{List}
-use mathlib.Core.Bool.{Bool, true, false, _||_}
+use mathlib.Core.Bool.{true, false, _||_}
 use lib.Count.{ones}
 use lib.Dec.{eqb, ltb, leb}
 use borrow.Author.Tests.{eqb-true, eqb-false, ltb-true}
 use Rattle.arith.specs.Width.{modAdd, modSub}
 use Rattle.arith.proofs.WidthLaws.{mod-add}
-use Rattle.record.specs.Choice.{when}
 use Rattle.record.specs.Tree.{Tree}
 use Rattle.record.proofs.SizedLaws.{and-true, or-false}
 use Rattle.semilinear.specs.declared.group.Group.{Group}
@@ -19,17 +18,11 @@ use Rattle.semilinear.specs.Form.{Row, rowsOk}
 use Rattle.semilinear.specs.Group.{Entry, at}
 use Rattle.semilinear.proofs.AtomLaws.{Atom}
 use Rattle.semilinear.proofs.EntryLaws.{for-keeps}
-use Rattle.semilinear.proofs.SearchLaws.{first-from, first-true}
+use Rattle.semilinear.proofs.SearchLaws.{when-both, first-from, first-true}
 use Rattle.structure_recovery.specs.RecoverStructure.{Recovery, recoverPair, isPartner, partnerOf, recoverAt}
 use Rattle.structure_recovery.specs.RecoverStructure.{recoverGroup}
 use Rattle.structure_recovery.proofs.HeldLaws.{Kept}
 use Rattle.structure_recovery.proofs.RecoverPairLaws.{Pair, live-of-mark, pair-swap, xor-keeps, eliminate-keeps}
-
--- what holds of both sides of a choice
-when-both : {A : Type 0} (P : A → Type 0) (t : Bool) (x y : A) → (t ≡ true → P x) → (t ≡ false → P y)
-    → P (when t (λ _. x) (λ _. y))
-when-both P true x y p q = p refl
-when-both P false x y p q = q refl
 
 -- ---- the search
 

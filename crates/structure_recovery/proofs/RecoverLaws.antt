@@ -1,152 +1,79 @@
 -- Recovering structure (specs/RecoverStructure.antt) keeps the value of a form, and gives a valid form where its table
 -- keeps the limits.
 use mathlib.Core.Path.{_≡_, refl, ap, sym, subst, _∙_}
-use Prim.Native.Nat.{ℕ, zero, suc, _+_, _*_, _%_, _^_, _≤_, _<_}
+use Prim.Native.Nat.{ℕ, _+_, _%_, _^_, _≤_, _<_}
 use native.Mathlib.Omega.{arith}
 use mathlib.Core.List.{List, [], _∷_}
-use mathlib.Core.Bool.{Bool, true}
+use mathlib.Core.Bool.{true}
 use lib.ListN.{length}
 use lib.Dec.{leb}
-use lib.Pow.{pow-pos}
 use borrow.Author.Tests.{leb-true}
 use Rattle.arith.specs.Congruence.{Eqm}
 use Rattle.arith.proofs.CongruenceLaws.{eqm-of-eq, eqm-refl, eqm-trans, eqm-add}
 use Rattle.record.specs.Tree.{Tree}
 use Rattle.record.proofs.SizedLaws.{and-true}
 use Rattle.expr.specs.Hash.{structuralHash}
-use Rattle.expr.specs.Value.{value}
 use Rattle.semilinear.specs.declared.group.Group.{Group}
 use Rattle.semilinear.specs.Form.{Row, Form, sumRows, formValue, rowsOk, treeRecords, fitsTable, validForm}
-use Rattle.semilinear.specs.Decompose.{Decomposed, opaque, masked}
-use Rattle.semilinear.specs.Group.{Entry, at, emptyGroup, anyBasis, viewRow, basesOf, groupOf, ungrouped, settle}
-use Rattle.semilinear.proofs.FormLaws.{Good, good-row, rows-cons, form-parts, parts-form}
+use Rattle.semilinear.specs.Group.{Entry, at, emptyGroup, anyBasis, basesOf, groupOf, ungrouped, settle}
+use Rattle.semilinear.proofs.FormLaws.{form-parts, parts-form}
 use Rattle.semilinear.proofs.AtomLaws.{Atom}
-use Rattle.semilinear.proofs.TotalLaws.{sum-ext, worth, worth-live, total}
-use Rattle.semilinear.proofs.WorkLaws.{rowValue}
-use Rattle.semilinear.proofs.SettleLaws.{owed, owed-live, settled}
+use Rattle.semilinear.proofs.SettleLaws.{settled}
 use Rattle.semilinear.proofs.BasesLaws.{risingFrom, risen}
 use Rattle.semilinear.proofs.GroupsLaws.{basisSum, basesSum, groups-share, bases-rising}
 use Rattle.semilinear.proofs.GroupOfLaws.{Fresh, group-of}
+use Rattle.semilinear.proofs.ExtendsLaws.{Extends, extends-trans, grown-extends, settled-extends, ungrouped-extends}
 use Rattle.structure_recovery.specs.RecoverStructure.{Recovery, recoverGroup, recoverAll, recoverForm}
 use Rattle.structure_recovery.proofs.HeldLaws.{Held, Kept, owedSum, kept-start}
-use Rattle.structure_recovery.proofs.RecoverPairLaws.{live-of-mark}
 use Rattle.structure_recovery.proofs.RecoverGroupLaws.{recover-group-keeps}
-
--- ---- rows that are carried on
-
--- the rows of before are there, perhaps with other coefficients
-record Carried (w : ℕ) (vars : List ℕ) (before rows : List Row) : Type 0 where
-  longer : length before ≤ length rows
-  older : (j : ℕ) → j < length before → rowValue w vars rows j ≡ rowValue w vars before j
-
-module _ (only : Tree → Bool) (w : ℕ) (vars : List ℕ) where
-  ungrouped-opaque : (x : Row) (l : List Row) → viewRow only w x ≡ opaque
-      → ungrouped only w (x ∷ l) ≡ x ∷ ungrouped only w l
-  unfolding ungrouped
-  ungrouped-opaque x l e = simp e
-
-  ungrouped-masked : (x : Row) (l : List Row) {b : Tree} {m : ℕ} → viewRow only w x ≡ masked b m
-      → ungrouped only w (x ∷ l)
-      ≡ record { provenance = x .provenance; tree = x .tree; coeff = 0 } ∷ ungrouped only w l
-  unfolding ungrouped
-  ungrouped-masked x l e = simp e
-
-  -- what is left of rows when the terms in groups are taken off
-  record Left (l m : List Row) : Type 0 where
-    count : length m ≡ length l
-    same : (j : ℕ) → rowValue w vars m j ≡ rowValue w vars l j
-    fits : rowsOk w m ≡ true
-
-  left-cons : (x y : Row) (l m : List Row) → y .tree ≡ x .tree → Good w y → Left l m → Left (x ∷ l) (y ∷ m)
-  unfolding rowValue rowsOk
-  left-cons x y l m e g h =
-      record { count = ap suc (h .count); same = go; fits = simp (good-row w y g, h .fits) }
-    where
-      go : (j : ℕ) → rowValue w vars (y ∷ m) j ≡ rowValue w vars (x ∷ l) j
-      go zero = ap (value w vars) e
-      go (suc j) = h .same j
-
-  ungrouped-left : (l : List Row) → rowsOk w l ≡ true → Left l (ungrouped only w l)
-  unfolding ungrouped
-  ungrouped-left [] ok = record { count = refl; same = λ j. refl; fits = ok }
-  ungrouped-left (x ∷ l) ok =
-      let p = rows-cons w x l ok in
-      go (p .0) (viewRow only w x) refl (ungrouped-left l (p .1))
-    where
-      go : Good w x → (d : Decomposed) → viewRow only w x ≡ d → Left l (ungrouped only w l)
-          → Left (x ∷ l) (ungrouped only w (x ∷ l))
-      go g opaque e h = subst (Left (x ∷ l)) (sym (ungrouped-opaque x l e)) (left-cons x x l _ refl g h)
-      go g (masked b m) e h =
-          subst (Left (x ∷ l)) (sym (ungrouped-masked x l e))
-          (left-cons x (record { provenance = x .provenance; tree = x .tree; coeff = 0 }) l _ refl
-          (record { known = g .known; atom = g .atom; fits = pow-pos w }) h)
+use Rattle.structure_recovery.proofs.FreshLaws.{owed-total}
 
 -- ---- a group and all groups
 
 module _ (w : ℕ) (hw : w ≤ 64) (vars : List ℕ) (before : List Row) (ok : rowsOk w before ≡ true)
     (most : length before ≤ 256) where
-  held-fresh : (b : Tree) (rows : List Row) (e : Entry) → Carried w vars before rows → Fresh w vars b before e
+  held-fresh : (b : Tree) (rows : List Row) (e : Entry) → Extends w vars before rows → Fresh w vars b before e
       → Held w vars b rows e
-  held-fresh b rows e c f =
+  held-fresh b rows e x f =
       record {
         coeff-lt = f .coeff-lt;
-        atom-lt = omega (arith, f .atom-lt, c .longer);
+        atom-lt = omega (arith, f .atom-lt, x .longer);
         masked = λ ne. record {
           mask-lt = f .mask-lt;
-          atom-value = c .older (e .atom) (f .atom-lt) ∙ f .atom-value;
+          atom-value = x .older (e .atom) (f .atom-lt) ∙ f .atom-value;
         };
       }
-
-  owed-fresh : (b : Tree) (rows : List Row) (e : Entry) → Carried w vars before rows → Fresh w vars b before e
-      → owed w vars rows e ≡ worth (value w vars b) e
-  owed-fresh b rows e c f =
-      let live = live-of-mark e (λ (z : e .mark ≡ 1). omega (arith, z, f .unmarked)) in
-      owed-live w vars rows e live
-      ∙ ap (λ (n : ℕ). e .coeff * n) (c .older (e .atom) (f .atom-lt) ∙ f .atom-value)
-      ∙ sym (worth-live (value w vars b) e live)
-
-  owed-total : (b : Tree) (rows : List Row) (g : Group) → Carried w vars before rows
-      → ((k : ℕ) → k < g .len → Fresh w vars b before (at g k)) → owedSum w vars rows g ≡ total (value w vars b) g
-  unfolding owedSum total
-  owed-total b rows g c fresh =
-      sum-ext (λ (k : ℕ). owed w vars rows (at g k)) (λ (k : ℕ). worth (value w vars b) (at g k)) (g .len)
-      (λ k l. owed-fresh b rows (at g k) c (fresh k l))
 
   -- the rows and the constant after a group of sum n
   record Step (n : ℕ) (rows : List Row) (c : ℕ) (after : List Row) (d : ℕ) : Type 0 where
     fits : d < 2 ^ w
-    rows-ok : rowsOk w after ≡ true
-    carried : Carried w vars before after
+    extends : Extends w vars before after
     sum : Eqm (2 ^ w) (d + sumRows w vars after) (c + sumRows w vars rows + n)
 
   abbrev recovered : Tree → List Row → ℕ → Recovery
   recovered b rows c =
       recoverGroup w b (record { group = groupOf anyBasis w b 0 before emptyGroup; rows = rows; constant = c })
 
-  group-step : (b : Tree) → Atom b → (rows : List Row) (c : ℕ) → c < 2 ^ w → rowsOk w rows ≡ true
-      → Carried w vars before rows
+  group-step : (b : Tree) → Atom b → (rows : List Row) (c : ℕ) → c < 2 ^ w → Extends w vars before rows
       → Step (basisSum anyBasis w vars b before) rows c
       (settle w (recovered b rows c .group) (recovered b rows c .rows)) (recovered b rows c .constant)
   unfolding owedSum
-  group-step b hb rows c hc rok car =
+  group-step b hb rows c hc x =
       let g : Group = groupOf anyBasis w b 0 before emptyGroup in
       let o = group-of anyBasis w vars b (hb .expr) before most ok in
       let r : Recovery = recovered b rows c in
       let h : Kept w vars b g rows c r =
-      recover-group-keeps w hw vars b hb g rows rok c _
+      recover-group-keeps w hw vars b hb g rows (x .ok ok) c _
       (kept-start w vars b g rows c (o .sized)
-      (record { held = λ k l live. held-fresh b rows (at g k) car (o .fresh k l) }) hc) in
+      (record { held = λ k l live. held-fresh b rows (at g k) x (o .fresh k l) }) hc) in
       let s = settled w vars hw (r .group) (r .rows) (λ k l live. h .all-held .held k l live .atom-lt) in
       let begun : owedSum w vars rows g ≡ basisSum anyBasis w vars b before =
-      owed-total b rows g car (o .fresh) ∙ o .sum in
+      owed-total w hw vars b before g (o .fresh) rows x ∙ o .sum in
       record {
         fits = h .constant-lt;
-        rows-ok = s .ok (h .grown .rows-ok rok);
-        carried = record {
-          longer = omega (arith, car .longer, h .grown .longer, s .count);
-          older = λ j l.
-              s .same j ∙ h .grown .older j (omega (arith, l, car .longer)) ∙ car .older j l;
-        };
+        extends =
+            extends-trans w vars x
+            (extends-trans w vars (grown-extends w vars (h .grown)) (settled-extends w vars s));
         sum =
             eqm-trans (eqm-add (eqm-refl (r .constant)) (s .sum))
             (eqm-trans (eqm-of-eq (omega (arith, h .grown .sum-same)))
@@ -163,14 +90,14 @@ module _ (w : ℕ) (hw : w ≤ 64) (vars : List ℕ) (before : List Row) (ok : r
         (c + sumRows w vars rows + basesSum anyBasis w vars l before)
 
   recover-all : (l : List Tree) (n : ℕ) → risingFrom n l ≡ true → (rows : List Row) (c : ℕ) → c < 2 ^ w
-      → rowsOk w rows ≡ true → Carried w vars before rows → Ends l rows c (recoverAll w before l rows c)
+      → Extends w vars before rows → Ends l rows c (recoverAll w before l rows c)
   unfolding recoverAll basesSum
-  recover-all [] n up rows c hc rok car =
-      record { width = refl; fits = hc; rows-ok = rok; sum = eqm-of-eq (omega arith) }
-  recover-all (b ∷ l) n up rows c hc rok car =
+  recover-all [] n up rows c hc x =
+      record { width = refl; fits = hc; rows-ok = x .ok ok; sum = eqm-of-eq (omega arith) }
+  recover-all (b ∷ l) n up rows c hc x =
       let p = risen n b l up in
-      let s = group-step b (p .atom) rows c hc rok car in
-      let below = recover-all l (structuralHash b) (p .rest) _ _ (s .fits) (s .rows-ok) (s .carried) in
+      let s = group-step b (p .atom) rows c hc x in
+      let below = recover-all l (structuralHash b) (p .rest) _ _ (s .fits) (s .extends) in
       record {
         width = below .width;
         fits = below .fits;
@@ -192,10 +119,9 @@ module _ (vars : List ℕ) (f : Form) (e : validForm f ≡ true) where
   unfolding recoverForm
   recover-ends =
       let v = form-parts f e in
-      let u = ungrouped-left anyBasis w vars (f .rows) (v .rows-ok) in
       recover-all w (v .width-le) vars (f .rows) (v .rows-ok) (v .atoms-le) (basesOf anyBasis w (f .rows) []) 0
       (bases-rising anyBasis w (f .rows) (v .rows-ok)) (ungrouped anyBasis w (f .rows)) (f .constant) (v .fits)
-      (u .fits) (record { longer = omega (arith, u .count); older = λ j l. u .same j })
+      (ungrouped-extends anyBasis w vars (f .rows))
 
 -- recovering structure keeps the value of a form, under every assignment
 pub value-recover : (vars : List ℕ) (f : Form) → validForm f ≡ true → formValue vars (recoverForm f) ≡ formValue vars f

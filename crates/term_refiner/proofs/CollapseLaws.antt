@@ -24,11 +24,12 @@ use Rattle.semilinear.specs.Group.{Entry, at, isLive, consumed, Work, createMas
 use Rattle.semilinear.proofs.TotalLaws.{worth, worth-live, worth-consumed, live-mark}
 use Rattle.semilinear.proofs.WorkLaws.{grown-trans, length-masked}
 use Rattle.semilinear.proofs.SearchLaws.{first-from, first-true}
+use Rattle.semilinear.proofs.SearchLaws.{when-both}
 use Rattle.term_refiner.specs.Steps.{remasked}
 use Rattle.term_refiner.specs.Collapse.{thirdFits, findThird, secondFits, findSecond, firstFits, findFirst}
 use Rattle.term_refiner.specs.Collapse.{collapseAt, threeTermCollapse}
 use Rattle.term_refiner.proofs.KeptLaws.{Fits, Kept, fits-grown, fits-fresh, kept-three}
-use Rattle.term_refiner.proofs.StepsLaws.{when-both, consumed-any, grown-mask, live-fits}
+use Rattle.term_refiner.proofs.StepsLaws.{consumed-any, grown-mask, live-fits}
 
 -- ---- the search
 

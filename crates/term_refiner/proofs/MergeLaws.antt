@@ -23,10 +23,11 @@ use Rattle.semilinear.specs.Loop.{forIn, firstIn}
 use Rattle.semilinear.specs.Group.{Entry, at, isLive, Work}
 use Rattle.semilinear.proofs.EntryLaws.{for-keeps}
 use Rattle.semilinear.proofs.SearchLaws.{first-true}
+use Rattle.semilinear.proofs.SearchLaws.{when-both}
 use Rattle.term_refiner.specs.Steps.{joinAt, slotFits, placeAt, leastCoeff, Sweep, sweepTurn, bucketMerge}
 use Rattle.term_refiner.specs.Steps.{pairAt, pairMerge}
 use Rattle.term_refiner.proofs.KeptLaws.{Kept}
-use Rattle.term_refiner.proofs.StepsLaws.{when-both, CanJoin, live-fits, join-keeps}
+use Rattle.term_refiner.proofs.StepsLaws.{CanJoin, live-fits, join-keeps}
 
 not-false : (a : Bool) → not a ≡ false → a ≡ true
 not-false true e = refl

@@ -1,6 +1,6 @@
 -- Refining a semilinear form keeps its value and its validity.
-use mathlib.Core.Path.{_≡_, refl, ap, ap₂, sym, _∙_, subst}
-use Prim.Native.Nat.{ℕ, _+_, _*_, _%_, _^_, _≤_, _<_}
+use mathlib.Core.Path.{_≡_, refl, ap, sym, _∙_}
+use Prim.Native.Nat.{ℕ, _+_, _*_, _^_, _≤_, _<_}
 use native.Mathlib.Omega.{arith}
 use mathlib.Core.List.{List, [], _∷_}
 use mathlib.Core.Bool.{Bool, true, false}
@@ -13,18 +13,18 @@ use Rattle.expr.specs.Hash.{structuralHash}
 use Rattle.expr.specs.Value.{value}
 use Rattle.semilinear.specs.declared.group.Group.{Group}
 use Rattle.semilinear.specs.Form.{Row, Form, isAtomTree, sumRows, formValue, rowsOk, fitsTable, validForm}
-use Rattle.semilinear.specs.Group.{Entry, Work, work, at, isLive, emptyGroup, anyBasis, basesOf, groupOf, ungrouped, settle}
-use Rattle.semilinear.proofs.FormLaws.{form-parts, parts-form}
+use Rattle.semilinear.specs.Group.{Entry, Work, work, at, isLive, emptyGroup, anyBasis, basesOf, groupOf, ungrouped}
+use Rattle.semilinear.specs.Group.{settle}
+use Rattle.semilinear.proofs.FormLaws.{form-parts}
 use Rattle.semilinear.proofs.AtomLaws.{atom-tree, tree-atom}
 use Rattle.semilinear.proofs.TotalLaws.{sumTo, sum-ext, worth, worth-live, worth-dead, total}
-use Rattle.semilinear.proofs.WorkLaws.{rowValue}
 use Rattle.semilinear.proofs.BasesLaws.{risingFrom, risen}
 use Rattle.semilinear.proofs.GroupsLaws.{basisSum, basesSum, groups-share, bases-rising}
-use Rattle.semilinear.proofs.GroupOfLaws.{Fresh, Group-of, group-of}
+use Rattle.semilinear.proofs.GroupOfLaws.{Fresh, group-of}
 use Rattle.semilinear.proofs.SettleLaws.{owed, owed-live, owed-consumed, settled}
 use Rattle.semilinear.proofs.ExtendsLaws.{Extends, extends-trans, grown-extends, settled-extends, ungrouped-extends}
 use Rattle.term_refiner.specs.RefineTerms.{refineGroup, refineAll, refineForm}
-use Rattle.term_refiner.proofs.KeptLaws.{Fits, AllFit, Kept, kept-start}
+use Rattle.term_refiner.proofs.KeptLaws.{Fits, AllFit, kept-start}
 use Rattle.term_refiner.proofs.RefineLaws.{refine-keeps}
 
 -- what the live entries owe is what they come to beside the basis

@@ -5,7 +5,7 @@ use Prim.Native.Nat.{ℕ, _+_, _-_, _*_, _^_, _≤_, _<_}
 use native.Mathlib.Omega.{arith}
 use native.Mathlib.Nat.{lt-of-le-of-lt, lt-of-lt-of-le, add-zero, zero-mul}
 use mathlib.Core.List.{List}
-use mathlib.Core.Bool.{Bool, true, false, not, _&&_}
+use mathlib.Core.Bool.{true, not, _&&_}
 use lib.ListN.{length}
 use lib.Bits.{bitAnd, bitOr, and-le-l, or-lt}
 use lib.Dec.{eqb}
@@ -15,7 +15,6 @@ use Rattle.arith.specs.Effective.{effectiveMask, reduceMask, canChangeCoefficie
 use Rattle.arith.proofs.CongruenceLaws.{eqm-of-eq, eqm-sym, eqm-trans, eqm-add}
 use Rattle.arith.proofs.MaskLaws.{terms-merge}
 use Rattle.arith.proofs.EffectiveLaws.{reduce-eqm, coefficient-sound}
-use Rattle.record.specs.Choice.{when}
 use Rattle.record.specs.Tree.{Tree}
 use Rattle.record.proofs.SizedLaws.{false-true, and-true}
 use Rattle.expr.specs.Value.{value}
@@ -25,16 +24,11 @@ use Rattle.semilinear.specs.Group.{Entry, at, isLive, consumed, Work, work, cre
 use Rattle.semilinear.proofs.EntryLaws.{for-keeps}
 use Rattle.semilinear.proofs.TotalLaws.{worth, worth-live, worth-consumed, live-mark, live-consumed}
 use Rattle.semilinear.proofs.WorkLaws.{Grown, grown-refl, grown-masked}
+use Rattle.semilinear.proofs.SearchLaws.{when-both}
 use Rattle.term_refiner.specs.Steps.{remasked, cutAt, cutMasks, dropAt, dropZero, joinAt, negateAt, toMinusOne}
 use Rattle.term_refiner.proofs.KeptLaws.{Fits, Kept, fits-fresh, kept-one, kept-two}
 
--- ---- choices and entries
-
--- what holds of both sides of a choice
-pub when-both : {A : Type 0} (P : A → Type 0) (t : Bool) (x y : A) → (t ≡ true → P x) → (t ≡ false → P y)
-    → P (when t (λ _. x) (λ _. y))
-when-both P true x y p q = p refl
-when-both P false x y p q = q refl
+-- ---- entries
 
 -- a consumed entry is not live
 pub consumed-any : {A : Type 0} (e : Entry) → isLive (consumed e) ≡ true → A
