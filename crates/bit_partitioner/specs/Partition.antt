@@ -1,5 +1,5 @@
 -- The classes of places at which every atom has the same table, their words, and what the entry point gives
--- (document 01, "Hint columns"; bit_partitioner.rs 28-155). Difference 4: the classes stand by their lowest place.
+-- (document 01, "Hint columns"; bit_partitioner.rs 105-153). Difference 4: the classes stand by their lowest place.
 use Prim.Native.Nat.{ℕ, zero, suc, _+_, _^_}
 use mathlib.Core.List.{List, [], _∷_, _++_}
 use mathlib.Core.Bool.{Bool, _||_}
@@ -19,7 +19,7 @@ use Rattle.semilinear_normalizer.specs.Truth.{hasShift, table}
 abbrev pub columnVars : ℕ
 columnVars = 5
 
--- the atom's profile word says nothing of its bits: too many variables, or a shift (lines 98-119)
+-- the atom's profile word says nothing of its bits: too many variables, or a shift (lines 98-103 and 115-132)
 unfoldable pub isOpaque : Tree → Bool
 isOpaque t = ltb columnVars (length (support t)) || hasShift t
 

@@ -3,7 +3,6 @@ use mathlib.Core.Path.{_≡_}
 use Prim.Native.Nat.{ℕ}
 use mathlib.Core.List.{List, [], _∷_}
 use mathlib.Core.Bool.{true}
-use Rattle.record.specs.Fields.{width}
 use Rattle.semilinear.specs.Form.{Form, encodeForm, validForm}
 use Rattle.semilinear.specs.Outcome.{Outcome, accepted, refused}
 use Rattle.semilinear.specs.Value.{semilinearValue}
@@ -13,6 +12,7 @@ use Rattle.structure_recovery.specs.RecoverStructure.{recoverStructure}
 use Rattle.structure_recovery.specs.CoalesceTerms.{coalesceTerms}
 use Rattle.structure_recovery.specs.FlattenComplexAtoms.{flattenComplexAtoms}
 
+-- the five passes
 pub data Pass : Type 0 where
   refine-terms : Pass
   recover-structure : Pass
@@ -38,6 +38,7 @@ unfoldable pub useOf : List ℕ → Outcome → List ℕ
 useOf s (accepted l ns) = l
 useOf s (refused n) = s
 
+-- the bytes in use after one call, where those before it were s
 unfoldable pub afterCall : Call → List ℕ → List ℕ
 afterCall c s = useOf s (passGives (c .pass) s (c .len))
 

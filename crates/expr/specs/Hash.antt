@@ -1,4 +1,4 @@
--- The structural hash of a tree (semilinear.rs 163-207), over uncut literals. Sums and products wrap at 64 bits.
+-- The structural hash of a tree (semilinear.rs 173-214), over uncut literals. Sums and products wrap at 64 bits.
 use Prim.Native.Nat.{ℕ, _+_, _*_, _/_, _%_, _^_}
 use lib.Bits.{bitXor}
 use Rattle.record.specs.Tree.{Tree}

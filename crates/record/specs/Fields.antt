@@ -48,6 +48,6 @@ spare s = getD s (length s - 11) 0 + getD s (length s - 10) 0 + getD s (length s
 unfoldable pub literal : List ℕ → ℕ
 literal s = u64 s (length s - 8)
 
--- how many children a kind has (expr.rs 45-56): none for 0 and 1, two for 2 to 6 and 13, one for 7 to 12
+-- how many children a kind has (expr.rs 43-54): none for 0 and 1, two for 2 to 6 and 13, one for 7 to 12
 unfoldable pub arity : ℕ → ℕ
 arity k = when (ltb k 2) (λ _. 0) (λ _. when (ltb k 7) (λ _. 2) (λ _. when (ltb k 13) (λ _. 1) (λ _. 2)))

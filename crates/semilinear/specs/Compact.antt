@@ -1,4 +1,4 @@
--- Compacting the atom table (semilinear.rs 287-319): atoms without a term go, the others are renumbered in order.
+-- Compacting the atom table (semilinear.rs 292-318): atoms without a term go, the others are renumbered in order.
 use mathlib.Core.Path.{_≡_}
 use Prim.Native.Nat.{ℕ, zero, suc, _+_, _*_}
 use mathlib.Core.List.{List, [], _∷_, _++_}

@@ -1,7 +1,7 @@
--- An atom seen as `basis & mask` (semilinear.rs 209-254). Difference 3: the mask is read at w bits.
+-- An atom seen as `basis & mask` (semilinear.rs 223-259). Difference 3: the mask is read at w bits.
 use Prim.Native.Nat.{ℕ, _-_, _^_}
-use mathlib.Core.List.{List, []}
-use mathlib.Core.Bool.{Bool, true, false, not, _&&_}
+use mathlib.Core.List.{[]}
+use mathlib.Core.Bool.{not, _&&_}
 use lib.Dec.{eqb}
 use Rattle.record.specs.Choice.{when}
 use Rattle.record.specs.Tree.{Tree}

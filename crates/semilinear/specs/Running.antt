@@ -1,6 +1,6 @@
 -- What one turn of a walk over atoms and terms, side by side, does: of the walk that adds and of the one that copies.
 use mathlib.Core.Path.{_≡_}
-use Prim.Native.Nat.{ℕ, _+_, _*_, _%_, _^_, _≤_, _<_}
+use Prim.Native.Nat.{ℕ, _+_, _*_, _%_, _^_, _≤_}
 use mathlib.Core.List.{List, []}
 use lib.ListN.{length, take, drop}
 use Rattle.record.specs.Choice.{when}

@@ -1,4 +1,4 @@
--- The atom table while a pass adds atoms to it (semilinear.rs 258-285): its numbers, and the lent bytes whose first
+-- The atom table while a pass adds atoms to it (semilinear.rs 263-288): its numbers, and the lent bytes whose first
 -- `at` are the atoms so far. An atom that would pass 256 atoms or 3,072 tree records (refusal 9) makes it full; a full
 -- table stays as it is.
 use Prim.Native.Nat.{ℕ, _+_, _*_, _≤_}

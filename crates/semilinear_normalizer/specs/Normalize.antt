@@ -1,8 +1,7 @@
--- What normalising gives (document 01, "The sheet" and refusals 1 to 9; semilinear_normalizer.rs 431-487).
+-- What normalising gives (document 01, "The sheet" and refusals 1 to 9; semilinear_normalizer.rs 438-486).
 use Prim.Native.Nat.{ℕ}
 use mathlib.Core.List.{List, []}
-use mathlib.Core.Bool.{Bool, true, false, not}
-use lib.ListN.{length}
+use mathlib.Core.Bool.{false, not}
 use lib.Dec.{eqb}
 use Rattle.record.specs.Choice.{when}
 use Rattle.record.specs.Fields.{width}

@@ -1,9 +1,9 @@
--- The atom table of the normaliser (semilinear_normalizer.rs 231-283, `register_atom`, `detect_provenance` 174-214).
+-- The atom table of the normaliser (semilinear_normalizer.rs 235-282, `register_atom`, `detect_provenance` 174-213).
 -- Difference 1: sharing by hash needs equal trees; the published Rust asks for it too and keeps one slot for each
 -- (hash, variables), that of the newest atom.
 use Prim.Native.Nat.{ℕ, zero, suc, _+_}
 use mathlib.Core.List.{List, [], _∷_}
-use mathlib.Core.Bool.{Bool, true, false, not, _&&_, _||_}
+use mathlib.Core.Bool.{Bool, false, not, _&&_, _||_}
 use lib.ListN.{length}
 use lib.Dec.{eqb, leb}
 use Rattle.arith.specs.Width.{modAdd}

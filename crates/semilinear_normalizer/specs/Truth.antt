@@ -1,5 +1,5 @@
 -- The bit of a bitwise tree at one place, from the bits of its variables there, and the tables made of it (document 01,
--- "Hint columns"; semilinear.rs 100-161, bit_partitioner.rs 29-90). The Rust's tables for sharing have w bits a row;
+-- "Hint columns"; semilinear.rs 109-169, bit_partitioner.rs 29-103). The Rust's tables for sharing have w bits a row;
 -- they are equal exactly when those at place 0 are (proofs/WordTableLaws.antt).
 use Prim.Native.Nat.{ℕ, zero, suc, _+_, _-_, _*_, _^_, min, max}
 use mathlib.Core.List.{List, [], _∷_}

@@ -1,15 +1,14 @@
--- Coalescing the terms of one variable by the coefficient of each bit (structure_recovery.rs 333-459). Differs from the
+-- Coalescing the terms of one variable by the coefficient of each bit (structure_recovery.rs 337-473). Differs from the
 -- Rust in differences 1, 3 and 4.
-use Prim.Native.Nat.{ℕ, zero, suc, _+_, _-_, _^_}
+use Prim.Native.Nat.{ℕ, _+_, _-_, _^_}
 use mathlib.Core.List.{List, [], _∷_}
-use mathlib.Core.Bool.{Bool, true, false, _&&_, _||_}
+use mathlib.Core.Bool.{false, _||_}
 use lib.ListN.{length}
 use lib.Dec.{eqb, ltb, leb}
 use Rattle.arith.specs.Bit.{bitAt}
 use Rattle.arith.specs.Width.{modAdd}
 use Rattle.record.specs.Choice.{when}
 use Rattle.record.specs.Tree.{Tree}
-use Rattle.record.specs.Tree.Tree.{Constant, Variable, Unary, Binary}
 use Rattle.semilinear.specs.declared.group.Group.{Group}
 use Rattle.semilinear.specs.Form.{Row, Form}
 use Rattle.semilinear.specs.Loop.{forIn}

@@ -1,15 +1,15 @@
--- Flattening the atoms of one variable (structure_recovery.rs 464-566): f(0), and the bits that the variable passes or
+-- Flattening the atoms of one variable (structure_recovery.rs 478-566): f(0), and the bits that the variable passes or
 -- inverts. Differs from the Rust in difference 3.
-use Prim.Native.Nat.{ℕ, _+_, _-_, _^_}
+use Prim.Native.Nat.{ℕ, _-_, _^_}
 use mathlib.Core.List.{List, [], _∷_, _++_}
-use mathlib.Core.Bool.{Bool, true, false, not, _&&_, _||_}
+use mathlib.Core.Bool.{Bool, true, false, not, _&&_}
 use lib.ListN.{length, replicate}
 use lib.Bits.{bitAnd}
 use lib.Dec.{eqb}
 use Rattle.arith.specs.Width.{modAdd, modMul, modNeg}
 use Rattle.record.specs.Choice.{when}
 use Rattle.record.specs.Tree.{Tree}
-use Rattle.record.specs.Tree.Tree.{Constant, Variable, Unary, Binary}
+use Rattle.record.specs.Tree.Tree.{Variable}
 use Rattle.expr.specs.Utils.{hasShr}
 use Rattle.expr.specs.Vars.{nextVar, support}
 use Rattle.expr.specs.Value.{value}

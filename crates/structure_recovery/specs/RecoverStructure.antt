@@ -1,15 +1,15 @@
--- Xor recovery and mask elimination (structure_recovery.rs 199-329). Differs from the Rust in differences 1 to 4.
+-- Xor recovery and mask elimination (structure_recovery.rs 194-331). Differs from the Rust in differences 1 to 4.
 -- Marks: 0 live, 1 consumed, 2 widened (found by nobody, still looks), 3 rewritten as Xor (neither).
-use Prim.Native.Nat.{ℕ, zero, suc, _+_, _-_, _^_}
+use Prim.Native.Nat.{ℕ, _+_, _-_, _^_}
 use mathlib.Core.List.{List, [], _∷_}
-use mathlib.Core.Bool.{Bool, true, false, not, _&&_, _||_}
+use mathlib.Core.Bool.{Bool, false, _&&_, _||_}
 use lib.ListN.{length}
 use lib.Count.{ones}
 use lib.Dec.{eqb, ltb, leb}
 use Rattle.arith.specs.Width.{modAdd, modSub, modMul}
 use Rattle.record.specs.Choice.{when}
 use Rattle.record.specs.Tree.{Tree}
-use Rattle.record.specs.Tree.Tree.{Constant, Variable, Unary, Binary}
+use Rattle.record.specs.Tree.Tree.{Constant, Binary}
 use Rattle.semilinear.specs.declared.group.Group.{Group}
 use Rattle.semilinear.specs.Form.{Row, Form, eqTree}
 use Rattle.semilinear.specs.Loop.{forIn, firstIn}
@@ -36,7 +36,7 @@ withBare w t rows = when (ltb (rowWith w t 0 rows) (length rows)) (λ _. rows) (
 -- ---- one pair
 
 -- c & x and ~c & x with coefficients that add to 0 become an Xor with the mask of fewer ones as literal; that entry
--- stays, and the constant takes its old coefficient times the mask (265-297)
+-- stays, and the constant takes its old coefficient times the mask (286-311)
 unfoldable pub recoverXor : ℕ → Tree → ℕ → ℕ → Recovery → Recovery
 recoverXor w b src dst x =
     record {
@@ -49,7 +49,7 @@ recoverXor w b src dst x =
       constant = modAdd (x .constant) (modMul (at (x .group) src .coeff) (at (x .group) src .mask) w) w;
     }
 
--- otherwise entry i takes the difference of the coefficients, and entry j the basis without a mask (299-312)
+-- otherwise entry i takes the difference of the coefficients, and entry j the basis without a mask (313-323)
 unfoldable pub eliminateMask : ℕ → Tree → ℕ → ℕ → ℕ → Recovery → Recovery
 eliminateMask w b diff i j x =
     record {

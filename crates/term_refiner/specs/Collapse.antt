@@ -1,7 +1,7 @@
--- The three-term collapse (term_refiner.rs 139-193): the first pair, and for it the first third term, whose coefficient
+-- The three-term collapse (term_refiner.rs 134-184): the first pair, and for it the first third term, whose coefficient
 -- is the pair's sum and whose mask meets neither of theirs. One collapse to a group.
 use Prim.Native.Nat.{ℕ, _+_}
-use mathlib.Core.Bool.{Bool, true, false, not, _&&_}
+use mathlib.Core.Bool.{Bool, not, _&&_}
 use lib.ListN.{length}
 use lib.Bits.{bitAnd, bitOr}
 use lib.Dec.{eqb, ltb}
@@ -10,7 +10,7 @@ use Rattle.record.specs.Choice.{when}
 use Rattle.record.specs.Tree.{Tree}
 use Rattle.semilinear.specs.declared.group.Group.{Group}
 use Rattle.semilinear.specs.Loop.{firstIn}
-use Rattle.semilinear.specs.Group.{Entry, at, putEntry, isLive, consumed, Work, work, createMasked}
+use Rattle.semilinear.specs.Group.{at, putEntry, isLive, consumed, Work, work, createMasked}
 use Rattle.term_refiner.specs.Steps.{remasked}
 
 unfoldable pub thirdFits : ℕ → Group → ℕ → ℕ → ℕ → Bool

@@ -1,4 +1,4 @@
--- Refining the terms of a semilinear form (term_refiner.rs 195-375). Differs from the Rust in differences 1, 3 and 4.
+-- Refining the terms of a semilinear form (term_refiner.rs 187-374). Differs from the Rust in differences 1, 3 and 4.
 use Prim.Native.Nat.{ℕ}
 use mathlib.Core.List.{List, [], _∷_}
 use mathlib.Core.Bool.{false}
@@ -10,7 +10,7 @@ use Rattle.semilinear.specs.Compact.{passOutcome, limitOutcome}
 use Rattle.term_refiner.specs.Steps.{cutMasks, dropZero, bucketMerge, pairMerge, toMinusOne}
 use Rattle.term_refiner.specs.Collapse.{threeTermCollapse}
 
--- the steps in the Rust's order; the second pair merge follows the change of coefficients (195-286)
+-- the steps in the Rust's order; the second pair merge follows the change of coefficients (187-292)
 unfoldable pub refineGroup : ℕ → Tree → Work → Work
 refineGroup w b x =
     threeTermCollapse w b
