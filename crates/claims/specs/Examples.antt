@@ -1,5 +1,5 @@
--- Worked examples (document 01, "Starred puzzles"; w = 8 unless said, a is v0, b is v1), each computed on the definitions
--- of the normaliser, the passes and the columns. Tables keep the atoms that lost their term.
+-- Worked examples (document 01, "Starred puzzles"; w = 8 unless said, a is v0, b is v1), each computed on the
+-- definitions of the normaliser, the passes and the columns. Tables keep the atoms that lost their term.
 use Prim.Native.Nat.{ℕ}
 use mathlib.Core.List.{List, [], _∷_}
 use mathlib.Core.Bool.{Bool, true, false, _&&_}
@@ -82,10 +82,19 @@ starred =
     (form 8 0 (row 0 (mask a 252) 1 ∷ row 0 (mask a 3) 255 ∷ row 0 (mask a 0) 255 ∷ []))
     (form 8 253
     (row 0 (mask a 252) 0 ∷ row 0 (mask a 3) 0 ∷ row 0 (mask a 0) 255 ∷ row 2 (Binary 6 (Constant 3) a) 1 ∷ []))
-    ∷ record { got = partitionsOutcome (form 8 0 (row 0 (mask a 15) 1 ∷ [])); want = accepted (15 ∷ 2 ∷ 240 ∷ 0 ∷ []) (2 ∷ []) }
+    ∷ record {
+      got = partitionsOutcome (form 8 0 (row 0 (mask a 15) 1 ∷ []));
+      want = accepted (15 ∷ 2 ∷ 240 ∷ 0 ∷ []) (2 ∷ []);
+    }
     ∷ []
 
 -- ---- cases that are easy to get wrong
+
+abbrev vanishing : Form
+vanishing = form 8 7 (row 4 (Binary 4 a (Unary 7 0 a)) 3 ∷ [])
+
+abbrev a^b : Tree
+a^b = Binary 6 a b
 
 unfoldable pub tricky : List Example
 tricky =
@@ -117,10 +126,13 @@ tricky =
     -- 128 and 128 at 8 bits are an Xor pair; a tie of ones takes the first entry's mask
     ∷ pass recoverForm (form 8 0 (row 0 (mask a 15) 128 ∷ row 0 (mask a 240) 128 ∷ []))
     (form 8 128 (row 0 (mask a 15) 0 ∷ row 0 (mask a 240) 0 ∷ row 2 (Binary 6 (Constant 15) a) 128 ∷ []))
-    -- a widened entry is found by nobody, but looks: 3 (a & 15) + 1 (a & 240) + 1 (a & 0)
+    -- a widened entry is found by nobody, but looks: 3 (a & 15) + 1 (a & 240) + 2 (a & 0)
     ∷ pass recoverForm (form 8 0 (row 0 (mask a 15) 3 ∷ row 0 (mask a 240) 1 ∷ row 0 (mask a 0) 2 ∷ []))
     (form 8 0
     (row 0 (mask a 15) 2 ∷ row 0 (mask a 240) 0 ∷ row 0 (mask a 0) 0 ∷ row 4 a 1 ∷ []))
+    -- the bare atom is one whose term stands outside the group, and the coefficients vanish
+    ∷ pass recoverForm (form 8 0 (row 2 a^b 254 ∷ row 0 (mask a^b 15) 3 ∷ row 0 (mask a^b 240) 2 ∷ []))
+    (form 8 0 (row 2 a^b 0 ∷ row 0 (mask a^b 15) 1 ∷ row 0 (mask a^b 240) 0 ∷ []))
     -- only strictly fewer terms: 1 (a & 15) + 1 (a & 240) coalesce to a, made Mixed
     ∷ pass coalesceForm (form 8 0 (row 0 (mask a 15) 1 ∷ row 0 (mask a 240) 1 ∷ []))
     (form 8 0 (row 0 (mask a 15) 0 ∷ row 0 (mask a 240) 0 ∷ row 4 a 1 ∷ []))
@@ -128,7 +140,7 @@ tricky =
     ∷ pass coalesceForm (form 8 0 (row 0 (mask a 0) 1 ∷ [])) (form 8 0 (row 0 (mask a 0) 1 ∷ []))
     -- a & ~a: the term vanishes and the flag is set
     ∷ record {
-      got = formOutcome (flattenForm (form 8 7 (row 4 (Binary 4 a (Unary 7 0 a)) 3 ∷ []))) (flattened (form 8 7 (row 4 (Binary 4 a (Unary 7 0 a)) 3 ∷ [])) .flag);
+      got = formOutcome (flattenForm vanishing) (flattened vanishing .flag);
       want = formOutcome (form 8 7 (row 4 (Binary 4 a (Unary 7 0 a)) 0 ∷ [])) true;
     }
     ∷ []
