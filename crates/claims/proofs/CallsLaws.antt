@@ -10,9 +10,10 @@ use Rattle.semilinear.specs.Form.{Form, encodeForm, validForm}
 use Rattle.semilinear.specs.Outcome.{Outcome, accepted, formOutcome}
 use Rattle.semilinear.specs.Value.{semilinearValue}
 use Rattle.semilinear.specs.Compact.{limitOutcome}
+use Rattle.semilinear.proofs.ValueLaws.{encoded-value}
 use Rattle.semilinear.proofs.MadeLaws.{Kept, Made, made, not-made, limit-made, pass-made, compact-made}
 use Rattle.semilinear_normalizer.specs.Normalize.{normalizeToSemilinear}
-use Rattle.semilinear_normalizer.proofs.NormalizeLaws.{encoded-value, normalize-form}
+use Rattle.semilinear_normalizer.proofs.NormalizeLaws.{normalize-form}
 use Rattle.term_refiner.specs.RefineTerms.{refineForm, refineTerms}
 use Rattle.term_refiner.proofs.RefineFormLaws.{value-refine, valid-refine}
 use Rattle.structure_recovery.specs.RecoverStructure.{recoverForm, recoverStructure}

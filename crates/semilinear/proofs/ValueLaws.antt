@@ -1,28 +1,18 @@
--- Laws of specs/Value.antt and `semilinearRefusal`: an accepted slice is a form, and the answer in either case.
+-- Laws of specs/Value.antt: the answer for refused bytes, for accepted ones, and for those of a valid form.
 use mathlib.Core.Path.{_≡_, refl, sym, _∙_}
 use Prim.Native.Nat.{ℕ, _+_, _%_, _^_}
-use native.Mathlib.Omega.{arith}
 use mathlib.Core.List.{List}
-use mathlib.Core.Bool.{Bool, true, false}
+use mathlib.Core.Bool.{true}
 use borrow.Author.Tests.{eq-eqb, ne-eqb}
-use Rattle.record.specs.Choice.{when}
 use Rattle.record.specs.Fields.{width, literal}
 use Rattle.record.specs.Span.{body}
-use Rattle.semilinear.specs.Form.{sumRows, formValue}
+use Rattle.semilinear.specs.Form.{Form, sumRows, formValue, encodeForm, validForm}
 use Rattle.semilinear.specs.Items.{afterAtoms}
-use Rattle.semilinear.specs.Valid.{lengthRefused, isSemilinear, semilinearRefusal}
+use Rattle.semilinear.specs.Valid.{semilinearRefusal}
 use Rattle.semilinear.specs.DecodeForm.{rowsOf, decodeForm}
 use Rattle.semilinear.specs.Value.{semilinearValue}
-
-pub accepted-form : (s : List ℕ) → semilinearRefusal s ≡ 0 → isSemilinear s ≡ true
-unfolding semilinearRefusal
-accepted-form s e = go (lengthRefused s) (isSemilinear s) refl e
-  where
-    go : (a b : Bool) → isSemilinear s ≡ b
-        → _≡_ {A = ℕ} (when a (λ _. 1) (λ _. when b (λ _. 0) (λ _. 10))) 0 → isSemilinear s ≡ true
-    go true b p z = absurd (omega arith)
-    go false true p z = p
-    go false false p z = absurd (omega arith)
+use Rattle.semilinear.proofs.AcceptLaws.{no-refusal}
+use Rattle.semilinear.proofs.EncodeFormLaws.{form-decode, bytes-form}
 
 pub form-value-refused : (s vars : List ℕ) → (semilinearRefusal s ≡ 0 → ⊥) → semilinearValue s vars ≡ 0
 unfolding semilinearValue
@@ -38,3 +28,11 @@ module _ (s vars : List ℕ) (h : semilinearRefusal s ≡ 0) {w c : ℕ} {f : Li
   pub form-value-accepted : {v : ℕ} → v ≡ (c + sumRows w vars (rowsOf 0 f (afterAtoms f))) % 2 ^ w
       → v ≡ semilinearValue s vars
   form-value-accepted e = e ∙ sym sum-accepted
+
+-- the value that the bytes of a valid form have
+pub encoded-value : (f : Form) → validForm f ≡ true → (vars : List ℕ)
+    → semilinearValue (encodeForm f) vars ≡ formValue vars f
+unfolding semilinearValue
+encoded-value f ok vars =
+    let z : semilinearRefusal (encodeForm f) ≡ 0 = no-refusal (encodeForm f) (bytes-form f ok) .1 (f, ok, refl) in
+    simp (eq-eqb (semilinearRefusal (encodeForm f)) 0 z, form-decode f ok)

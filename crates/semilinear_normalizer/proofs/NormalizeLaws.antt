@@ -25,11 +25,9 @@ use Rattle.expr.proofs.RefusalLaws.{accepted-root}
 use Rattle.expr.proofs.AcceptLaws.{accept-expr}
 use Rattle.expr.proofs.ExprValueLaws.{accepted-tree, expr-value-accepted}
 use Rattle.semilinear.specs.Form.{Form, sumRows, formValue, termCount, encodeForm, rowsOk, fitsTable, validForm}
-use Rattle.semilinear.specs.Valid.{semilinearRefusal}
 use Rattle.semilinear.specs.Value.{semilinearValue}
 use Rattle.semilinear.specs.Outcome.{Outcome, accepted, refused, refusalOf, numbersOf, formOutcome}
-use Rattle.semilinear.proofs.EncodeFormLaws.{form-decode, bytes-form}
-use Rattle.semilinear.proofs.AcceptLaws.{no-refusal}
+use Rattle.semilinear.proofs.ValueLaws.{encoded-value}
 use Rattle.semilinear_normalizer.specs.Collect.{Emitted, Collected, nonlinear, linear, collectTerms}
 use Rattle.semilinear_normalizer.specs.Register.{registerAll}
 use Rattle.semilinear_normalizer.specs.Normalize.{collectedForm, collectedOutcome, normalizeTree}
@@ -171,14 +169,6 @@ elements (refused n) = []
 not-accepted : {A : Type 0} {o : Outcome} {n : ℕ} {b ns : List ℕ} → o ≡ refused n → 0 < n → o ≡ accepted b ns → A
 unfolding refusalOf
 not-accepted {n} f h e = let z : n ≡ 0 = ap refusalOf (sym f ∙ e) in absurd (omega arith)
-
--- the value of a valid form's bytes is the form's
-pub encoded-value : (f : Form) → validForm f ≡ true → (vars : List ℕ)
-    → semilinearValue (encodeForm f) vars ≡ formValue vars f
-unfolding semilinearValue
-encoded-value f ok vars =
-    let z : semilinearRefusal (encodeForm f) ≡ 0 = no-refusal (encodeForm f) (bytes-form f ok) .1 (f, ok, refl) in
-    simp (eq-eqb (semilinearRefusal (encodeForm f)) 0 z, form-decode f ok)
 
 -- what an accepted call gives: the bytes of a valid form of the expression's width and value, and its numbers
 pub record Normalized (s bytes numbers : List ℕ) : Type 0 where

@@ -1,6 +1,7 @@
 -- `semilinear_value` meets its contract: the value of an accepted form, and 0 beside a refusal.
 use Rattle.record.specs.Fields.{width, literal}
-use Rattle.semilinear.proofs.ValueLaws.{accepted-form, form-value-accepted, form-value-refused}
+use Rattle.semilinear.proofs.ValueLaws.{form-value-accepted, form-value-refused}
+use Rattle.semilinear.proofs.AcceptLaws.{accepted-semilinear}
 use Rattle.semilinear.proofs.ValidLaws.{semilinear-parts}
 use mathlib.Core.Path.{sym, _∙_}
 use borrow.Author.Needs.{needs}
@@ -19,12 +20,12 @@ returns c =
 
 width-requires : tie.Need-width-requires
 width-requires c κs =
-    semilinear-parts _ (accepted-form _ (sym (c .before .semilinear-refusal .ensures) ∙ c .if1 .left)) .0 .big
+    semilinear-parts _ (accepted-semilinear _ (sym (c .before .semilinear-refusal .ensures) ∙ c .if1 .left)) .0 .big
 
 literal-requires : tie.Need-literal-requires
 literal-requires c κs =
     semilinear-parts _
-    (accepted-form _ (sym (c .before .before .semilinear-refusal .ensures) ∙ c .before .if1 .left)) .0 .big
+    (accepted-semilinear _ (sym (c .before .before .semilinear-refusal .ensures) ∙ c .before .if1 .left)) .0 .big
 
 body-requires : tie.Need-body-requires
 body-requires c κs = search needs
@@ -40,7 +41,8 @@ sum-rows-requires c κs =
     let at-width = c .before .before .before in
     let p =
     semilinear-parts _
-    (accepted-form _ (sym (at-width .before .before .semilinear-refusal .ensures) ∙ at-width .before .if1 .left)) in (
+    (accepted-semilinear _
+    (sym (at-width .before .before .semilinear-refusal .ensures) ∙ at-width .before .if1 .left)) in (
       rw (at-width .width .ensures) (p .0 .width-le),
       rw (c .before .before .literal .ensures, at-width .width .ensures) (p .0 .fits),
       rw (at-width .width .ensures, c .before .body .ensures) (p .1 .atoms),
