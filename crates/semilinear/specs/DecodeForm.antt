@@ -9,7 +9,8 @@ use Rattle.record.specs.Fields.{width, literal}
 use Rattle.record.specs.Span.{body}
 use Rattle.record.specs.Decode.{decode}
 use Rattle.semilinear.specs.Form.{Row, Form}
-use Rattle.semilinear.specs.Items.{provenance, frontNumber, frontWord, isAtom, treeSpan, afterAtom, afterAtoms, isTerm}
+use Rattle.semilinear.specs.Items.{provenance, frontNumber, frontWord, isAtom, treeSpan}
+use Rattle.semilinear.specs.Items.{afterAtom, afterAtoms, isTerm}
 
 -- the term at the front is that of atom i
 unfoldable pub hasTerm : ℕ → List ℕ → Bool

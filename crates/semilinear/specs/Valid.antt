@@ -11,7 +11,8 @@ use Rattle.record.specs.Decode.{decode}
 use Rattle.expr.specs.Refusal.{treeRefusal}
 use Rattle.expr.specs.Utils.{hasVarDep, hasArith}
 use Rattle.expr.specs.Hash.{structuralHash}
-use Rattle.semilinear.specs.Items.{frontNumber, frontWidth, frontSpare, frontWord, provenance, treeSpan, foldAtoms, atomCount, atomRecords, afterAtoms, isTerm}
+use Rattle.semilinear.specs.Items.{frontNumber, frontWidth, frontSpare, frontWord, provenance, treeSpan}
+use Rattle.semilinear.specs.Items.{foldAtoms, atomCount, atomRecords, afterAtoms, isTerm}
 
 -- the tree of an atom is one of width w, with a variable and without Add, Mul and Neg
 unfoldable pub atomTreeOk : ℕ → List ℕ → Bool
