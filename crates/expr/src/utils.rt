@@ -60,7 +60,7 @@ fn constant_arith_at(k: u8, variable: bool, arith: bool) -> bool
 }
 
 // What two children hold together.
-fn join_traits(x: Traits, y: Traits) -> Traits
+pub fn join_traits(x: Traits, y: Traits) -> Traits
     ensures { λ r. ⌜ r ≡ joinTraits x y ⌝ }
 {
     let variable = either(x.variable, y.variable);
@@ -78,7 +78,7 @@ fn join_traits(x: Traits, y: Traits) -> Traits
 }
 
 // What a root of kind k adds to what its children hold.
-fn node_traits(k: u8, x: Traits) -> Traits
+pub fn node_traits(k: u8, x: Traits) -> Traits
     ensures { λ r. ⌜ r ≡ nodeTraits k x ⌝ }
 {
     let shr = either(k == 9, x.shr);
@@ -95,7 +95,7 @@ fn node_traits(k: u8, x: Traits) -> Traits
 }
 
 // What a root without children holds.
-fn leaf_traits(t: &[u8]) -> Traits
+pub fn leaf_traits(t: &[u8]) -> Traits
     requires { ⌜ 16 ≤ length (now t) ⌝ }
     ensures { λ r. ⌜ r ≡ traitsOf (leaf (now (t .entry))) ⌝ }
 {

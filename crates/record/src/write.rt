@@ -28,6 +28,18 @@ pub fn put_bytes(d: &mut [u8], at: usize, s: &[u8])
     }
 }
 
+// Puts the words s into d from index `at` on.
+pub fn put_words(d: &mut [u64], at: usize, s: &[u64])
+    requires { ⌜ at + length (now s) ≤ length (now d) ⌝ }
+    ensures { λ _. ⌜ now (d .exit) ≡ put (now (d .entry)) at (now (s .entry)) ⌝ }
+{
+    let mut i = 0;
+    while i < s.len() {
+        d[at + i] = s[i];
+        i += 1;
+    }
+}
+
 fn byte(x: u64) -> u8
     ensures { λ r. ⌜ r ≡ x % 256 ⌝ }
 {

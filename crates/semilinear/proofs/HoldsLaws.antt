@@ -22,10 +22,11 @@ use Rattle.expr.proofs.AcceptLaws.{accept-encode}
 use Rattle.semilinear.specs.declared.table.Table.{Table}
 use Rattle.semilinear.specs.Form.{Row, atomBytes, atomsBytes, treeRecords, fitsTable}
 use Rattle.semilinear.specs.Table.{Placed, storeOf, emptyTable, atomSpan}
+use Rattle.semilinear.specs.Table.{Kept, Holds, Clean}
 use Rattle.semilinear.specs.Table.{fitsMore, moreAtoms, fullTable, createAtom}
 use Rattle.semilinear.proofs.FormLaws.{length-atoms}
 use Rattle.semilinear.proofs.TableLaws.{fits-more-within, fits-more-parts, length-atom-span, room-atom}
-use Rattle.semilinear.proofs.TableLaws.{create-cases, placed-empty, placed-more, placed-full, Clean}
+use Rattle.semilinear.proofs.TableLaws.{create-cases, placed-empty, placed-more, placed-full}
 
 -- ---- rows appended to a table without limits
 
@@ -63,19 +64,6 @@ past-more l m e = go (fitsTable (l ++ m)) refl
         false-true (sym e ∙ z)
 
 -- ---- a table with limits beside the rows of a table without them
-
--- the table holds the rows l, and they keep the limits
-pub record Kept (w : ℕ) (tab : Table) (out : List ℕ) (l : List Row) : Type 0 where
-  pub bytes : take (tab .at) out ≡ atomsBytes w l
-  pub count : tab .count ≡ length l
-  pub records : tab .records ≡ treeRecords l
-  pub fits : fitsTable l ≡ true
-
--- either so, or it is full and the rows pass a limit
-pub record Holds (w : ℕ) (tab : Table) (out : List ℕ) (l : List Row) : Type 0 where
-  pub placed : Placed tab (length out)
-  pub kept : tab .full ≡ false → Kept w tab out l
-  pub past : tab .full ≡ true → fitsTable l ≡ false
 
 -- a table whose numbers and bytes are those of rows within the limits
 pub holds-start : (w : ℕ) (tab : Table) (out : List ℕ) (l : List Row) → fitsTable l ≡ true → 53248 ≤ length out

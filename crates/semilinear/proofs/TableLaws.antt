@@ -20,6 +20,7 @@ use Rattle.expr.specs.Hash.{structuralHash}
 use Rattle.semilinear.specs.declared.table.Table.{Table}
 use Rattle.semilinear.specs.Table.{Placed, Store, storeOf, emptyTable, atomSpan}
 use Rattle.semilinear.specs.Table.{fitsMore, moreAtoms, fullTable, createAtom}
+use Rattle.semilinear.specs.Table.{Clean}
 
 -- ---- the writer of an atom
 
@@ -141,9 +142,6 @@ module _ (w p : ℕ) (t : List ℕ) (tab : Table) (out : List ℕ) (h : Placed t
       (λ _ f. rw (length-put out (tab .at) (atomSpan w p t) (room-atom f)) (placed-more tab t (length out) h ok f))
 
 -- ---- zeros behind the atoms
-
-abbrev pub Clean : Table → List ℕ → Type 0
-Clean tab out = out ≡ padded (length out) (take (tab .at) out)
 
 pub clean-empty : (len : ℕ) → Clean emptyTable (replicate len 0)
 unfolding emptyTable

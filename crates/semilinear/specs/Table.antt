@@ -5,15 +5,16 @@ use Prim.Native.Nat.{ℕ, _+_, _*_, _≤_}
 use mathlib.Core.Path.{_≡_}
 use mathlib.Core.List.{List, _++_}
 use mathlib.Core.Bool.{Bool, true, false, _&&_}
-use lib.ListN.{length}
+use lib.ListN.{length, take}
 use lib.Dec.{ltb, leb}
 use Rattle.record.specs.Choice.{when}
 use Rattle.record.specs.Fields.{size}
 use Rattle.record.specs.Tree.{recordBytes}
 use Rattle.record.specs.Decode.{decode}
-use Rattle.record.specs.Put.{put}
+use Rattle.record.specs.Put.{put, padded}
 use Rattle.expr.specs.Hash.{structuralHash}
 use Rattle.semilinear.specs.declared.table.Table.{Table}
+use Rattle.semilinear.specs.Form.{Row, atomsBytes, treeRecords, fitsTable}
 
 -- the table's numbers agree, keep the limits, and len bytes have room for every table within them
 pub record Placed (tab : Table) (len : ℕ) : Type 0 where
@@ -62,3 +63,22 @@ createAtom w p t s =
     (λ _. when (fitsMore (s .table) t)
     (λ _. storeOf (moreAtoms (s .table) t) (put (s .bytes) (s .table .at) (atomSpan w p t)))
     (λ _. storeOf (fullTable (s .table)) (s .bytes)))
+
+-- ---- a table with limits beside the rows of a table without them
+
+-- the table holds the rows l, and they keep the limits
+pub record Kept (w : ℕ) (tab : Table) (out : List ℕ) (l : List Row) : Type 0 where
+  pub bytes : take (tab .at) out ≡ atomsBytes w l
+  pub count : tab .count ≡ length l
+  pub records : tab .records ≡ treeRecords l
+  pub fits : fitsTable l ≡ true
+
+-- either so, or it is full and the rows pass a limit
+pub record Holds (w : ℕ) (tab : Table) (out : List ℕ) (l : List Row) : Type 0 where
+  pub placed : Placed tab (length out)
+  pub kept : tab .full ≡ false → Kept w tab out l
+  pub past : tab .full ≡ true → fitsTable l ≡ false
+
+-- zeros behind the atoms
+abbrev pub Clean : Table → List ℕ → Type 0
+Clean tab out = out ≡ padded (length out) (take (tab .at) out)

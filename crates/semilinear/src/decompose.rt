@@ -18,7 +18,7 @@ pub struct Basis {
 }
 
 // The value of a variable-free tree, at w bits.
-fn constant_value(t: &[u8], w: u32) -> u64
+pub fn constant_value(t: &[u8], w: u32) -> u64
     requires { ⌜ (sized (now t) ≡ true) × (w ≤ 64) ⌝ }
     ensures { λ r. ⌜ r ≡ value w [] (decode (now (t .entry))) ⌝ }
 {
