@@ -1,5 +1,9 @@
 -- Normalising an expression to its semilinear form (document 01, "The sheet"; semilinear_normalizer.rs).
 pub mod Collect
+pub mod Marks
+pub mod Spots
 pub mod Truth
 pub mod Register
+pub mod Key
+pub mod Index
 pub mod Normalize

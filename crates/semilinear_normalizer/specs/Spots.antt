@@ -1,0 +1,175 @@
+-- The descent as the code runs it: atoms are named by the bytes of the file that hold their trees, in lent words, five
+-- to an atom; a view gives what they stand for.
+use mathlib.Core.Path.{_≡_}
+use Prim.Native.Nat.{ℕ, zero, suc, _+_, _-_, _*_, _^_, _≤_, _<_}
+use mathlib.Core.List.{List, [], _∷_, _++_}
+use mathlib.Core.Bool.{Bool, true, false}
+use lib.ListN.{length, getD, take, drop}
+use lib.Dec.{eqb}
+use Rattle.record.specs.Choice.{when}
+use Rattle.record.specs.Tree.{Tree, sizeOf}
+use Rattle.record.specs.Tree.Tree.{Constant, Variable, Unary, Binary}
+use Rattle.record.specs.Decode.{decode}
+use Rattle.record.specs.Put.{put}
+use Rattle.arith.specs.Width.{modMul}
+use Rattle.expr.specs.Refusal.{treeRefusal}
+use Rattle.expr.specs.Utils.{hasVarDep, hasArith}
+use Rattle.expr.specs.Value.{value}
+use Rattle.semilinear_normalizer.specs.declared.collect.Spot.{Spot}
+use Rattle.semilinear_normalizer.specs.declared.collect.Descent.{Descent}
+use Rattle.semilinear_normalizer.specs.declared.collect.Side.{Side}
+use Rattle.semilinear_normalizer.specs.declared.collect.Way.{Way}
+use Rattle.semilinear_normalizer.specs.Collect.{Emitted, Collected, nonlinear, linear, joinCollected}
+use Rattle.semilinear_normalizer.specs.Collect.{collectAtom, collectAnd, andCoeff, collectTerms}
+use Rattle.semilinear_normalizer.specs.Marks.{marksOf}
+
+-- ---- the words
+
+-- the bytes from start to end
+unfoldable pub spanOf : List ℕ → ℕ → ℕ → List ℕ
+spanOf file start end = take (end - start) (drop start file)
+
+-- the words of an atom: the coefficient, where a subtree stands in the file, and whether a literal belongs to it
+unfoldable pub spotWords : ℕ → ℕ → ℕ → ℕ → ℕ → List ℕ
+spotWords c start end masked literal = c ∷ start ∷ end ∷ masked ∷ literal ∷ []
+
+-- the tree that they stand for: the subtree, or the And of it and the literal
+unfoldable pub spotTree : Tree → ℕ → ℕ → Tree
+spotTree t masked literal = when (eqb masked 0) (λ _. t) (λ _. Binary 4 t (Constant literal))
+
+-- the atom of number i
+unfoldable pub spotAt : List ℕ → List ℕ → ℕ → Emitted
+spotAt file words i =
+    record {
+      coeff = getD words (5 * i) 0;
+      tree =
+          spotTree (decode (spanOf file (getD words (5 * i + 1) 0) (getD words (5 * i + 2) 0)))
+          (getD words (5 * i + 3) 0) (getD words (5 * i + 4) 0);
+    }
+
+-- the first n atoms
+unfoldable pub spotsIn : List ℕ → List ℕ → ℕ → List Emitted
+spotsIn file words zero = []
+spotsIn file words (suc n) = spotsIn file words n ++ (spotAt file words n ∷ [])
+
+-- what a descent has collected so far
+unfoldable pub collectedIn : List ℕ → List ℕ → Descent → Collected
+collectedIn file words d =
+    when (d .linear) (λ _. linear (d .constant) (spotsIn file words (d .count))) (λ _. nonlinear)
+
+-- a part of the file that holds an accepted tree of width w
+pub record Accepted (w : ℕ) (file : List ℕ) (start end : ℕ) : Type 0 where
+  pub rising : start ≤ end
+  pub inside : end ≤ length file
+  pub tree : treeRefusal w (spanOf file start end) ≡ 0
+
+-- each of the first n atoms names such a part, and its literal has w bits
+abbrev pub SpotsOk : ℕ → List ℕ → List ℕ → ℕ → Type 0
+SpotsOk w file words n =
+    (i : ℕ) → i < n
+    → Accepted w file (getD words (5 * i + 1) 0) (getD words (5 * i + 2) 0) × (getD words (5 * i + 4) 0 < 2 ^ w)
+
+-- ---- the steps
+
+-- a step from d to r, over words before and after, collects x of a tree of n records
+pub record Collects (w : ℕ) (file : List ℕ) (n : ℕ) (x : Collected) (before : List ℕ) (d : Descent) (after : List ℕ)
+    (r : Descent) : Type 0 where
+  pub collected : collectedIn file after r ≡ joinCollected w (collectedIn file before d) x
+  pub few : r .count ≤ d .count + n
+  pub fits : r .constant < 2 ^ w
+  pub spots : SpotsOk w file before (d .count) → SpotsOk w file after (r .count)
+  pub same-length : length after ≡ length before
+
+-- one atom more, and the constant is now n
+pub record Pushed (n c start end masked literal : ℕ) (before : List ℕ) (d : Descent) (after : List ℕ) (r : Descent)
+    : Type 0 where
+  pub state : r ≡ record { linear = d .linear; constant = n; count = d .count + 1 }
+  pub written : after ≡ put before (5 * d .count) (spotWords c start end masked literal)
+
+-- what a step asks of where it is: all linear so far, and room for n atoms more
+pub record Ready (w : ℕ) (n : ℕ) (words : List ℕ) (d : Descent) : Type 0 where
+  pub width : w ≤ 64
+  pub linear : d .linear ≡ true
+  pub fits : d .constant < 2 ^ w
+  pub room : 5 * (d .count + n) ≤ length words
+
+-- the subtree of a spot
+abbrev pub treeAt : List ℕ → Spot → Tree
+treeAt file x = decode (spanOf file (x .start) (x .end))
+
+-- a spot of the file, with its marks
+pub record AtSpot (w : ℕ) (file marks : List ℕ) (x : Spot) : Type 0 where
+  pub span : Accepted w file (x .start) (x .end)
+  pub marks-are : marks ≡ marksOf (treeAt file x)
+
+-- the side b of a root: a part of the file with its marks
+pub record SideAt (w : ℕ) (file marks : List ℕ) (b : Side) : Type 0 where
+  pub span : Accepted w file (b .start) (b .end)
+  pub from-le : b .from ≤ b .to
+  pub to-le : b .to ≤ length marks
+  pub marks-are : spanOf marks (b .from) (b .to) ≡ marksOf (decode (spanOf file (b .start) (b .end)))
+
+-- the tree of a side
+abbrev pub sideTree : List ℕ → Side → Tree
+sideTree file b = decode (spanOf file (b .start) (b .end))
+
+-- what x ^ v and x | v have beside x: the value v of the literal's side, and the And of x and v
+unfoldable pub collectLiteral : ℕ → ℕ → ℕ → Tree → ℕ → Collected
+collectLiteral w k c t v =
+    joinCollected w (linear (modMul c v w) []) (collectAnd w (andCoeff w k c) t (Constant v))
+
+-- ---- where the descent goes on
+
+unfoldable pub isBinary : Tree → Bool
+isBinary (Constant v) = false
+isBinary (Variable i) = false
+isBinary (Unary k a t) = false
+isBinary (Binary k l r) = true
+
+-- the children of a root with two
+unfoldable pub leftOf : Tree → Tree
+leftOf (Constant v) = Constant v
+leftOf (Variable i) = Variable i
+leftOf (Unary k a t) = Unary k a t
+leftOf (Binary k l r) = l
+
+unfoldable pub rightOf : Tree → Tree
+rightOf (Constant v) = Constant v
+rightOf (Variable i) = Variable i
+rightOf (Unary k a t) = Unary k a t
+rightOf (Binary k l r) = r
+
+abbrev pub IsAnd : Tree → Type 0
+IsAnd t = t ≡ Binary 4 (leftOf t) (rightOf t)
+
+-- the side with a variable of a root over l and r, where the other has none
+pub data SideOf (w : ℕ) (file marks : List ℕ) (l r : Tree) (b : Side) : Type 0 where
+  neither : b .found ≡ false → hasVarDep l ≡ true → hasVarDep r ≡ true → SideOf w file marks l r b
+  at-right : b .found ≡ true → hasVarDep l ≡ false → sideTree file b ≡ r → b .value ≡ value w [] l
+      → SideAt w file marks b → SideOf w file marks l r b
+  at-left : b .found ≡ true → hasVarDep l ≡ true → hasVarDep r ≡ false → sideTree file b ≡ l → b .value ≡ value w [] r
+      → SideAt w file marks b → SideOf w file marks l r b
+
+-- what a tree with a variable is collected as where the descent ends at it
+unfoldable pub collectWhole : ℕ → ℕ → Tree → Collected
+collectWhole w c (Constant v) = collectAtom c (Constant v)
+collectWhole w c (Variable i) = collectAtom c (Variable i)
+collectWhole w c (Unary k a t) =
+    when (hasArith (Unary k a t)) (λ _. nonlinear) (λ _. collectAtom c (Unary k a t))
+collectWhole w c (Binary k l r) =
+    when (hasArith (Binary k l r)) (λ _. nonlinear)
+    (λ _. when (eqb k 4) (λ _. collectAnd w c l r) (λ _. collectAtom c (Binary k l r)))
+
+-- how the descent goes on at a tree t with a variable that is no Add, under a coefficient c other than 0: it ends there,
+-- or goes to one child, or to one child and then to the And of it and a literal
+pub data WayOf (w : ℕ) (file marks : List ℕ) (k c : ℕ) (t : Tree) (b : Way) : Type 0 where
+  ends : b .found ≡ false → collectTerms w c t ≡ collectWhole w c t → WayOf w file marks k c t b
+  goes : b .found ≡ true → b .masked ≡ false → SideAt w file marks (b .child)
+      → sizeOf (sideTree file (b .child)) < sizeOf t
+      → collectTerms w c t ≡ collectTerms w (b .coeff) (sideTree file (b .child)) → WayOf w file marks k c t b
+  masks : b .found ≡ true → b .masked ≡ true → SideAt w file marks (b .child)
+      → sizeOf (sideTree file (b .child)) < sizeOf t → b .coeff ≡ c → hasVarDep (sideTree file (b .child)) ≡ true
+      → collectTerms w c t
+      ≡ joinCollected w (collectTerms w c (sideTree file (b .child)))
+      (collectLiteral w k c (sideTree file (b .child)) (b .child .value))
+      → b .child .value < 2 ^ w → WayOf w file marks k c t b

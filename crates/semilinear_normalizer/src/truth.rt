@@ -1,0 +1,74 @@
+// Truth tables on words: bit i of a word is a tree's bit at one place under assignment number i, in
+// which the j-th variable of a list has bit j of i. One walk gives all 64 rows.
+ghost use mathlib.Core.Path.{_≡_};
+ghost use mathlib.Core.Bool.{true};
+ghost use Rattle.record.specs.Span.{sized};
+ghost use Rattle.record.specs.Decode.{decode};
+ghost use Rattle.semilinear_normalizer.specs.Truth.{tableF};
+
+// Bit i is bit j of i.
+fn column(j: usize) -> u64 {
+    match j {
+        0 => 0xAAAA_AAAA_AAAA_AAAA,
+        1 => 0xCCCC_CCCC_CCCC_CCCC,
+        2 => 0xF0F0_F0F0_F0F0_F0F0,
+        3 => 0xFF00_FF00_FF00_FF00,
+        4 => 0xFFFF_0000_FFFF_0000,
+        5 => 0xFFFF_FFFF_0000_0000,
+        _ => 0,
+    }
+}
+
+// The rows of the variable v.
+fn variable_rows(vars: &[u64], v: u64) -> u64 {
+    let mut j = 0;
+    while j < vars.len() {
+        if vars[j] == v {
+            return column(j);
+        }
+        j += 1;
+    }
+    0
+}
+
+// The rows of a root without children.
+fn leaf_rows(t: &[u8], vars: &[u64], place: u32) -> u64 {
+    if record::kind(t) == 0 {
+        if arith::bit(record::literal(t), place) == 0 {
+            return 0;
+        }
+        return u64::MAX;
+    }
+    variable_rows(vars, record::var_index(t))
+}
+
+// And, Or and Xor of rows.
+fn join_rows(k: u8, x: u64, y: u64) -> u64 {
+    match k {
+        4 => x & y,
+        5 => x | y,
+        _ => x ^ y,
+    }
+}
+
+// The rows of the tree of t at a place, over the variables of a list.
+pub fn rows_at(t: &[u8], vars: &[u64], place: u32) -> u64
+    requires { ⌜ sized (now t) ≡ true ⌝ }
+    ensures { λ r. ⌜ r ≡ tableF 64 place (now (vars .entry)) (decode (now (t .entry))) ⌝ }
+{
+    let children = record::root_arity(t);
+    if children == 0 {
+        return leaf_rows(t, vars, place);
+    }
+    let k = record::kind(t);
+    if children == 1 {
+        let x = rows_at(record::body(t), vars, place);
+        if k == 7 {
+            return !x;
+        }
+        return x;
+    }
+    let x = rows_at(record::left(t), vars, place);
+    let y = rows_at(record::right(t), vars, place);
+    join_rows(k, x, y)
+}
