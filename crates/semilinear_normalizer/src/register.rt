@@ -154,7 +154,7 @@ pub fn register_all(
     index: &mut [u64],
     out: &mut [u8],
 ) -> Table
-    requires { ⌜ SpotsOk w (now file) (now spots) n × (5 * n ≤ length (now spots)) × (length (now file) + 32 ≤ length (now tree))
+    requires { ⌜ SpotsOk w (now file) (now spots) n × (5 * n ≤ length (now spots)) × (length (now file) + 32 ≤ length (now tree)) × (length (now file) ≤ 1048000)
         × (2816 ≤ length (now index)) × (now out ≡ padded 57360 []) ⌝ }
     ensures { λ r. ⌜ Registers w (registerAll w (spotsIn (now (file .entry)) (now (spots .entry)) n) [])
         (now (index .exit)) (now (out .exit)) r ⌝ }
