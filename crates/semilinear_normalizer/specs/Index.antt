@@ -3,19 +3,25 @@
 use mathlib.Core.Path.{_≡_}
 use Prim.Native.Nat.{ℕ, zero, suc, _+_, _*_, _≤_, _<_}
 use mathlib.Core.List.{List, [], _∷_, _++_}
-use mathlib.Core.Bool.{true, false}
+use mathlib.Core.Bool.{Bool, true, false, _&&_}
 use lib.ListN.{length, getD}
+use lib.Dec.{eqb}
+use Rattle.record.specs.Choice.{when}
+use Rattle.record.specs.Lists.{eqList}
+use Rattle.record.specs.Span.{sized}
 use Rattle.record.specs.Tree.{Tree}
 use Rattle.record.specs.Decode.{decode}
 use Rattle.expr.specs.Refusal.{treeRefusal}
+use Rattle.expr.specs.Vars.{sameVars}
 use Rattle.expr.specs.Hash.{structuralHash}
 use Rattle.semilinear.specs.declared.table.Table.{Table}
 use Rattle.semilinear.specs.Form.{Row, fitsTable}
 use Rattle.semilinear.specs.Table.{Holds, Clean}
+use Rattle.semilinear.specs.Loop.{firstIn}
 use Rattle.semilinear_normalizer.specs.Collect.{Emitted}
-use Rattle.semilinear_normalizer.specs.Register.{detectProvenance, registerAtom, registerAll}
-use Rattle.semilinear_normalizer.specs.Spots.{spanOf, spotsIn}
-use Rattle.semilinear_normalizer.specs.Key.{keyOf}
+use Rattle.semilinear_normalizer.specs.Register.{detectProvenance}
+use Rattle.semilinear_normalizer.specs.Spots.{spanOf}
+use Rattle.semilinear_normalizer.specs.Key.{notPure, keyOf}
 
 -- the words of an atom: its coefficient, its hash, where its tree starts and ends in the result slice, and its key
 unfoldable pub entryWords : ℕ → ℕ → ℕ → ℕ → List ℕ → List ℕ
@@ -67,3 +73,36 @@ pub record Registers (w : ℕ) (rows : List Row) (index out : List ℕ) (r : Tab
 -- the atom of the tree with the bytes t
 abbrev pub emitted : ℕ → List ℕ → Emitted
 emitted c t = record { coeff = c; tree = decode t }
+
+-- ---- the searches
+
+-- the last number below n that passes the test, or `none`
+unfoldable pub lastF : ℕ → (ℕ → Bool) → ℕ → ℕ
+lastF zero p none = none
+lastF (suc n) p none = when (p n) (λ _. n) (λ _. lastF n p none)
+
+-- atom j has this hash and the variables of the tree t
+unfoldable pub slotAt : ℕ → Tree → List ℕ → List ℕ → ℕ → Bool
+slotAt hash t index out j = eqb (getD index (11 * j + 1) 0) hash && sameVars (entryTree index out j) t
+
+unfoldable pub newestSlot : ℕ → ℕ → Tree → List ℕ → List ℕ → ℕ
+newestSlot n hash t index out = lastF n (slotAt hash t index out) n
+
+-- the newest of the first n atoms with this hash and these variables where it has the bytes t, else n
+unfoldable pub rowByHash : ℕ → ℕ → List ℕ → List ℕ → List ℕ → ℕ
+rowByHash n hash t index out =
+    when (eqList (entrySpan index out (newestSlot n hash (decode t) index out)) t)
+    (λ _. newestSlot n hash (decode t) index out) (λ _. n)
+
+-- the first of n atoms with this key, else n
+unfoldable pub rowByKey : ℕ → List ℕ → List ℕ → ℕ
+rowByKey n key index =
+    when (eqb (getD key 0 0) notPure) (λ _. n)
+    (λ _. firstIn (λ j. eqList (spanOf index (11 * j + 4) (11 * j + 11)) key) 0 n)
+
+-- what the searches ask of the words: the trees of the first n atoms stand in the slice
+pub record Searchable (index out : List ℕ) (n : ℕ) : Type 0 where
+  pub room : 11 * n ≤ length index
+  pub rising : (j : ℕ) → j < n → getD index (11 * j + 2) 0 ≤ getD index (11 * j + 3) 0
+  pub inside : (j : ℕ) → j < n → getD index (11 * j + 3) 0 ≤ length out
+  pub trees : (j : ℕ) → j < n → sized (entrySpan index out j) ≡ true
