@@ -1,11 +1,11 @@
 -- Laws of specs/Put.antt: puts that follow each other, and what is put behind the bytes of a slice that is zero there.
 use mathlib.Core.Path.{_≡_, refl, ap, sym, _∙_}
-use Prim.Native.Nat.{ℕ, zero, suc, _+_, _-_, _≤_}
+use Prim.Native.Nat.{ℕ, zero, suc, _+_, _-_, _≤_, _<_}
 use native.Mathlib.Omega.{arith}
 use native.Mathlib.Nat.{add-assoc, suc-sub-suc, sub-zero, zero-sub}
 use mathlib.Core.List.{List, [], _++_, append-assoc}
-use lib.ListN.{length, take, drop, replicate, length-append, length-take, length-drop, length-replicate}
-use lib.Seq.{paste, take-at, drop-at, drop-drop, take-length}
+use lib.ListN.{length, getD, take, drop, replicate, length-append, length-take, length-drop, length-replicate}
+use lib.Seq.{paste, take-at, drop-at, drop-drop, take-length, length-take-le, getD-take, getD-append-add}
 use Rattle.record.specs.Put.{put, padded}
 
 module _ (d : List ℕ) (at : ℕ) (s : List ℕ) (fits : at + length s ≤ length d) where
@@ -25,6 +25,23 @@ module _ (d : List ℕ) (at : ℕ) (s : List ℕ) (fits : at + length s ≤ leng
   pub drop-put : drop (at + length s) (put d at s) ≡ drop (at + length s) d
   unfolding put
   drop-put = drop-at (take at d ++ s) (drop (at + length s) d) (at + length s) head-length
+
+  -- an element before the piece, and one of the piece
+  pub getD-put-before : (i : ℕ) → i < at → getD (put d at s) i 0 ≡ getD d i 0
+  getD-put-before i h =
+      let n : length (take at d) ≡ at = length-take-le at d (omega arith) in
+      sym (getD-take (at + length s) (put d at s) i 0 (omega arith))
+      ∙ ap (λ (l : List ℕ). getD l i 0) take-put
+      ∙ sym (getD-take at (take at d ++ s) i 0 h)
+      ∙ ap (λ (l : List ℕ). getD l i 0) (take-at (take at d) s at n)
+      ∙ getD-take at d i 0 h
+
+  pub getD-put-in : (i : ℕ) → i < length s → getD (put d at s) (at + i) 0 ≡ getD s i 0
+  getD-put-in i h =
+      sym (getD-take (at + length s) (put d at s) (at + i) 0 (omega arith))
+      ∙ ap (λ (l : List ℕ). getD l (at + i) 0) take-put
+      ∙ ap (λ (n : ℕ). getD (take at d ++ s) (n + i) 0) (sym (length-take-le at d (omega arith)))
+      ∙ getD-append-add (take at d) s i 0
 
   drop-put-more : (n : ℕ) → drop (at + length s + n) (put d at s) ≡ drop (at + (length s + n)) d
   drop-put-more n =

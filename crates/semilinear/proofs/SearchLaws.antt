@@ -1,5 +1,5 @@
--- Laws of a choice by a test, and of the search `firstIn` (specs/Loop.antt): a number that it finds is not below its
--- start, and passes the test.
+-- Laws of a choice by a test, and of the search `firstIn` (specs/Loop.antt): how it goes on from a number, and that a
+-- number that it finds is not below its start, not past its bound, and passes the test.
 use mathlib.Core.Path.{_≡_, refl}
 use Prim.Native.Nat.{ℕ, zero, suc, _+_, _-_, _≤_, _<_}
 use native.Mathlib.Omega.{arith}
@@ -28,10 +28,34 @@ module _ (p : ℕ → Bool) where
       when-both (λ (k : ℕ). k < a + suc n → p k ≡ true) (p a) a (firstF n p (a + 1)) (λ e _. e)
       (λ _ u. first-f-true n (a + 1) (omega (arith, u))) l
 
+  first-f-le : (n a : ℕ) → firstF n p a ≤ a + n
+  unfolding firstF
+  first-f-le zero a = omega arith
+  first-f-le (suc n) a =
+      when-both (λ (k : ℕ). k ≤ a + suc n) (p a) a (firstF n p (a + 1)) (λ _. omega arith)
+      (λ _. omega (arith, first-f-le n (a + 1)))
+
   pub first-from : (a b : ℕ) → a ≤ firstIn p a b
   unfolding firstIn
   first-from a b = first-f-from (b - a) a
 
+  pub first-le : (a b : ℕ) → a ≤ b → firstIn p a b ≤ b
+  unfolding firstIn
+  first-le a b h = omega (arith, first-f-le (b - a) a)
+
   pub first-true : (a b : ℕ) → firstIn p a b < b → p (firstIn p a b) ≡ true
   unfolding firstIn
   first-true a b l = first-f-true (b - a) a (omega (arith, first-f-from (b - a) a))
+
+  -- at a number that fails it goes on, at one that passes it ends, and so it does at the bound
+  pub first-next : (a b : ℕ) → a < b → p a ≡ false → firstIn p a b ≡ firstIn p (a + 1) b
+  unfolding firstF firstIn
+  first-next a b l e = let m : b - a ≡ suc (b - (a + 1)) = omega arith in rw m (simp e)
+
+  pub first-here : (a b : ℕ) → a < b → p a ≡ true → firstIn p a b ≡ a
+  unfolding firstF firstIn
+  first-here a b l e = let m : b - a ≡ suc (b - (a + 1)) = omega arith in rw m (simp e)
+
+  pub first-end : (a b : ℕ) → b ≤ a → firstIn p a b ≡ a
+  unfolding firstF firstIn
+  first-end a b l = let m : b - a ≡ 0 = omega arith in rw m refl

@@ -46,7 +46,7 @@ module _ (p : ℕ) (vs : List ℕ) (t : Tree) where
   row-lt : (i : ℕ) → bitOf p (rowBits 0 vs i) t < 2
   row-lt i = bit-of-lt p (rowBits 0 vs i) t (row-bits-lt 0 vs i)
 
-  tableF-lt : (m : ℕ) → tableF m p vs t < 2 ^ m
+  pub tableF-lt : (m : ℕ) → tableF m p vs t < 2 ^ m
   unfolding tableF
   tableF-lt zero = omega arith
   tableF-lt (suc m) = go (bitOf p (rowBits 0 vs m) t) (row-lt m) (tableF-lt m)
@@ -56,7 +56,7 @@ module _ (p : ℕ) (vs : List ℕ) (t : Tree) where
       go (suc zero) h l = omega arith
       go (suc (suc b)) h l = absurd (omega arith)
 
-  tableF-bit : (m i : ℕ) → i < m → bitAt (tableF m p vs t) i ≡ bitOf p (rowBits 0 vs i) t
+  pub tableF-bit : (m i : ℕ) → i < m → bitAt (tableF m p vs t) i ≡ bitOf p (rowBits 0 vs i) t
   unfolding tableF
   tableF-bit zero i h = absurd (omega arith)
   tableF-bit (suc m) i h = ap (λ (x : ℕ). bitAt x i) reordered ∙ go (ℕ-discrete i m) (tableF-bit m i)

@@ -4,22 +4,24 @@ use mathlib.Core.Path.{_≡_}
 use Prim.Native.Nat.{ℕ, zero, suc, _+_, _*_, _≤_, _<_}
 use mathlib.Core.List.{List, [], _∷_, _++_}
 use mathlib.Core.Bool.{Bool, true, false, _&&_}
-use lib.ListN.{length, getD}
+use lib.ListN.{length, getD, take}
 use lib.Dec.{eqb}
 use Rattle.record.specs.Choice.{when}
 use Rattle.record.specs.Lists.{eqList}
 use Rattle.record.specs.Span.{sized}
 use Rattle.record.specs.Tree.{Tree}
 use Rattle.record.specs.Decode.{decode}
+use Rattle.record.specs.Put.{put}
 use Rattle.expr.specs.Refusal.{treeRefusal}
 use Rattle.expr.specs.Vars.{sameVars}
 use Rattle.expr.specs.Hash.{structuralHash}
 use Rattle.semilinear.specs.declared.table.Table.{Table}
-use Rattle.semilinear.specs.Form.{Row, fitsTable}
+use Rattle.semilinear.specs.declared.compact.Written.{Written}
+use Rattle.semilinear.specs.Form.{Row, fitsTable, termCount, termsBytes}
 use Rattle.semilinear.specs.Table.{Holds, Clean}
 use Rattle.semilinear.specs.Loop.{firstIn}
 use Rattle.semilinear_normalizer.specs.Collect.{Emitted}
-use Rattle.semilinear_normalizer.specs.Register.{detectProvenance}
+use Rattle.semilinear_normalizer.specs.Register.{familyOf, detectProvenance}
 use Rattle.semilinear_normalizer.specs.Spots.{spanOf}
 use Rattle.semilinear_normalizer.specs.Key.{notPure, keyOf}
 
@@ -74,6 +76,23 @@ pub record Registers (w : ℕ) (rows : List Row) (index out : List ℕ) (r : Tab
 abbrev pub emitted : ℕ → List ℕ → Emitted
 emitted c t = record { coeff = c; tree = decode t }
 
+-- the row of an atom that shares none
+abbrev pub rowOf : Emitted → Row
+rowOf e = record { provenance = detectProvenance (e .tree); tree = e .tree; coeff = e .coeff }
+
+-- the first r bytes of a slice are an accepted tree of width w: the tree t
+pub record Built (w : ℕ) (t : Tree) (before after : List ℕ) (r : ℕ) : Type 0 where
+  pub inside : r ≤ length after
+  pub same-length : length after ≡ length before
+  pub accepted : treeRefusal w (take r after) ≡ 0
+  pub tree-is : decode (take r after) ≡ t
+
+-- the family of a root of kind k over two children of these families
+unfoldable pub joinProvenance : ℕ → ℕ → ℕ → ℕ
+joinProvenance k x y =
+    when (eqb k 4) (λ _. familyOf 0 x y)
+    (λ _. when (eqb k 5) (λ _. familyOf 1 x y) (λ _. when (eqb k 6) (λ _. familyOf 2 x y) (λ _. 4)))
+
 -- ---- the searches
 
 -- the last number below n that passes the test, or `none`
@@ -106,3 +125,11 @@ pub record Searchable (index out : List ℕ) (n : ℕ) : Type 0 where
   pub rising : (j : ℕ) → j < n → getD index (11 * j + 2) 0 ≤ getD index (11 * j + 3) 0
   pub inside : (j : ℕ) → j < n → getD index (11 * j + 3) 0 ≤ length out
   pub trees : (j : ℕ) → j < n → sized (entrySpan index out j) ≡ true
+
+-- ---- the terms
+
+-- the terms of the rows are put into the bytes from `to` on; r says where they end and how many there are
+pub record TermsPut (w to : ℕ) (rows : List Row) (before after : List ℕ) (r : Written) : Type 0 where
+  pub place : r .used ≡ to + length (termsBytes w 0 rows)
+  pub count : r .terms ≡ termCount rows
+  pub written : after ≡ put before to (termsBytes w 0 rows)

@@ -9,6 +9,8 @@ use lib.Dec.{eqb}
 use Rattle.record.specs.Choice.{when}
 use Rattle.record.specs.Tree.{Tree, sizeOf}
 use Rattle.record.specs.Tree.Tree.{Constant, Variable, Unary, Binary}
+use Rattle.record.specs.Fields.{size}
+use Rattle.record.specs.Span.{cut, left}
 use Rattle.record.specs.Decode.{decode}
 use Rattle.record.specs.Put.{put}
 use Rattle.arith.specs.Width.{modMul}
@@ -138,6 +140,29 @@ rightOf (Constant v) = Constant v
 rightOf (Variable i) = Variable i
 rightOf (Unary k a t) = Unary k a t
 rightOf (Binary k l r) = r
+
+-- where the children of a root with two stand in the file, and their marks
+unfoldable pub leftSide : List ℕ → Spot → Side
+leftSide file x =
+    record {
+      found = true;
+      start = x .start;
+      end = x .start + cut (spanOf file (x .start) (x .end));
+      from = 0;
+      to = size (left (spanOf file (x .start) (x .end)));
+      value = 0;
+    }
+
+unfoldable pub rightSide : List ℕ → List ℕ → Spot → Side
+rightSide file marks x =
+    record {
+      found = true;
+      start = x .start + cut (spanOf file (x .start) (x .end));
+      end = x .end - 16;
+      from = size (left (spanOf file (x .start) (x .end)));
+      to = length marks - 1;
+      value = 0;
+    }
 
 abbrev pub IsAnd : Tree → Type 0
 IsAnd t = t ≡ Binary 4 (leftOf t) (rightOf t)

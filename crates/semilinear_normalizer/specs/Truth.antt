@@ -29,6 +29,11 @@ bitOf p b (Variable i) = b i
 bitOf p b (Unary k a t) = when (eqb k 7) (λ _. 1 - bitOf p b t) (λ _. bitOf p b t)
 bitOf p b (Binary k l r) = bitBinary k (bitOf p b l) (bitOf p b r)
 
+-- the place of the first v in the list, its length where there is none
+unfoldable pub placeOf : ℕ → List ℕ → ℕ
+placeOf v [] = 0
+placeOf v (x ∷ l) = when (eqb x v) (λ _. 0) (λ _. placeOf v l + 1)
+
 -- the assignment number i: the j-th variable of the list, from `place` on, has bit j of i; the others have 0
 unfoldable pub rowBits : ℕ → List ℕ → ℕ → ℕ → ℕ
 rowBits place [] i v = 0

@@ -5,17 +5,18 @@ use crate::marks;
 ghost use mathlib.Core.Path.{_≡_};
 ghost use mathlib.Core.Bool.{true, false};
 ghost use mathlib.Core.List.{List, [], _∷_};
-ghost use Prim.Native.Nat.{ℕ, _+_, _*_, _^_, _<_, _≤_};
+ghost use Prim.Native.Nat.{ℕ, _+_, _-_, _*_, _^_, _<_, _≤_};
 ghost use lib.ListN.{length};
 ghost use lib.Dec.{eqb};
 ghost use Rattle.arith.specs.Width.{modAdd, modMul, modNeg};
 ghost use Rattle.record.specs.Fields.{kind};
+ghost use Rattle.record.specs.Span.{left};
 ghost use Rattle.record.specs.Tree.{sizeOf};
 ghost use Rattle.record.specs.Tree.Tree.{Constant};
 ghost use Rattle.record.specs.Put.{put};
 ghost use Rattle.expr.specs.Utils.{hasVarDep, hasArith};
 ghost use Rattle.semilinear_normalizer.specs.Collect.{collectAnd, andCoeff, collectTerms};
-ghost use Rattle.semilinear_normalizer.specs.Spots.{spanOf, Accepted, Collects, Ready, treeAt, AtSpot, SideAt, sideTree, isBinary, leftOf, rightOf, IsAnd, Pushed, SideOf, collectWhole, collectLiteral, WayOf};
+ghost use Rattle.semilinear_normalizer.specs.Spots.{spanOf, Accepted, Collects, Ready, treeAt, AtSpot, SideAt, sideTree, isBinary, leftOf, rightOf, IsAnd, Pushed, leftSide, rightSide, SideOf, collectWhole, collectLiteral, WayOf};
 
 // A coefficient, and the bytes of the file that hold a subtree.
 pub struct Spot {
@@ -55,8 +56,71 @@ pub struct Way {
 // subtree and a literal, 1 and the literal.
 pub const SPOT_WORDS: usize = 5;
 
+// The bytes of the file from start to end.
+fn span_of(file: &[u8], start: usize, end: usize) -> &[u8]
+    requires { ⌜ (start ≤ end) × (end ≤ length (now file)) ⌝ }
+    ensures { λ t. ⌜ now t ≡ spanOf (now (file .entry)) start end ⌝ }
+{
+    &file[start..end]
+}
+
+// The left child of a root with two children, and its marks.
+fn left_side(x: Spot, file: &[u8]) -> Side
+    requires { ⌜ (x .start ≤ x .end) × (x .end ≤ length (now file))
+        × (16 ≤ length (left (spanOf (now file) (x .start) (x .end)))) ⌝ }
+    ensures { λ r. ⌜ r ≡ leftSide (now (file .entry)) x ⌝ }
+{
+    let t = span_of(file, x.start, x.end);
+    Side {
+        found: true,
+        start: x.start,
+        end: x.start + record::cut(t),
+        from: 0,
+        to: record::size(record::left(t)) as usize,
+        value: 0,
+    }
+}
+
+// The right child, and its marks.
+fn right_side(x: Spot, file: &[u8], marks: &[u8]) -> Side
+    requires { ⌜ (x .start ≤ x .end) × (x .end ≤ length (now file)) × (1 ≤ length (now marks))
+        × (16 ≤ length (left (spanOf (now file) (x .start) (x .end)))) × (16 ≤ x .end) ⌝ }
+    ensures { λ r. ⌜ r ≡ rightSide (now (file .entry)) (now (marks .entry)) x ⌝ }
+{
+    let t = span_of(file, x.start, x.end);
+    Side {
+        found: true,
+        start: x.start + record::cut(t),
+        end: x.end - 16,
+        from: record::size(record::left(t)) as usize,
+        to: marks.len() - 1,
+        value: 0,
+    }
+}
+
+// A side under a coefficient.
+fn side_spot(coeff: u64, side: Side) -> Spot
+    ensures { λ x. ⌜ x ≡ record { coeff = coeff; start = side .start; end = side .end } ⌝ }
+{
+    Spot {
+        coeff: coeff,
+        start: side.start,
+        end: side.end,
+    }
+}
+
+// The marks of a side.
+fn side_marks(marks: &[u8], side: Side) -> &[u8]
+    requires { ⌜ (side .from ≤ side .to) × (side .to ≤ length (now marks)) ⌝ }
+    ensures { λ m. ⌜ now m ≡ spanOf (now (marks .entry)) (side .from) (side .to) ⌝ }
+{
+    span_of(marks, side.from, side.to)
+}
+
 // No side without a variable.
-fn no_side() -> Side {
+fn no_side() -> Side
+    ensures { λ b. ⌜ b .found ≡ false ⌝ }
+{
     Side {
         found: false,
         start: 0,
@@ -69,9 +133,10 @@ fn no_side() -> Side {
 
 // The sides of a root with two children, one of them with a variable.
 fn side_of(x: Spot, file: &[u8], marks: &[u8], w: u32) -> Side
-    requires { ⌜ AtSpot w (now file) (now marks) x × (w ≤ 64) × (isBinary (treeAt (now file) x) ≡ true) ⌝ }
-    ensures { λ b. ⌜ SideOf w (now (file .entry)) (now (marks .entry)) (leftOf (treeAt (now (file .entry)) x))
-        (rightOf (treeAt (now (file .entry)) x)) b ⌝ }
+    requires { ⌜ AtSpot w (now file) (now marks) x × (w ≤ 64)
+        × (isBinary (treeAt (now file) x) ≡ true) ⌝ }
+    ensures { λ b. ⌜ SideOf w (now (file .entry)) (now (marks .entry))
+        (leftOf (treeAt (now (file .entry)) x)) (rightOf (treeAt (now (file .entry)) x)) b ⌝ }
 {
     let start = x.start;
     let end = x.end;
@@ -81,10 +146,11 @@ fn side_of(x: Spot, file: &[u8], marks: &[u8], w: u32) -> Side
     let last = marks.len() - 1;
     if !marks::has_variable(marks[cut - 1]) {
         let value = semilinear::decompose::constant_value(record::left(t), w);
+        let stop = end - 16;
         return Side {
             found: true,
             start: middle,
-            end: end - 16,
+            end: stop,
             from: cut,
             to: last,
             value: value,
@@ -105,7 +171,9 @@ fn side_of(x: Spot, file: &[u8], marks: &[u8], w: u32) -> Side
 }
 
 // No way on.
-fn nowhere() -> Way {
+fn nowhere() -> Way
+    ensures { λ b. ⌜ b .found ≡ false ⌝ }
+{
     Way {
         found: false,
         masked: false,
@@ -114,17 +182,31 @@ fn nowhere() -> Way {
     }
 }
 
-// The way on from a root with one child.
-fn way_one(x: Spot, k: u8, marks: &[u8], w: u32) -> Way {
-    if k != 8 {
-        return nowhere();
-    }
+// The way on from a Neg: to its child.
+fn way_neg(x: Spot, marks: &[u8], w: u32) -> Way
+    requires { ⌜ (16 ≤ x .end) × (1 ≤ length (now marks)) ⌝ }
+    ensures { λ b. ⌜ b ≡ record {
+      found = true;
+      masked = false;
+      coeff = modNeg (x .coeff) w;
+      child = record {
+        found = true;
+        start = x .start;
+        end = x .end - 16;
+        from = 0;
+        to = length (now (marks .entry)) - 1;
+        value = 0;
+      };
+    } ⌝ }
+{
+    let stop = x.end - 16;
+    let last = marks.len() - 1;
     let child = Side {
         found: true,
         start: x.start,
-        end: x.end - 16,
+        end: stop,
         from: 0,
-        to: marks.len() - 1,
+        to: last,
         value: 0,
     };
     Way {
@@ -137,7 +219,14 @@ fn way_one(x: Spot, k: u8, marks: &[u8], w: u32) -> Way {
 
 // The way on from a root with two children that is no Add: a product by a constant, or an Or or
 // Xor with one.
-fn way_two(x: Spot, k: u8, file: &[u8], marks: &[u8], w: u32) -> Way {
+fn way_two(x: Spot, k: u8, file: &[u8], marks: &[u8], w: u32) -> Way
+    requires { ⌜ AtSpot w (now file) (now marks) x × (w ≤ 64) × (eqb (x .coeff) 0 ≡ false)
+        × (hasVarDep (treeAt (now file) x) ≡ true)
+        × (k ≡ kind (spanOf (now file) (x .start) (x .end))) × (eqb k 2 ≡ false)
+        × (isBinary (treeAt (now file) x) ≡ true) ⌝ }
+    ensures { λ b. ⌜ WayOf w (now (file .entry)) (now (marks .entry)) k (x .coeff)
+        (treeAt (now (file .entry)) x) b ⌝ }
+{
     if k == 3 {
         let side = side_of(x, file, marks, w);
         return Way {
@@ -163,23 +252,24 @@ fn way_two(x: Spot, k: u8, file: &[u8], marks: &[u8], w: u32) -> Way {
     }
 }
 
-// The way on from a root with children that is no Add.
+// The way on from a root with a variable that is no Add.
 fn way_on(x: Spot, file: &[u8], marks: &[u8], w: u32) -> Way
     requires { ⌜ AtSpot w (now file) (now marks) x × (w ≤ 64) × (eqb (x .coeff) 0 ≡ false)
-        × (hasVarDep (treeAt (now file) x) ≡ true) × (eqb (kind (spanOf (now file) (x .start) (x .end))) 2 ≡ false) ⌝ }
-    ensures { λ b. ⌜ WayOf w (now (file .entry)) (now (marks .entry)) (kind (spanOf (now (file .entry)) (x .start) (x .end)))
-        (x .coeff) (treeAt (now (file .entry)) x) b ⌝ }
+        × (hasVarDep (treeAt (now file) x) ≡ true)
+        × (eqb (kind (spanOf (now file) (x .start) (x .end))) 2 ≡ false) ⌝ }
+    ensures { λ b. ⌜ WayOf w (now (file .entry)) (now (marks .entry))
+        (kind (spanOf (now (file .entry)) (x .start) (x .end))) (x .coeff)
+        (treeAt (now (file .entry)) x) b ⌝ }
 {
     let start = x.start;
     let end = x.end;
     let t = &file[start..end];
     let k = record::kind(t);
-    let children = record::root_arity(t);
-    if children == 0 {
-        return nowhere();
+    if k == 8 {
+        return way_neg(x, marks, w);
     }
-    if children == 1 {
-        return way_one(x, k, marks, w);
+    if record::root_arity(t) != 2 {
+        return nowhere();
     }
     way_two(x, k, file, marks, w)
 }
@@ -196,7 +286,9 @@ fn and_coeff(k: u8, c: u64, w: u32) -> u64
 
 impl Descent {
     // Nothing yet.
-    pub fn start() -> Self {
+    pub fn start() -> Self
+        ensures { λ r. ⌜ r ≡ record { linear = true; constant = 0; count = 0 } ⌝ }
+    {
         Self {
             linear: true,
             constant: 0,
@@ -204,6 +296,7 @@ impl Descent {
         }
     }
 
+    // What is not linear stays so.
     fn not_linear(mut self) -> Self
         ensures { λ r. ⌜ r ≡ record { linear = false; constant = self .constant; count = self .count } ⌝ }
     {
@@ -232,7 +325,7 @@ impl Descent {
     {
         let count = self.count;
         let words = [x.coeff, x.start as u64, x.end as u64, masked, literal];
-        record::write::put_words(spots, count * SPOT_WORDS, &words);
+        record::write::put_words(spots, SPOT_WORDS * count, &words);
         self.count = count + 1;
         self
     }
@@ -272,7 +365,7 @@ impl Descent {
         }
         let start = side.start;
         let end = side.end;
-        if record::kind(&file[start..end]) != 7 {
+        if record::kind(span_of(file, start, end)) != 7 {
             return self.push_spot(x, 0, 0, spots);
         }
         self.collect_not(x.coeff, start, end - 16, side.value, w, spots)
@@ -363,44 +456,30 @@ impl Descent {
         }
         let start = x.start;
         let end = x.end;
-        let t = &file[start..end];
+        let t = span_of(file, start, end);
         let last = marks.len() - 1;
         if !marks::has_variable(marks[last]) {
             return self.add_constant(coeff, semilinear::decompose::constant_value(t, w), w);
         }
         let k = record::kind(t);
         if k == 2 {
-            let middle = start + record::cut(t);
-            let cut = record::size(record::left(t)) as usize;
-            let left = Spot {
-                coeff: coeff,
-                start: start,
-                end: middle,
-            };
-            let first = self.collect_terms(left, file, &marks[..cut], w, spots);
+            let l = left_side(x, file);
+            let left = side_spot(coeff, l);
+            let first = self.collect_terms(left, file, side_marks(marks, l), w, spots);
             if !first.linear {
                 return first;
             }
-            let right = Spot {
-                coeff: coeff,
-                start: middle,
-                end: end - 16,
-            };
-            return first.collect_terms(right, file, &marks[cut..last], w, spots);
+            let r = right_side(x, file, marks);
+            let right = side_spot(coeff, r);
+            return first.collect_terms(right, file, side_marks(marks, r), w, spots);
         }
         let way = way_on(x, file, marks, w);
         if !way.found {
             return self.collect_whole(x, file, marks, w, spots);
         }
         let side = way.child;
-        let from = side.from;
-        let to = side.to;
-        let child = Spot {
-            coeff: way.coeff,
-            start: side.start,
-            end: side.end,
-        };
-        let under = self.collect_terms(child, file, &marks[from..to], w, spots);
+        let child = side_spot(way.coeff, side);
+        let under = self.collect_terms(child, file, side_marks(marks, side), w, spots);
         if !way.masked {
             return under;
         }

@@ -1,6 +1,6 @@
 // The index of the atom table while normalising: what registering asks of each atom, in lent words.
-// An entry is the coefficient, the hash, where the tree starts and ends in the result slice, and the
-// key by which pure trees are shared: truth table and variables.
+// An entry is the coefficient, the hash, where the tree starts and ends in the result slice, and
+// the key by which pure trees are shared: truth table and variables.
 use crate::key;
 ghost use mathlib.Core.Path.{_≡_};
 ghost use mathlib.Core.Bool.{true};
@@ -10,16 +10,18 @@ ghost use Rattle.record.specs.Lists.{eqList};
 ghost use Rattle.record.specs.Span.{sized};
 ghost use Rattle.record.specs.Decode.{decode};
 ghost use Rattle.semilinear_normalizer.specs.Spots.{spanOf};
-ghost use Rattle.semilinear_normalizer.specs.Index.{slotAt, newestSlot, rowByHash, rowByKey, Searchable};
+ghost use Rattle.semilinear_normalizer.specs.Index.{slotAt, newestSlot, Searchable};
+ghost use Rattle.semilinear_normalizer.specs.Index.{rowByHash, rowByKey};
 
 pub const ENTRY_WORDS: usize = 11;
 
 // Whether atom j has this hash and the variables of t.
 fn same_slot(j: usize, hash: u64, t: &[u8], index: &[u64], out: &[u8]) -> bool
     requires { ⌜ (sized (now t) ≡ true) × Searchable (now index) (now out) (j + 1) ⌝ }
-    ensures { λ r. ⌜ r ≡ slotAt hash (decode (now (t .entry))) (now (index .entry)) (now (out .entry)) j ⌝ }
+    ensures { λ r. ⌜ r ≡ slotAt hash (decode (now (t .entry))) (now (index .entry))
+        (now (out .entry)) j ⌝ }
 {
-    let at = j * ENTRY_WORDS;
+    let at = ENTRY_WORDS * j;
     if index[at + 1] != hash {
         return false;
     }
@@ -35,7 +37,8 @@ fn same_slot(j: usize, hash: u64, t: &[u8], index: &[u64], out: &[u8]) -> bool
 // The newest of the first n atoms with this hash and the variables of t, or n.
 fn newest_slot(n: usize, hash: u64, t: &[u8], index: &[u64], out: &[u8]) -> usize
     requires { ⌜ (sized (now t) ≡ true) × Searchable (now index) (now out) n ⌝ }
-    ensures { λ r. ⌜ r ≡ newestSlot n hash (decode (now (t .entry))) (now (index .entry)) (now (out .entry)) ⌝ }
+    ensures { λ r. ⌜ r ≡ newestSlot n hash (decode (now (t .entry))) (now (index .entry))
+        (now (out .entry)) ⌝ }
 {
     let mut j = n;
     while 0 < j {
@@ -50,13 +53,14 @@ fn newest_slot(n: usize, hash: u64, t: &[u8], index: &[u64], out: &[u8]) -> usiz
 // The atom of the first n that has the tree t by its hash, or n.
 pub fn row_by_hash(n: usize, hash: u64, t: &[u8], index: &[u64], out: &[u8]) -> usize
     requires { ⌜ (sized (now t) ≡ true) × Searchable (now index) (now out) n ⌝ }
-    ensures { λ r. ⌜ r ≡ rowByHash n hash (now (t .entry)) (now (index .entry)) (now (out .entry)) ⌝ }
+    ensures { λ r. ⌜ r ≡ rowByHash n hash (now (t .entry)) (now (index .entry))
+        (now (out .entry)) ⌝ }
 {
     let j = newest_slot(n, hash, t, index, out);
     if j == n {
         return n;
     }
-    let at = j * ENTRY_WORDS;
+    let at = ENTRY_WORDS * j;
     let start = index[at + 2] as usize;
     let end = index[at + 3] as usize;
     if record::same_bytes(&out[start..end], t) {
@@ -66,11 +70,12 @@ pub fn row_by_hash(n: usize, hash: u64, t: &[u8], index: &[u64], out: &[u8]) -> 
 }
 
 // Whether atom j has this key.
-fn same_key(j: usize, key: &[u64; 7], index: &[u64]) -> bool
-    requires { ⌜ 11 * (j + 1) ≤ length (now index) ⌝ }
-    ensures { λ r. ⌜ r ≡ eqList (spanOf (now (index .entry)) (11 * j + 4) (11 * j + 11)) (now (key .entry)) ⌝ }
+fn same_key(j: usize, key: &[u64], index: &[u64]) -> bool
+    requires { ⌜ (length (now key) ≡ 7) × (11 * (j + 1) ≤ length (now index)) ⌝ }
+    ensures { λ r. ⌜ r ≡ eqList (spanOf (now (index .entry)) (11 * j + 4) (11 * j + 11))
+        (now (key .entry)) ⌝ }
 {
-    let at = j * ENTRY_WORDS + 4;
+    let at = ENTRY_WORDS * j + 4;
     let mut i = 0;
     while i < 7 {
         if index[at + i] != key[i] {

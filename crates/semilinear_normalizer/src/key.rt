@@ -1,5 +1,5 @@
-// The key by which a tree without literal and Shr, with at most five variables, is shared: its truth
-// table and its variables.
+// The key by which a tree without literal and Shr, with at most five variables, is shared: its
+// truth table and its variables.
 use crate::truth;
 ghost use mathlib.Core.Path.{_≡_};
 ghost use mathlib.Core.Bool.{true};
@@ -10,43 +10,26 @@ ghost use Rattle.semilinear_normalizer.specs.Key.{keyOf};
 // The first word of the key of a tree that is not shared by its table: no table has this number.
 pub const NOT_PURE: u64 = u64::MAX;
 
-// How many of the variables are there.
-fn var_count(vars: &[u64]) -> u32 {
-    let mut n = 0;
-    let mut i = 0;
-    while i < vars.len() {
-        if vars[i] != expr::vars::NO_VAR {
-            n += 1;
-        }
-        i += 1;
-    }
-    n
-}
-
-// Whether the tree of t has no literal and no Shr.
-fn no_literal(t: &[u8]) -> bool {
-    let found = expr::utils::traits_of(t);
-    if found.literal {
-        return false;
-    }
-    !found.shr
-}
-
 // The key of the tree of t.
 pub fn key_of(t: &[u8]) -> [u64; 7]
     requires { ⌜ sized (now t) ≡ true ⌝ }
     ensures { λ r. ⌜ r ≡ keyOf (decode (now (t .entry))) ⌝ }
 {
     let none = [NOT_PURE, 0, 0, 0, 0, 0, 0];
-    if !no_literal(t) {
+    let found = expr::utils::traits_of(t);
+    if found.literal {
+        return none;
+    }
+    if found.shr {
         return none;
     }
     let mut vars = [0u64; 6];
     expr::vars::collect_vars(t, &mut vars);
-    if vars[5] != expr::vars::NO_VAR {
+    let n = truth::place_of(expr::vars::NO_VAR, &vars);
+    if 5 < n {
         return none;
     }
-    let rows = 1 << var_count(&vars);
+    let rows = 1 << n;
     let table = truth::rows_at(t, &vars, 0) & arith::bitmask(rows);
     [table, vars[0], vars[1], vars[2], vars[3], vars[4], vars[5]]
 }

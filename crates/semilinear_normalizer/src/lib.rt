@@ -1,6 +1,7 @@
 // Normalising an expression to its semilinear form: the descent collects a constant and weighted
 // atoms, and the atoms make the table.
 pub mod collect;
+pub mod form;
 pub mod index;
 pub mod key;
 pub mod marks;
@@ -9,58 +10,20 @@ pub mod truth;
 
 use crate::collect::Descent;
 use crate::collect::Spot;
-use semilinear::compact::Written;
 use semilinear::outcome::Answer;
 use semilinear::outcome::{self};
+ghost use mathlib.Core.Path.{_≡_};
+ghost use Prim.Native.Nat.{ℕ, _+_, _*_, _<_, _≤_};
+ghost use lib.ListN.{length};
+ghost use Rattle.record.specs.Fields.{size};
+ghost use Rattle.record.specs.Decode.{decode};
+ghost use Rattle.expr.specs.Refusal.{treeRefusal};
+ghost use Rattle.semilinear.specs.Answers.{GivesForm};
+ghost use Rattle.semilinear_normalizer.specs.Normalize.{normalizeTree, normalizeToSemilinear};
 
-// The terms of the first n atoms are put into out from `to` on.
-fn put_terms(n: usize, index: &[u64], w: u8, out: &mut [u8], to: usize) -> Written {
-    let mut at = to;
-    let mut terms: u64 = 0;
-    let mut i = 0;
-    while i < n {
-        let c = index[i * index::ENTRY_WORDS];
-        if c != 0 {
-            semilinear::table::put_term(out, at, i as u64, c, w);
-            at += 16;
-            terms += 1;
-        }
-        i += 1;
-    }
-    Written {
-        used: at,
-        terms: terms,
-    }
-}
-
-// The form of what was collected, written to a slice of 57,360 bytes; or 9.
-fn write_form(
-    found: Descent,
-    file: &[u8],
-    w: u8,
-    spots: &[u64],
-    tree: &mut [u8],
-    index: &mut [u64],
-    out: &mut [u8],
-) -> Answer {
-    record::write::clear(out);
-    let table = register::register_all(found.count, spots, file, w, tree, index, out);
-    if table.full {
-        return outcome::refuse(out, 9);
-    }
-    let n = table.count as usize;
-    let written = put_terms(n, index, w, out, table.at);
-    let used = written.used;
-    semilinear::table::put_sum(out, used, found.constant, w);
-    Answer {
-        refusal: 0,
-        used: (used + 16) as u64,
-        terms: written.terms,
-        flag: false,
-    }
-}
-
-// Normalises the accepted expression t; everything that it needs room for is lent.
+// The form of the accepted expression t, written to a slice of 57,360 bytes; or 7, 8 or 9. All
+// room to work in is lent: a mark and five words for each record, a tree's bytes, and eleven words
+// for each atom.
 pub fn normalize_tree(
     t: &[u8],
     w: u8,
@@ -69,7 +32,12 @@ pub fn normalize_tree(
     tree: &mut [u8],
     index: &mut [u64],
     out: &mut [u8],
-) -> Answer {
+) -> Answer
+    requires { ⌜ (treeRefusal w (now t) ≡ 0) × (size (now t) ≤ length (now marks))
+        × (5 * size (now t) ≤ length (now spots)) × (length (now t) + 32 ≤ length (now tree))
+        × (length (now t) ≤ 1048000) × (2816 ≤ length (now index)) × (length (now out) ≡ 57360) ⌝ }
+    ensures { λ r. ⌜ GivesForm (normalizeTree w (decode (now (t .entry)))) 57360 r (now (out .exit)) ⌝ }
+{
     let traits = marks::mark_traits(t, marks, 0);
     if traits.refused {
         return outcome::refuse(out, 7);
@@ -84,11 +52,15 @@ pub fn normalize_tree(
     if !found.linear {
         return outcome::refuse(out, 8);
     }
-    write_form(found, t, w, spots, tree, index, out)
+    form::write_form(found, t, w, spots, tree, index, out)
 }
 
-// The semilinear form of the expression t, written to out; or a refusal: 1 to 9.
-pub fn normalize_to_semilinear(t: &[u8], out: &mut [u8]) -> Answer {
+// The semilinear form of the expression t, written to out; or a refusal: 1 to 9. Corresponds to
+// `normalize_to_semilinear`.
+pub fn normalize_to_semilinear(t: &[u8], out: &mut [u8]) -> Answer
+    ensures { λ r. ⌜ GivesForm (normalizeToSemilinear (now (t .entry)) (length (now (out .entry))))
+        (length (now (out .entry))) r (now (out .exit)) ⌝ }
+{
     let number = expr::refusal::expr_refusal(t);
     if number == 1 {
         return outcome::refuse(out, 1);

@@ -3,11 +3,13 @@
 use expr::utils::Traits;
 ghost use mathlib.Core.Path.{_≡_};
 ghost use mathlib.Core.Bool.{true};
+ghost use mathlib.Core.List.{[], _∷_};
 ghost use Prim.Native.Nat.{ℕ, _+_, _<_, _≤_};
 ghost use lib.ListN.{length};
 ghost use Rattle.record.specs.Span.{sized};
 ghost use Rattle.record.specs.Decode.{decode};
 ghost use Rattle.record.specs.Fields.{size};
+ghost use Rattle.record.specs.Put.{put};
 ghost use Rattle.semilinear_normalizer.specs.Marks.{markNumber, markVariable, markArith, Marked};
 
 // 1 where a tree has a variable, and 2 more where it has an Add, a Mul or a Neg.
@@ -40,29 +42,37 @@ pub fn has_arith(m: u8) -> bool
     1 < m
 }
 
+// Puts the mark of what a tree holds at i.
+fn put_mark(found: Traits, marks: &mut [u8], i: usize) -> Traits
+    requires { ⌜ i < length (now marks) ⌝ }
+    ensures { λ r. ⌜ (r ≡ found) × (now (marks .exit)
+        ≡ put (now (marks .entry)) i (markNumber (found .variable) (found .arith) ∷ [])) ⌝ }
+{
+    marks[i] = mark_of(found);
+    found
+}
+
 // Puts the marks of the tree of t into `marks` from `at` on; returns what the tree holds.
 pub fn mark_traits(t: &[u8], marks: &mut [u8], at: usize) -> Traits
     requires { ⌜ (sized (now t) ≡ true) × (at + size (now t) ≤ length (now marks)) ⌝ }
-    ensures { λ r. ⌜ Marked (decode (now (t .entry))) at (now (marks .entry)) (now (marks .exit)) r ⌝ }
+    ensures { λ r. ⌜ Marked (decode (now (t .entry))) at (now (marks .entry))
+        (now (marks .exit)) r ⌝ }
 {
     let children = record::root_arity(t);
     if children == 0 {
         let found = expr::utils::leaf_traits(t);
-        marks[at] = mark_of(found);
-        return found;
+        return put_mark(found, marks, at);
     }
     let k = record::kind(t);
     let last = at + record::size(t) as usize - 1;
     if children == 1 {
         let below = mark_traits(record::body(t), marks, at);
         let found = expr::utils::node_traits(k, below);
-        marks[last] = mark_of(found);
-        return found;
+        return put_mark(found, marks, last);
     }
     let first = mark_traits(record::left(t), marks, at);
     let middle = at + record::size(record::left(t)) as usize;
     let second = mark_traits(record::right(t), marks, middle);
     let found = expr::utils::node_traits(k, expr::utils::join_traits(first, second));
-    marks[last] = mark_of(found);
-    found
+    put_mark(found, marks, last)
 }

@@ -5,37 +5,52 @@ use crate::index;
 use crate::key;
 use semilinear::table::Table;
 ghost use mathlib.Core.Path.{_≡_};
-ghost use mathlib.Core.Bool.{true};
-ghost use mathlib.Core.List.{[]};
-ghost use Prim.Native.Nat.{ℕ, _+_, _*_, _<_, _≤_};
-ghost use lib.ListN.{length, take};
+ghost use mathlib.Core.Bool.{true, _||_};
+ghost use mathlib.Core.List.{[], _∷_, _++_};
+ghost use Prim.Native.Nat.{ℕ, _+_, _*_, _^_, _<_, _≤_};
+ghost use lib.ListN.{length, getD, set};
+ghost use lib.Dec.{eqb};
+ghost use Rattle.arith.specs.Width.{modAdd};
 ghost use Rattle.record.specs.Span.{sized};
-ghost use Rattle.record.specs.Put.{padded};
+ghost use Rattle.record.specs.Put.{put, padded};
 ghost use Rattle.record.specs.Decode.{decode};
 ghost use Rattle.expr.specs.Refusal.{treeRefusal};
-ghost use Rattle.semilinear_normalizer.specs.Register.{familyOf, detectProvenance, registerAtom, registerAll};
-ghost use Rattle.semilinear_normalizer.specs.Spots.{SpotsOk, spotsIn};
-ghost use Rattle.semilinear_normalizer.specs.Index.{Indexed, Registers, emitted, rowsIn};
+ghost use Rattle.expr.specs.Hash.{structuralHash};
+ghost use Rattle.semilinear_normalizer.specs.Register.{familyOf, detectProvenance};
+ghost use Rattle.semilinear_normalizer.specs.Register.{registerAtom, registerAll};
+ghost use Rattle.semilinear_normalizer.specs.Spots.{Accepted, SpotsOk, spotTree};
+ghost use Rattle.semilinear_normalizer.specs.Spots.{spotAt, spotsIn};
+ghost use Rattle.semilinear_normalizer.specs.Key.{keyOf};
+ghost use Rattle.semilinear_normalizer.specs.Index.{Indexed, Registers, Built, rowsIn};
+ghost use Rattle.semilinear_normalizer.specs.Index.{emitted, rowOf, joinProvenance};
+
+// Whether a child of family x belongs to the family f or is Mixed.
+fn in_family(f: u8, x: u8) -> bool
+    ensures { λ r. ⌜ r ≡ (eqb x f || eqb x 4) ⌝ }
+{
+    if x == f {
+        return true;
+    }
+    x == 4
+}
 
 // And over And and Mixed is And, otherwise Mixed; likewise Or and Xor.
 fn family_of(f: u8, x: u8, y: u8) -> u8
     ensures { λ r. ⌜ r ≡ familyOf f x y ⌝ }
 {
-    if x != f {
-        if x != 4 {
-            return 4;
-        }
+    if !in_family(f, x) {
+        return 4;
     }
-    if y != f {
-        if y != 4 {
-            return 4;
-        }
+    if !in_family(f, y) {
+        return 4;
     }
     f
 }
 
 // The family of a root of kind k over two children.
-fn join_provenance(k: u8, x: u8, y: u8) -> u8 {
+fn join_provenance(k: u8, x: u8, y: u8) -> u8
+    ensures { λ r. ⌜ r ≡ joinProvenance k x y ⌝ }
+{
     match k {
         4 => family_of(0, x, y),
         5 => family_of(1, x, y),
@@ -65,26 +80,58 @@ fn detect_provenance(t: &[u8]) -> u8
     join_provenance(k, x, y)
 }
 
-// The tree that spot i stands for is put into `tree`; returns its length.
-fn build_tree(i: usize, spots: &[u64], file: &[u8], w: u8, tree: &mut [u8]) -> usize {
-    let at = i * collect::SPOT_WORDS;
-    let start = spots[at + 1] as usize;
-    let end = spots[at + 2] as usize;
-    let t = &file[start..end];
-    record::write::put_bytes(tree, 0, t);
+// The tree t, or the And of it and the literal where it is masked, is put into `tree`; returns its
+// length.
+fn put_tree(t: &[u8], masked: u64, literal: u64, w: u8, tree: &mut [u8]) -> usize
+    requires { ⌜ (treeRefusal w (now t) ≡ 0) × (literal < 2 ^ w) × (length (now t) ≤ 1048000)
+        × (length (now t) + 32 ≤ length (now tree)) ⌝ }
+    ensures { λ r. ⌜ Built w (spotTree (decode (now (t .entry))) masked literal)
+        (now (tree .entry)) (now (tree .exit)) r ⌝ }
+{
     let n = t.len();
-    if spots[at + 3] == 0 {
+    record::write::put_bytes(tree, 0, t);
+    if masked == 0 {
         return n;
     }
-    record::write::put_record(tree, n, 0, 0, 1, w, spots[at + 4]);
+    record::write::put_record(tree, n, 0, 0, 1, w, literal);
     record::write::put_record(tree, n + 16, 4, 0, record::size(t) + 2, w, 0);
     n + 32
 }
 
+// The tree that spot i stands for is put into `tree`; returns its length.
+fn build_tree(i: usize, spots: &[u64], file: &[u8], w: u8, tree: &mut [u8]) -> usize
+    requires { ⌜ Accepted w (now file) (getD (now spots) (5 * i + 1) 0)
+        (getD (now spots) (5 * i + 2) 0)
+        × (getD (now spots) (5 * i + 4) 0 < 2 ^ w) × (5 * i + 5 ≤ length (now spots))
+        × (length (now file) + 32 ≤ length (now tree)) × (length (now file) ≤ 1048000) ⌝ }
+    ensures { λ r. ⌜ Built w (spotAt (now (file .entry)) (now (spots .entry)) i .tree)
+        (now (tree .entry)) (now (tree .exit)) r ⌝ }
+{
+    let at = collect::SPOT_WORDS * i;
+    let start = spots[at + 1] as usize;
+    let end = spots[at + 2] as usize;
+    put_tree(&file[start..end], spots[at + 3], spots[at + 4], w, tree)
+}
+
 // The coefficient of atom j grows by c.
-fn add_coeff(index: &mut [u64], j: usize, c: u64, w: u8) {
-    let at = j * index::ENTRY_WORDS;
+fn add_coeff(index: &mut [u64], j: usize, c: u64, w: u8)
+    requires { ⌜ 11 * j < length (now index) ⌝ }
+    ensures { λ _. ⌜ now (index .exit) ≡ set (now (index .entry)) (11 * j)
+        (modAdd (getD (now (index .entry)) (11 * j) 0) c w) ⌝ }
+{
+    let at = index::ENTRY_WORDS * j;
     index[at] = arith::mod_add(index[at], c, w as u32);
+}
+
+// The words of atom n are put into the index: those in front of its key, and the key.
+fn put_entry(index: &mut [u64], n: usize, front: &[u64], key: &[u64])
+    requires { ⌜ 11 * n + length (now front) + length (now key) ≤ length (now index) ⌝ }
+    ensures { λ _. ⌜ now (index .exit) ≡ put (now (index .entry)) (11 * n)
+        (now (front .entry) ++ now (key .entry)) ⌝ }
+{
+    let at = index::ENTRY_WORDS * n;
+    record::write::put_words(index, at, front);
+    record::write::put_words(index, at + front.len(), key);
 }
 
 // The atom with the tree t and this hash and key is appended, with the coefficient c.
@@ -93,11 +140,16 @@ fn append_atom(
     c: u64,
     t: &[u8],
     hash: u64,
-    key: &[u64; 7],
+    key: &[u64],
     w: u8,
     index: &mut [u64],
     out: &mut [u8],
-) -> Table {
+) -> Table
+    requires { ⌜ Indexed w table (now index) (now out) × (treeRefusal w (now t) ≡ 0)
+        × (hash ≡ structuralHash (decode (now t))) × (now key ≡ keyOf (decode (now t))) ⌝ }
+    ensures { λ r. ⌜ Registers w (rowsIn (now (index .entry)) (now (out .entry)) (table .count)
+        ++ (rowOf (emitted c (now (t .entry))) ∷ [])) (now (index .exit)) (now (out .exit)) r ⌝ }
+{
     let n = table.count as usize;
     let start = table.at as u64 + 16;
     let more = table.create_atom(out, t, detect_provenance(t), w);
@@ -105,27 +157,15 @@ fn append_atom(
         return more;
     }
     let end = more.at as u64;
-    let words = [
-        c,
-        hash,
-        start,
-        end,
-        key[0],
-        key[1],
-        key[2],
-        key[3],
-        key[4],
-        key[5],
-        key[6],
-    ];
-    record::write::put_words(index, n * index::ENTRY_WORDS, &words);
+    put_entry(index, n, &[c, hash, start, end], key);
     more
 }
 
 // One atom: the tree t with the coefficient c. Corresponds to `register_atom`.
 fn register_atom(table: Table, c: u64, t: &[u8], w: u8, index: &mut [u64], out: &mut [u8]) -> Table
     requires { ⌜ Indexed w table (now index) (now out) × (treeRefusal w (now t) ≡ 0) ⌝ }
-    ensures { λ r. ⌜ Registers w (registerAtom w (emitted c (now (t .entry))) (rowsIn (now (index .entry)) (now (out .entry)) (table .count)))
+    ensures { λ r. ⌜ Registers w (registerAtom w (emitted c (now (t .entry)))
+        (rowsIn (now (index .entry)) (now (out .entry)) (table .count)))
         (now (index .exit)) (now (out .exit)) r ⌝ }
 {
     let n = table.count as usize;
@@ -154,16 +194,18 @@ pub fn register_all(
     index: &mut [u64],
     out: &mut [u8],
 ) -> Table
-    requires { ⌜ SpotsOk w (now file) (now spots) n × (5 * n ≤ length (now spots)) × (length (now file) + 32 ≤ length (now tree)) × (length (now file) ≤ 1048000)
+    requires { ⌜ SpotsOk w (now file) (now spots) n × (5 * n ≤ length (now spots))
+        × (length (now file) + 32 ≤ length (now tree)) × (length (now file) ≤ 1048000)
         × (2816 ≤ length (now index)) × (now out ≡ padded 57360 []) ⌝ }
-    ensures { λ r. ⌜ Registers w (registerAll w (spotsIn (now (file .entry)) (now (spots .entry)) n) [])
+    ensures { λ r. ⌜ Registers w
+        (registerAll w (spotsIn (now (file .entry)) (now (spots .entry)) n) [])
         (now (index .exit)) (now (out .exit)) r ⌝ }
 {
     let mut table = Table::empty();
     let mut i = 0;
     while i < n {
         let size = build_tree(i, spots, file, w, tree);
-        let c = spots[i * collect::SPOT_WORDS];
+        let c = spots[collect::SPOT_WORDS * i];
         table = register_atom(table, c, &tree[..size], w, index, out);
         if table.full {
             return table;

@@ -2,12 +2,18 @@
 // which the j-th variable of a list has bit j of i. One walk gives all 64 rows.
 ghost use mathlib.Core.Path.{_≡_};
 ghost use mathlib.Core.Bool.{true};
+ghost use Prim.Native.Nat.{ℕ, _<_, _≤_};
+ghost use lib.ListN.{length};
+ghost use Rattle.arith.specs.Bit.{bitAt};
 ghost use Rattle.record.specs.Span.{sized};
-ghost use Rattle.record.specs.Decode.{decode};
-ghost use Rattle.semilinear_normalizer.specs.Truth.{tableF};
+ghost use Rattle.record.specs.Tree.Tree.{Variable};
+ghost use Rattle.record.specs.Decode.{leaf, decode};
+ghost use Rattle.semilinear_normalizer.specs.Truth.{placeOf, bitBinary, tableF};
 
 // Bit i is bit j of i.
-fn column(j: usize) -> u64 {
+fn column(j: usize) -> u64
+    ensures { λ r. ⌜ ((i : ℕ) → i < 64 → bitAt r i ≡ bitAt i j) ⌝ }
+{
     match j {
         0 => 0xAAAA_AAAA_AAAA_AAAA,
         1 => 0xCCCC_CCCC_CCCC_CCCC,
@@ -19,20 +25,36 @@ fn column(j: usize) -> u64 {
     }
 }
 
-// The rows of the variable v.
-fn variable_rows(vars: &[u64], v: u64) -> u64 {
+// The place of the first v in the list, its length where there is none.
+pub fn place_of(v: u64, vars: &[u64]) -> usize
+    ensures { λ r. ⌜ r ≡ placeOf v (now (vars .entry)) ⌝ }
+{
     let mut j = 0;
     while j < vars.len() {
         if vars[j] == v {
-            return column(j);
+            return j;
         }
         j += 1;
     }
-    0
+    j
+}
+
+// The rows of the variable v.
+fn variable_rows(vars: &[u64], v: u64) -> u64
+    ensures { λ r. ⌜ r ≡ tableF 64 0 (now (vars .entry)) (Variable v) ⌝ }
+{
+    let j = place_of(v, vars);
+    if j == vars.len() {
+        return 0;
+    }
+    column(j)
 }
 
 // The rows of a root without children.
-fn leaf_rows(t: &[u8], vars: &[u64], place: u32) -> u64 {
+fn leaf_rows(t: &[u8], vars: &[u64], place: u32) -> u64
+    requires { ⌜ 16 ≤ length (now t) ⌝ }
+    ensures { λ r. ⌜ r ≡ tableF 64 place (now (vars .entry)) (leaf (now (t .entry))) ⌝ }
+{
     if record::kind(t) == 0 {
         if arith::bit(record::literal(t), place) == 0 {
             return 0;
@@ -43,7 +65,9 @@ fn leaf_rows(t: &[u8], vars: &[u64], place: u32) -> u64 {
 }
 
 // And, Or and Xor of rows.
-fn join_rows(k: u8, x: u64, y: u64) -> u64 {
+fn join_rows(k: u8, x: u64, y: u64) -> u64
+    ensures { λ r. ⌜ ((i : ℕ) → bitAt r i ≡ bitBinary k (bitAt x i) (bitAt y i)) ⌝ }
+{
     match k {
         4 => x & y,
         5 => x | y,

@@ -1,0 +1,75 @@
+// The form of what was collected: the atom table, its terms, and the sum record.
+use crate::collect::Descent;
+use crate::index;
+use crate::register;
+use semilinear::compact::Written;
+use semilinear::outcome::Answer;
+use semilinear::outcome::{self};
+ghost use mathlib.Core.Path.{_≡_};
+ghost use mathlib.Core.List.{[]};
+ghost use Prim.Native.Nat.{ℕ, _+_, _*_, _^_, _<_, _≤_};
+ghost use lib.ListN.{length};
+ghost use Rattle.semilinear.specs.Answers.{GivesForm};
+ghost use Rattle.semilinear_normalizer.specs.Collect.{linear};
+ghost use Rattle.semilinear_normalizer.specs.Spots.{SpotsOk, spotsIn};
+ghost use Rattle.semilinear_normalizer.specs.Index.{rowsIn, TermsPut};
+ghost use Rattle.semilinear_normalizer.specs.Normalize.{collectedOutcome};
+
+// The terms of the first n atoms of the index are put into out from `to` on.
+fn put_terms(n: usize, index: &[u64], w: u8, out: &mut [u8], to: usize) -> Written
+    requires { ⌜ (11 * n ≤ length (now index)) × (n ≤ 256) × (to + 16 * n ≤ length (now out)) ⌝ }
+    ensures { λ r. ⌜ TermsPut w to (rowsIn (now (index .entry)) (now (out .entry)) n) (now (out .entry))
+        (now (out .exit)) r ⌝ }
+{
+    let mut at = to;
+    let mut terms: u64 = 0;
+    let mut i = 0;
+    while i < n {
+        let c = index[index::ENTRY_WORDS * i];
+        if c != 0 {
+            semilinear::table::put_term(out, at, i as u64, c, w);
+            at += 16;
+            terms += 1;
+        }
+        i += 1;
+    }
+    Written {
+        used: at,
+        terms: terms,
+    }
+}
+
+// The form of a descent that was linear, written to a slice of 57,360 bytes; or 9. The descent's
+// atoms stand in `spots`; `tree` and `index` are room to work in.
+pub fn write_form(
+    found: Descent,
+    file: &[u8],
+    w: u8,
+    spots: &[u64],
+    tree: &mut [u8],
+    index: &mut [u64],
+    out: &mut [u8],
+) -> Answer
+    requires { ⌜ SpotsOk w (now file) (now spots) (found .count) × (5 * found .count ≤ length (now spots))
+        × (length (now file) + 32 ≤ length (now tree)) × (length (now file) ≤ 1048000)
+        × (2816 ≤ length (now index)) × (length (now out) ≡ 57360) ⌝ }
+    ensures { λ r. ⌜ GivesForm
+        (collectedOutcome w (linear (found .constant) (spotsIn (now (file .entry)) (now (spots .entry)) (found .count))))
+        57360 r (now (out .exit)) ⌝ }
+{
+    record::write::clear(out);
+    let table = register::register_all(found.count, spots, file, w, tree, index, out);
+    if table.full {
+        return outcome::refuse(out, 9);
+    }
+    let n = table.count as usize;
+    let written = put_terms(n, index, w, out, table.at);
+    let used = written.used;
+    semilinear::table::put_sum(out, used, found.constant, w);
+    Answer {
+        refusal: 0,
+        used: (used + 16) as u64,
+        terms: written.terms,
+        flag: false,
+    }
+}
