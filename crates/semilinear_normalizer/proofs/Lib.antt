@@ -37,3 +37,6 @@ mod BuiltLaws
 mod AppendedLaws
 mod StepLaws
 mod ReachedLaws
+mod PutTermsLaws
+mod WrittenLaws
+mod WholeTreeLaws

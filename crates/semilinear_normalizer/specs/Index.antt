@@ -17,7 +17,7 @@ use Rattle.expr.specs.Vars.{sameVars}
 use Rattle.expr.specs.Hash.{structuralHash}
 use Rattle.semilinear.specs.declared.table.Table.{Table}
 use Rattle.semilinear.specs.declared.compact.Written.{Written}
-use Rattle.semilinear.specs.Form.{Row, fitsTable, termCount, termsBytes}
+use Rattle.semilinear.specs.Form.{Row, fitsTable, termCount, termBytes, termsBytes}
 use Rattle.semilinear.specs.Table.{Holds, Clean}
 use Rattle.semilinear.specs.Loop.{firstIn}
 use Rattle.semilinear_normalizer.specs.Collect.{Emitted}
@@ -127,6 +127,19 @@ pub record Searchable (index out : List ℕ) (n : ℕ) : Type 0 where
   pub trees : (j : ℕ) → j < n → sized (entrySpan index out j) ≡ true
 
 -- ---- the terms
+
+-- the bytes of the term of atom i, none where its coefficient c is 0, and how many terms that is
+unfoldable pub rowTerm : ℕ → ℕ → ℕ → List ℕ
+rowTerm w i c = when (eqb c 0) (λ _. []) (λ _. termBytes w i c)
+
+unfoldable pub rowTerms : ℕ → ℕ
+rowTerms c = when (eqb c 0) (λ _. 0) (λ _. 1)
+
+-- this term is put behind those that x says
+pub record TermPut (w i c : ℕ) (x : Written) (before after : List ℕ) (r : Written) : Type 0 where
+  pub place : r .used ≡ x .used + length (rowTerm w i c)
+  pub count : r .terms ≡ x .terms + rowTerms c
+  pub written : after ≡ put before (x .used) (rowTerm w i c)
 
 -- the terms of the rows are put into the bytes from `to` on; r says where they end and how many there are
 pub record TermsPut (w to : ℕ) (rows : List Row) (before after : List ℕ) (r : Written) : Type 0 where

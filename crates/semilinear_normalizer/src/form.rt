@@ -12,8 +12,24 @@ ghost use lib.ListN.{length};
 ghost use Rattle.semilinear.specs.Answers.{GivesForm};
 ghost use Rattle.semilinear_normalizer.specs.Collect.{linear};
 ghost use Rattle.semilinear_normalizer.specs.Spots.{SpotsOk, spotsIn};
-ghost use Rattle.semilinear_normalizer.specs.Index.{rowsIn, TermsPut};
+ghost use Rattle.semilinear_normalizer.specs.Index.{rowsIn, TermPut, TermsPut};
 ghost use Rattle.semilinear_normalizer.specs.Normalize.{collectedOutcome};
+
+// The term of atom i with the coefficient c is put behind those before it; none where c is 0.
+fn put_row(x: Written, i: u64, c: u64, w: u8, out: &mut [u8]) -> Written
+    requires { ⌜ (x .used + 16 ≤ length (now out)) × (i < 65536) × (x .terms < 65536) ⌝ }
+    ensures { λ r. ⌜ TermPut w i c x (now (out .entry)) (now (out .exit)) r ⌝ }
+{
+    if c == 0 {
+        return x;
+    }
+    let used = x.used;
+    semilinear::table::put_term(out, used, i, c, w);
+    Written {
+        used: used + 16,
+        terms: x.terms + 1,
+    }
+}
 
 // The terms of the first n atoms of the index are put into out from `to` on.
 fn put_terms(n: usize, index: &[u64], w: u8, out: &mut [u8], to: usize) -> Written
@@ -21,22 +37,14 @@ fn put_terms(n: usize, index: &[u64], w: u8, out: &mut [u8], to: usize) -> Writt
     ensures { λ r. ⌜ TermsPut w to (rowsIn (now (index .entry)) (now (out .entry)) n) (now (out .entry))
         (now (out .exit)) r ⌝ }
 {
-    let mut at = to;
-    let mut terms: u64 = 0;
+    let mut x = Written { used: to, terms: 0 };
     let mut i = 0;
     while i < n {
         let c = index[index::ENTRY_WORDS * i];
-        if c != 0 {
-            semilinear::table::put_term(out, at, i as u64, c, w);
-            at += 16;
-            terms += 1;
-        }
+        x = put_row(x, i as u64, c, w, out);
         i += 1;
     }
-    Written {
-        used: at,
-        terms: terms,
-    }
+    x
 }
 
 // The form of a descent that was linear, written to a slice of 57,360 bytes; or 9. The descent's

@@ -1,0 +1,181 @@
+-- Normalising a whole accepted file (specs/Normalize.antt): the descent from its root with the coefficient 1 collects what
+-- the definition says, and the refusals 7 and 8 are found where they are defined.
+use mathlib.Core.Path.{_≡_, refl, ap, ap₂, sym, _∙_}
+use Prim.Native.Nat.{ℕ, _+_, _*_, _^_, _≤_, _<_}
+use native.Mathlib.Omega.{arith}
+use native.Mathlib.Nat.{mod-eq-of-lt, zero-add, sub-zero}
+use mathlib.Core.List.{List, []}
+use mathlib.Core.Bool.{true, false}
+use lib.ListN.{length, take, drop}
+use lib.Seq.{take-all}
+use lib.Pow.{pow-pos, pow-mono}
+use borrow.Author.Tests.{eq-eqb, ne-eqb}
+use Rattle.arith.proofs.WidthLaws.{mod-add}
+use Rattle.record.specs.Fields.{size, width}
+use Rattle.record.specs.Tree.{Tree, sizeOf, IsBytes}
+use Rattle.record.specs.Decode.{decode}
+use Rattle.record.specs.Put.{put}
+use Rattle.record.proofs.PutLaws.{take-put}
+use Rattle.record.proofs.SizedLaws.{sized-length}
+use Rattle.expr.specs.declared.utils.Traits.{Traits}
+use Rattle.expr.specs.Refusal.{treeRefusal, exprRefusal}
+use Rattle.expr.specs.Utils.{hasConstantArith, traitsOf}
+use Rattle.expr.proofs.RefusalLaws.{accepted-root, sized-accepted}
+use Rattle.expr.proofs.AcceptLaws.{accept-expr}
+use Rattle.expr.proofs.ExprValueLaws.{accepted-tree, accepted-length}
+use Rattle.semilinear.specs.declared.outcome.Answer.{Answer}
+use Rattle.semilinear.specs.Outcome.{Outcome, refused}
+use Rattle.semilinear.specs.Answers.{GivesForm}
+use Rattle.semilinear.proofs.PassLaws.{gives-same}
+use Rattle.semilinear_normalizer.specs.declared.collect.Spot.{Spot}
+use Rattle.semilinear_normalizer.specs.declared.collect.Descent.{Descent}
+use Rattle.semilinear_normalizer.specs.Collect.{Collected, nonlinear, linear, joinCollected, collectTerms}
+use Rattle.semilinear_normalizer.specs.Marks.{marksOf, Marked}
+use Rattle.semilinear_normalizer.specs.Spots.{spanOf, spotsIn, collectedIn, Accepted, SpotsOk, Collects, Ready}
+use Rattle.semilinear_normalizer.specs.Spots.{treeAt, AtSpot}
+use Rattle.semilinear_normalizer.specs.Normalize.{collectedOutcome, normalizeTree, normalizeToSemilinear}
+use Rattle.semilinear_normalizer.proofs.EmittedLaws.{GoodCollected, collect-good}
+use Rattle.semilinear_normalizer.proofs.MarksLaws.{length-marks}
+use Rattle.semilinear_normalizer.proofs.SpanOfLaws.{size-sized}
+use Rattle.semilinear_normalizer.proofs.SpotsLaws.{collected-linear, collected-nonlinear}
+
+-- refusal 7 as the walk over the marks finds it
+pub refused-is : {t : Tree} {at : ℕ} {before after : List ℕ} {r : Traits} → Marked t at before after r
+    → r .refused ≡ hasConstantArith t
+unfolding traitsOf
+refused-is m = ap (λ (x : Traits). x .refused) (m .traits)
+
+-- what is collected from nothing on
+from-nothing : (w : ℕ) (hw : w ≤ 64) (x : Collected) → GoodCollected w hw x → joinCollected w (linear 0 []) x ≡ x
+unfolding joinCollected GoodCollected
+from-nothing w hw nonlinear g = refl
+from-nothing w hw (linear d m) g =
+    ap (λ (n : ℕ). linear n m) (mod-add 0 d w hw ∙ rw zero-add (mod-eq-of-lt (g .0)))
+
+-- the descent as it starts
+abbrev pub nothing : Descent
+nothing = record { linear = true; constant = 0; count = 0 }
+
+module _ (w : ℕ) (t : List ℕ) (h : IsBytes t) (ok : treeRefusal w t ≡ 0) where
+  abbrev whole : Spot
+  whole = record { coeff = 1; start = 0; end = length t }
+
+  width-le : w ≤ 64
+  width-le = accepted-root w t ok .width-le
+
+  pub whole-span : spanOf t 0 (length t) ≡ t
+  unfolding spanOf
+  whole-span = rw sub-zero (take-all (length t) t (omega arith))
+
+  pub whole-size : sizeOf (treeAt t whole) ≡ size t
+  whole-size = ap (λ (s : List ℕ). sizeOf (decode s)) whole-span ∙ sym (size-sized t (sized-accepted w t ok))
+
+  pub whole-at : {m before after : List ℕ} {r : Traits} {n : ℕ} → Marked (decode t) 0 before after r
+      → size t ≤ length before → n ≡ size t → m ≡ take n after → AtSpot w t m whole
+  whole-at {m} {before} {after} {r} {n} marked room en em =
+      let count : length (marksOf (decode t)) ≡ size t =
+      length-marks (decode t) ∙ sym (size-sized t (sized-accepted w t ok)) in
+      let end : n ≡ 0 + length (marksOf (decode t)) = omega (arith, count) in
+      record {
+        span = record { rising = omega arith; inside = omega arith; tree = rw whole-span ok };
+        marks-are =
+            em
+            ∙ ap (take n) (marked .written)
+            ∙ ap (λ (k : ℕ). take k (put before 0 (marksOf (decode t)))) end
+            ∙ take-put before 0 (marksOf (decode t)) (omega (arith, count))
+            ∙ ap (λ (s : List ℕ). marksOf (decode s)) (sym whole-span);
+      }
+
+  pub whole-ready : {words : List ℕ} {d : Descent} → 5 * size t ≤ length words → d ≡ nothing
+      → Ready w (sizeOf (treeAt t whole)) words d
+  whole-ready room e =
+      rw e
+      (record {
+        width = width-le;
+        linear = refl;
+        fits = pow-pos w;
+        room = omega (arith, whole-size);
+      })
+
+  -- ---- refusal 7
+
+  seven : hasConstantArith (decode t) ≡ true → normalizeTree w (decode t) ≡ refused 7
+  unfolding normalizeTree
+  seven e = simp e
+
+  pub gives-seven : hasConstantArith (decode t) ≡ true → {n : ℕ} → n ≡ 57360 → (r : Answer) {e : List ℕ}
+      → GivesForm (refused 7) n r e → GivesForm (normalizeTree w (decode t)) 57360 r e
+  gives-seven c en r {e} g = gives-same (seven c) 57360 r e (rw en at g)
+
+  -- ---- what the descent collects
+
+  module _ (plain : hasConstantArith (decode t) ≡ false) {d : Descent} (start : d ≡ nothing) {before after : List ℕ}
+      {r : Descent}
+      (all : Collects w t (sizeOf (treeAt t whole)) (collectTerms w 1 (treeAt t whole)) before d after r) where
+    collected-whole : collectedIn t after r ≡ collectTerms w 1 (decode t)
+    unfolding spotsIn
+    collected-whole =
+        let hw = width-le in
+        let two : 2 ^ 1 ≤ 2 ^ w = pow-mono (accepted-root w t ok .width-pos) in
+        let one : 1 < 2 ^ w = omega arith in
+        let nil : collectedIn t before d ≡ linear 0 [] = rw start (collected-linear t before nothing refl) in
+        all .collected
+        ∙ ap₂ (joinCollected w) nil (ap (λ (s : List ℕ). collectTerms w 1 (decode s)) whole-span)
+        ∙ from-nothing w hw (collectTerms w 1 (decode t)) (collect-good w hw (decode t) (accept-expr w t h ok) 1 one)
+
+    outcome-is : normalizeTree w (decode t) ≡ collectedOutcome w (collectTerms w 1 (decode t))
+    unfolding normalizeTree
+    outcome-is = simp plain
+
+    pub gives-eight : r .linear ≡ false → {n : ℕ} → n ≡ 57360 → (a : Answer) {e : List ℕ}
+        → GivesForm (refused 8) n a e → GivesForm (normalizeTree w (decode t)) 57360 a e
+    unfolding collectedOutcome
+    gives-eight lin en a {e} g =
+        gives-same
+        (outcome-is ∙ ap (collectedOutcome w) (sym collected-whole ∙ collected-nonlinear t after r lin)) 57360 a e
+        (rw en at g)
+
+    pub gives-collected : r .linear ≡ true → (a : Answer) {e : List ℕ}
+        → GivesForm (collectedOutcome w (linear (r .constant) (spotsIn t after (r .count)))) 57360 a e
+        → GivesForm (normalizeTree w (decode t)) 57360 a e
+    gives-collected lin a {e} g =
+        gives-same (outcome-is ∙ ap (collectedOutcome w) (sym collected-whole ∙ collected-linear t after r lin)) 57360 a
+        e g
+
+    pub spots-whole : SpotsOk w t after (r .count)
+    spots-whole = all .spots (λ i l. absurd (omega (arith, ap (λ (x : Descent). x .count) start)))
+
+    pub count-whole : 5 * size t ≤ length before → 5 * r .count ≤ length after
+    count-whole room = omega (arith, all .few, whole-size, all .same-length, ap (λ (x : Descent). x .count) start)
+
+-- ---- the entry point
+
+module _ (s : List ℕ) (len : ℕ) where
+  pub outcome-one : exprRefusal s ≡ 1 → normalizeToSemilinear s len ≡ refused 1
+  unfolding normalizeToSemilinear
+  outcome-one e = simp (eq-eqb (exprRefusal s) 1 e)
+
+  module _ (n : exprRefusal s ≡ 1 → ⊥) where
+    pub outcome-two : (len ≡ 57360 → ⊥) → normalizeToSemilinear s len ≡ refused 2
+    unfolding normalizeToSemilinear
+    outcome-two e = simp (ne-eqb (exprRefusal s) 1 n, ne-eqb len 57360 e)
+
+    pub outcome-expr : len ≡ 57360 → (exprRefusal s ≡ 0 → ⊥) → normalizeToSemilinear s len ≡ refused (exprRefusal s)
+    unfolding normalizeToSemilinear
+    outcome-expr e z = simp (ne-eqb (exprRefusal s) 1 n, eq-eqb len 57360 e, ne-eqb (exprRefusal s) 0 z)
+
+  outcome-tree : len ≡ 57360 → exprRefusal s ≡ 0 → normalizeToSemilinear s len ≡ normalizeTree (width s) (decode s)
+  unfolding normalizeToSemilinear
+  outcome-tree e z = simp (z, eq-eqb len 57360 e)
+
+  pub gives-tree : {w : ℕ} → w ≡ width s → len ≡ 57360 → exprRefusal s ≡ 0 → (r : Answer) {e : List ℕ}
+      → GivesForm (normalizeTree w (decode s)) 57360 r e → GivesForm (normalizeToSemilinear s len) len r e
+  gives-tree ew el z r {e} g =
+      rw el (gives-same (sym (ap (normalizeToSemilinear s) el) ∙ outcome-tree el z) 57360 r e (rw ew at g))
+
+-- the sizes of an accepted file
+pub file-room : (s : List ℕ) → exprRefusal s ≡ 0 → (size s ≤ 1024) × (length s ≤ 16384)
+file-room s z =
+    let n = sized-length s (sized-accepted (width s) s (accepted-tree s z)) in
+    let m = accepted-length s z in
+    (omega arith, omega arith)

@@ -1,0 +1,129 @@
+-- `normalize_to_semilinear` meets its contract: the refusals in order, then the whole tree.
+use mathlib.Core.Path.{ap, sym, _∙_}
+use native.Mathlib.Omega.{arith}
+use Rattle.expr.proofs.RefusalLaws.{accepted-big}
+use Rattle.expr.proofs.ExprValueLaws.{accepted-tree}
+use Rattle.semilinear.specs.Outcome.{refused}
+use Rattle.semilinear.proofs.PassLaws.{gives-same}
+use Rattle.semilinear_normalizer.proofs.WholeTreeLaws.{outcome-one, outcome-two, outcome-expr, gives-tree}
+use Rattle.semilinear_normalizer.proofs.WholeTreeLaws.{file-room}
+use borrow.Author.Needs.{needs}
+use Rattle.semilinear_normalizer.proofs.normalize_to_semilinear.Statement.{statement}
+use Rattle.semilinear_normalizer.proofs.normalize_to_semilinear.Tie as tie
+
+expr-refusal-requires : tie.Need-expr-refusal-requires
+expr-refusal-requires c κs = search needs
+
+refuse-requires : tie.Need-refuse-requires
+refuse-requires c κs = search needs
+
+same-length : tie.Need-same-length
+same-length c = search needs
+
+returns : tie.Need-returns
+returns c =
+    let at-refuse = c .before .before in
+    let at-if = at-refuse .before .before in
+    gives-same (outcome-one _ _ (sym (at-if .before .expr-refusal .ensures) ∙ at-if .if1 .taken)) _
+    (at-refuse .refuse .result) _ (at-refuse .refuse .ensures)
+
+refuse-requires-2 : tie.Need-refuse-requires-2
+refuse-requires-2 c κs = search needs
+
+same-length-2 : tie.Need-same-length-2
+same-length-2 c = search needs
+
+returns-2 : tie.Need-returns-2
+returns-2 c =
+    let at-refuse = c .before .before in
+    let at-if = at-refuse .before .before in
+    let at-number = at-if .before .before in
+    gives-same
+    (outcome-two _ _ (λ e. at-if .before .if1 .left (at-number .expr-refusal .ensures ∙ e)) (at-if .if2 .taken)) _
+    (at-refuse .refuse2 .result) _ (at-refuse .refuse2 .ensures)
+
+refuse-requires-3 : tie.Need-refuse-requires-3
+refuse-requires-3 c κs = search needs
+
+same-length-3 : tie.Need-same-length-3
+same-length-3 c = search needs
+
+returns-3 : tie.Need-returns-3
+returns-3 c =
+    let at-refuse = c .before .before in
+    let at-if = at-refuse .before .before in
+    let at-number = at-if .before .before .before in
+    let number = at-number .expr-refusal .ensures in
+    gives-same
+    (outcome-expr _ _ (λ e. at-if .before .before .if1 .left (number ∙ e)) (at-if .before .if2 .left)
+    (λ e. at-if .if3 .taken (number ∙ e))
+    ∙ ap refused (sym number)) _ (at-refuse .refuse3 .result) _ (at-refuse .refuse3 .ensures)
+
+width-requires : tie.Need-width-requires
+width-requires c κs =
+    let at-number = c .before .before .before in
+    accepted-big _ _ (accepted-tree _ (sym (at-number .expr-refusal .ensures) ∙ c .if3 .left))
+
+slice-aggregate-normalize-tree : tie.Need-slice-aggregate-normalize-tree
+slice-aggregate-normalize-tree c = search needs
+
+slice-aggregate-normalize-tree-2 : tie.Need-slice-aggregate-normalize-tree-2
+slice-aggregate-normalize-tree-2 c = search needs
+
+slice-aggregate-normalize-tree-3 : tie.Need-slice-aggregate-normalize-tree-3
+slice-aggregate-normalize-tree-3 c = search needs
+
+slice-aggregate-normalize-tree-4 : tie.Need-slice-aggregate-normalize-tree-4
+slice-aggregate-normalize-tree-4 c = search needs
+
+normalize-tree-requires : tie.Need-normalize-tree-requires
+normalize-tree-requires c κs =
+    let at-width = c .before .before .before .before .before in
+    let at-if = at-width .before in
+    let at-number = at-if .before .before .before in
+    let zero = sym (at-number .expr-refusal .ensures) ∙ at-if .if3 .left in
+    let room = file-room _ zero in (
+      rw (at-width .width .ensures) (accepted-tree _ zero),
+      room .0,
+      omega (arith, room .0),
+      omega (arith, room .1),
+      omega (arith, room .1),
+      omega arith,
+      at-if .before .if2 .left,
+    )
+
+same-length-4 : tie.Need-same-length-4
+same-length-4 c = search needs
+
+returns-4 : tie.Need-returns-4
+returns-4 c =
+    let at-tree = c .before .before .before .before .before .before in
+    let at-width = at-tree .before .before .before .before .before .before in
+    let at-if = at-width .before in
+    let at-number = at-if .before .before .before in
+    let zero = sym (at-number .expr-refusal .ensures) ∙ at-if .if3 .left in
+    gives-tree _ _ (at-width .width .ensures) (at-if .before .if2 .left) zero (at-tree .normalize-tree .result)
+    (at-tree .normalize-tree .ensures)
+
+pub normalize-to-semilinear-spec : {M : Type 1} → statement M
+normalize-to-semilinear-spec =
+    tie.close
+    (tie.spec
+    expr-refusal-requires
+    refuse-requires
+    same-length
+    returns
+    refuse-requires-2
+    same-length-2
+    returns-2
+    refuse-requires-3
+    same-length-3
+    returns-3
+    width-requires
+    slice-aggregate-normalize-tree
+    slice-aggregate-normalize-tree-2
+    slice-aggregate-normalize-tree-3
+    slice-aggregate-normalize-tree-4
+    normalize-tree-requires
+    same-length-4
+    returns-4)
