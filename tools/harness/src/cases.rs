@@ -76,7 +76,7 @@ pub fn normalised_form(rng: &mut Prng) -> Form {
         let w = random::width(rng);
         let count = 8 + rng.below(24);
         let records = random::expression(rng, count, w, Kinds::Accepted);
-        if let Some(form) = published::normalized(&records) {
+        if let Ok(form) = published::normalized(&records) {
             return form;
         }
     }

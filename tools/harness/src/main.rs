@@ -3,6 +3,7 @@
 
 include!(concat!(env!("OUT_DIR"), "/published.rs"));
 
+mod bridge;
 mod cases;
 #[cfg(feature = "library")]
 mod compare;
