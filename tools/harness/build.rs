@@ -154,7 +154,12 @@ fn edited_build(
 
 /// The text of a file with the edits that name it. A text that does not occur is a fault.
 fn edit(mut text: String, file: &str, edits: &[&[Edit]]) -> String {
-    for edit in edits.iter().copied().flatten().filter(|edit| edit.file == file) {
+    for edit in edits
+        .iter()
+        .copied()
+        .flatten()
+        .filter(|edit| edit.file == file)
+    {
         assert!(
             text.contains(edit.old),
             "{file}.rs does not hold {:?}",

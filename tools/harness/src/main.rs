@@ -5,6 +5,7 @@ include!(concat!(env!("OUT_DIR"), "/published.rs"));
 
 mod bridge;
 mod cases;
+mod collide;
 #[cfg(feature = "library")]
 mod compare;
 mod dump;
@@ -21,6 +22,12 @@ mod masks;
 #[cfg(feature = "library")]
 mod measure;
 mod model;
+mod normal_cases;
+#[cfg(feature = "library")]
+mod normal_compare;
+mod normal_limits;
+mod normal_model;
+mod normal_random;
 mod prng;
 mod published;
 mod random;
@@ -44,6 +51,8 @@ fn main() -> ExitCode {
         }
         #[cfg(feature = "library")]
         ["compare"] => compare::run(),
+        #[cfg(feature = "library")]
+        ["compare", "normalize"] => normal_compare::run(),
         #[cfg(feature = "library")]
         ["stack"] => stack::run(),
         _ => Err("no such command; run.sh lists them".to_string()),

@@ -1,0 +1,150 @@
+//! Normalising by the static library beside the model, always, and beside the published Rust, where
+//! it has an answer: the build with document 01's partings must give the same, and each difference
+//! from the build with sorted maps alone is named by its parting.
+
+use std::collections::BTreeMap;
+
+use crate::cases::SEED;
+use crate::entry;
+use crate::form_model::{self, Written};
+use crate::library;
+use crate::normal_cases::{Case, FAMILIES};
+use crate::prng::Prng;
+use crate::published;
+use crate::record::{split, RECORD_BYTES};
+
+/// What the cases of a family came to: those accepted, those of two terms or more among them, and
+/// those of each refusal.
+#[derive(Clone, Copy, Default)]
+struct Counts {
+    outcomes: [usize; 10],
+    two_terms: usize,
+}
+
+impl Counts {
+    fn add(&mut self, answer: &Written) {
+        self.outcomes[answer.refusal as usize] += 1;
+        self.two_terms += usize::from(answer.terms > 1);
+    }
+
+    fn plus(&mut self, other: &Self) {
+        for (count, more) in self.outcomes.iter_mut().zip(other.outcomes) {
+            *count += more;
+        }
+        self.two_terms += other.two_terms;
+    }
+
+    fn line(&self, name: &str) -> String {
+        let refused: Vec<String> = self.outcomes[1..].iter().map(usize::to_string).collect();
+        format!(
+            "| {name} | {} | {} | {} | {} |",
+            self.outcomes.iter().sum::<usize>(),
+            self.outcomes[0],
+            self.two_terms,
+            refused.join(" | ")
+        )
+    }
+}
+
+/// How many inputs differ under one name, and the smallest of them.
+#[derive(Default)]
+struct Differences(BTreeMap<String, (usize, Vec<u8>)>);
+
+impl Differences {
+    fn add(&mut self, name: &str, case: &Case) {
+        let (count, smallest) = self.0.entry(name.to_string()).or_default();
+        *count += 1;
+        if smallest.is_empty() || case.file.len() < smallest.len() {
+            smallest.clone_from(&case.file);
+        }
+    }
+
+    fn total(&self) -> usize {
+        self.0.values().map(|(count, _)| count).sum()
+    }
+
+    fn show(&self) {
+        for (name, (count, file)) in &self.0 {
+            let records = file.len() / RECORD_BYTES;
+            println!("{name}: {count} inputs; the smallest has {records} records");
+            if records <= 16 {
+                println!("  {}", input_text(file));
+            }
+        }
+    }
+}
+
+fn input_text(file: &[u8]) -> String {
+    if crate::model::refusal(file) == 0 {
+        let records = split(file);
+        return format!("w = {}, {}", records[0].width, published::text(&records));
+    }
+    file.iter().map(|byte| format!("{byte:02x}")).collect()
+}
+
+pub fn run() -> Result<(), String> {
+    let rng = &mut Prng::new(SEED + 2);
+    let mut all = Counts::default();
+    let (mut faults, mut partings) = (Differences::default(), Differences::default());
+    println!("| hogzelt_normalize_to_semilinear | inputs | accepted | of two terms or more | 1 | 2 | 3 | 4 | 5 | 6 | 7 | 8 | 9 |");
+    println!("|---|---|---|---|---|---|---|---|---|---|---|---|---|");
+    for family in &FAMILIES {
+        let mut counts = Counts::default();
+        for case in (family.make)(rng, family.compared) {
+            let wanted = check(&case, &mut faults, &mut partings);
+            counts.add(&wanted);
+        }
+        println!("{}", counts.line(family.name));
+        all.plus(&counts);
+    }
+    println!("{}", all.line("all"));
+    println!("where the build with sorted maps alone gives another answer, by parting:");
+    partings.show();
+    faults.show();
+    println!(
+        "hogzelt_normalize_to_semilinear: {} differences",
+        faults.total()
+    );
+    match faults.total() {
+        0 => Ok(()),
+        n => Err(format!("{n} differences in normalising")),
+    }
+}
+
+/// The model's answer. Differences from it are noted.
+fn check(case: &Case, faults: &mut Differences, partings: &mut Differences) -> Written {
+    let wanted = crate::normal_model::answer(&case.file, case.length);
+    if library::normalize(&case.file, case.length) != wanted {
+        faults.add("the library differs from the model", case);
+    }
+    if !entry::rust_normalizes(&case.file, case.length) {
+        return wanted;
+    }
+    let records = split(&case.file);
+    if written(crate::parted::bridge::normalized(&records)) != wanted {
+        faults.add("the Rust with the partings differs from the model", case);
+    }
+    let sorted = crate::sorted::bridge::normalized(&records);
+    if published::normalized(&records) != sorted {
+        partings.add("parting 4, orders of maps", case);
+    }
+    let refused_8 = sorted == Err(8);
+    if written(sorted) != wanted {
+        match (wanted.refusal, refused_8) {
+            (7, false) => partings.add("parting 5, refusal 7, accepted by the Rust", case),
+            (7, true) => partings.add("parting 5, refusal 7, the Rust's NonLinearInput", case),
+            (9, false) => partings.add("parting 5, refusal 9, accepted by the Rust", case),
+            _ => faults.add("the Rust with sorted maps differs, for no parting", case),
+        }
+    }
+    wanted
+}
+
+/// What the Rust's answer is in document 01's bytes. A form that is too long for the slice keeps
+/// its length.
+fn written(answer: Result<crate::form::Form, u64>) -> Written {
+    match answer {
+        Ok(form) => form_model::written(&form),
+        Err(refusal) => form_model::refused(refusal, crate::form::RESULT_BYTES),
+    }
+}
