@@ -28,6 +28,8 @@ mod normal_compare;
 mod normal_limits;
 mod normal_model;
 mod normal_random;
+#[cfg(feature = "library")]
+mod normal_stack;
 mod prng;
 mod published;
 mod random;

@@ -18,7 +18,8 @@ pub struct Case {
     pub length: usize,
 }
 
-/// A family of calls. `make` makes as many as it is asked for, or the whole of a fixed list.
+/// A family of calls. `make` makes as many as it is asked for; a fixed list takes 0 for all of it.
+#[cfg_attr(not(feature = "library"), allow(dead_code))]
 pub struct Family {
     pub name: &'static str,
     /// how many are compared with the library
@@ -42,26 +43,27 @@ const fn family(
     }
 }
 
-/// All families. Fixed lists take no number.
-pub const FAMILIES: [Family; 18] = [
+/// All families.
+pub const FAMILIES: [Family; 19] = [
     family("examples", 0, 0, |_, _| examples()),
-    family("shapes at every width", 0, 0, |_, _| every_width()),
+    family("shapes at every width", 0, 200, |_, n| every_width(n)),
     family("sums of atoms", 60_000, 250, random_cases::sums),
     family("any expression", 10_000, 150, random_cases::any),
-    family("one truth table", 9_000, 150, random_cases::tables),
-    family("lowering", 12_000, 200, random_cases::lowering),
+    family("one truth table", 9_000, 120, random_cases::tables),
+    family("lowering", 12_000, 150, random_cases::lowering),
     family("one hash", 5_000, 100, random_cases::collisions),
     family("products by constants", 8_000, 150, random_cases::products),
     family("sums below constants", 4_000, 100, random_cases::constants),
     family("nonlinear", 4_000, 100, random_cases::nonlinear),
-    family("chains of Xor and Or", 3_000, 40, limits::chains),
+    family("chains of Xor and Or", 3_000, 12, limits::chains),
     family("deep", 0, 0, |_, _| limits::deep()),
     family("edges of the table", 0, 0, |_, _| limits::edges()),
-    family("many atoms", 800, 6, limits::atoms),
-    family("many tree records", 800, 4, limits::tree_records),
+    family("many atoms", 800, 4, limits::atoms),
+    family("many tree records", 800, 2, limits::tree_records),
     family("under a factor 0", 400, 6, limits::zero_factor),
-    family("damaged", 12_000, 300, random_cases::damaged),
-    family("lengths", 2_000, 80, random_cases::lengths),
+    family("casts and shift counts", 4_000, 150, random_cases::casts),
+    family("damaged", 12_000, 250, random_cases::damaged),
+    family("lengths", 2_000, 60, random_cases::lengths),
 ];
 
 /// A call with a result slice of the right length.
@@ -115,6 +117,7 @@ fn examples() -> Vec<Case> {
         shr(sum(), 1),
         not(neg(n(1))),
         not(shr(neg(n(1)), 1)),
+        and(a(), not(neg(n(1)))),
         // only a coefficient of 0 on the way down ends the descent
         mul(mul(a(), n(0)), b()),
         shr(mul(n(0), a()), 1),
@@ -171,8 +174,9 @@ fn examples() -> Vec<Case> {
     cases(all)
 }
 
-/// The same shapes at each width from 1 to 64, with literals at its edges.
-fn every_width() -> Vec<Case> {
+/// The same shapes at each width from 1 to 64, with literals at its edges: all of them, or about
+/// `count`, evenly spaced.
+fn every_width(count: usize) -> Vec<Case> {
     let mut all = Vec::new();
     for w in 1..=64 {
         let top = u64::MAX >> (64 - w);
@@ -190,5 +194,7 @@ fn every_width() -> Vec<Case> {
             ]);
         }
     }
-    cases(all)
+    // an odd step meets all shapes
+    let step = all.len().checked_div(count).map_or(1, |step| step | 1);
+    cases(all.into_iter().step_by(step).collect())
 }

@@ -6,12 +6,16 @@ use std::collections::BTreeMap;
 
 use crate::cases::SEED;
 use crate::entry;
+use crate::form::{Form, RESULT_BYTES};
 use crate::form_model::{self, Written};
 use crate::library;
+use crate::model;
 use crate::normal_cases::{Case, FAMILIES};
+use crate::normal_model;
 use crate::prng::Prng;
 use crate::published;
 use crate::record::{split, RECORD_BYTES};
+use crate::{parted, sorted};
 
 /// What the cases of a family came to: those accepted, those of two terms or more among them, and
 /// those of each refusal.
@@ -75,7 +79,7 @@ impl Differences {
 }
 
 fn input_text(file: &[u8]) -> String {
-    if crate::model::refusal(file) == 0 {
+    if model::refusal(file) == 0 {
         let records = split(file);
         return format!("w = {}, {}", records[0].width, published::text(&records));
     }
@@ -92,6 +96,9 @@ pub fn run() -> Result<(), String> {
         let mut counts = Counts::default();
         for case in (family.make)(rng, family.compared) {
             let wanted = check(&case, &mut faults, &mut partings);
+            if !keeps_value(rng, &case, &wanted) {
+                faults.add("no valid form of the expression's value", &case);
+            }
             counts.add(&wanted);
         }
         println!("{}", counts.line(family.name));
@@ -113,7 +120,7 @@ pub fn run() -> Result<(), String> {
 
 /// The model's answer. Differences from it are noted.
 fn check(case: &Case, faults: &mut Differences, partings: &mut Differences) -> Written {
-    let wanted = crate::normal_model::answer(&case.file, case.length);
+    let wanted = normal_model::answer(&case.file, case.length);
     if library::normalize(&case.file, case.length) != wanted {
         faults.add("the library differs from the model", case);
     }
@@ -121,10 +128,10 @@ fn check(case: &Case, faults: &mut Differences, partings: &mut Differences) -> W
         return wanted;
     }
     let records = split(&case.file);
-    if written(crate::parted::bridge::normalized(&records)) != wanted {
+    if written(parted::bridge::normalized(&records)) != wanted {
         faults.add("the Rust with the partings differs from the model", case);
     }
-    let sorted = crate::sorted::bridge::normalized(&records);
+    let sorted = sorted::bridge::normalized(&records);
     if published::normalized(&records) != sorted {
         partings.add("parting 4, orders of maps", case);
     }
@@ -140,11 +147,21 @@ fn check(case: &Case, faults: &mut Differences, partings: &mut Differences) -> W
     wanted
 }
 
+/// Whether what is accepted is a valid form, of the expression's value under a random assignment.
+fn keeps_value(rng: &mut Prng, case: &Case, wanted: &Written) -> bool {
+    if wanted.refusal != 0 {
+        return true;
+    }
+    let vars: Vec<u64> = (0..256).map(|_| rng.word()).collect();
+    let used = &wanted.out[..wanted.used as usize];
+    form_model::answer(used, &vars) == model::answer(&case.file, &vars)
+}
+
 /// What the Rust's answer is in document 01's bytes. A form that is too long for the slice keeps
 /// its length.
-fn written(answer: Result<crate::form::Form, u64>) -> Written {
+fn written(answer: Result<Form, u64>) -> Written {
     match answer {
         Ok(form) => form_model::written(&form),
-        Err(refusal) => form_model::refused(refusal, crate::form::RESULT_BYTES),
+        Err(refusal) => form_model::refused(refusal, RESULT_BYTES),
     }
 }

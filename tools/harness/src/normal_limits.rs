@@ -107,7 +107,8 @@ pub fn edges() -> Vec<Case> {
     let mut all = Vec::new();
     let w = 8;
     let product = || binary(MUL, variable(w, 0), variable(w, 1));
-    for count in [255, 256, 257] {
+    all.push(atoms_sum(w, 255));
+    for count in [256, 257] {
         let sum = || atoms_sum(w, count);
         let last = || unary(NEG, 0, atom(w, count - 1));
         all.extend([
@@ -125,13 +126,8 @@ pub fn edges() -> Vec<Case> {
     for total in 3071..=3073 {
         all.push(records_sum(w, variable(w, 0), XOR, 54, total));
         all.push(records_sum(w, variable(w, 0), OR, 53, total));
-        let big = left_chain(AND, 300, |i| variable(w, i as u8 % 7));
-        let made = 4 * big.len() + 12;
-        let extra = (total - made - 1) / 2;
-        let sum = records_sum(w, big, XOR, 3, 0);
-        let masked = |i: usize| unary(SHR, 1 + i as u8 % 63, variable(w, 100 + i as u8));
-        let sum = (0..extra.min(100)).fold(sum, |sum, i| add(sum, masked(i)));
-        all.push(sum);
+        let big = left_chain(AND, 382, |i| variable(w, i as u8 % 7));
+        all.push(records_sum(w, big, XOR, 3, total));
     }
     for count in [54, 55] {
         for kind in [XOR, OR] {

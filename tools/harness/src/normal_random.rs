@@ -332,6 +332,21 @@ pub fn nonlinear(rng: &mut Prng, count: usize) -> Vec<Case> {
     })
 }
 
+/// Expressions over all kinds, and bitwise ones with shift counts up to 255.
+pub fn casts(rng: &mut Prng, count: usize) -> Vec<Case> {
+    expressions(rng, count, |rng, w| {
+        let tree = match rng.one_in(2) {
+            true => {
+                let records = 2 + rng.below(12);
+                random::expression(rng, records, w, Kinds::All)
+            }
+            false => unary(SHR, rng.byte(), bitwise(rng, 5, w)),
+        };
+        let other = constant(rng, 4, w);
+        either(rng, ADD, tree, other)
+    })
+}
+
 /// Damaged copies of expressions that are mostly accepted.
 pub fn damaged(rng: &mut Prng, count: usize) -> Vec<Case> {
     let mut all = sums(rng, count);
