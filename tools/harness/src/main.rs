@@ -28,8 +28,10 @@ mod normal_compare;
 mod normal_limits;
 mod normal_model;
 mod normal_random;
+mod normal_small;
 #[cfg(feature = "library")]
 mod normal_stack;
+mod normal_table;
 mod prng;
 mod published;
 mod random;

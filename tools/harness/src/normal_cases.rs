@@ -1,10 +1,12 @@
-//! Expressions to be normalised, by family: those of document 01, one of each shape at every width,
-//! the limits of the table, and random ones (normal_random.rs, normal_limits.rs).
+//! Expressions to be normalised, by family: those of document 01, all small ones (normal_small.rs),
+//! one of each shape at every width, the limits of the table (normal_limits.rs), and random ones
+//! (normal_random.rs).
 
 use crate::collide;
 use crate::form::RESULT_BYTES;
 use crate::normal_limits as limits;
 use crate::normal_random as random_cases;
+use crate::normal_small;
 use crate::prng::Prng;
 use crate::published;
 use crate::record::{
@@ -44,14 +46,15 @@ const fn family(
 }
 
 /// All families.
-pub const FAMILIES: [Family; 19] = [
+pub const FAMILIES: [Family; 20] = [
     family("examples", 0, 0, |_, _| examples()),
+    family("all small ones", 0, 100, |_, n| normal_small::all(n)),
     family("shapes at every width", 0, 200, |_, n| every_width(n)),
     family("sums of atoms", 60_000, 250, random_cases::sums),
     family("any expression", 10_000, 150, random_cases::any),
     family("one truth table", 9_000, 120, random_cases::tables),
     family("lowering", 12_000, 150, random_cases::lowering),
-    family("one hash", 5_000, 100, random_cases::collisions),
+    family("one hash", 5_000, 100, collide::collisions),
     family("products by constants", 8_000, 150, random_cases::products),
     family("sums below constants", 4_000, 100, random_cases::constants),
     family("nonlinear", 4_000, 100, random_cases::nonlinear),

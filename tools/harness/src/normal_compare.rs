@@ -17,6 +17,12 @@ use crate::published;
 use crate::record::{split, RECORD_BYTES};
 use crate::{parted, sorted};
 
+/// The name of a difference between the sources as they stand and with sorted maps.
+const MAP_ORDERS: &str = "parting 4, orders of maps";
+
+/// Inputs of more records are not printed.
+const SHOWN_RECORDS: usize = 8;
+
 /// What the cases of a family came to: those accepted, those of two terms or more among them, and
 /// those of each refusal.
 #[derive(Clone, Copy, Default)]
@@ -50,16 +56,17 @@ impl Counts {
     }
 }
 
-/// How many inputs differ under one name, and the smallest of them.
+/// By name, how many inputs differ, and the smallest of them.
 #[derive(Default)]
-struct Differences(BTreeMap<String, (usize, Vec<u8>)>);
+struct Differences(BTreeMap<&'static str, (usize, Option<Case>)>);
 
 impl Differences {
-    fn add(&mut self, name: &str, case: &Case) {
-        let (count, smallest) = self.0.entry(name.to_string()).or_default();
+    fn add(&mut self, name: &'static str, case: &Case) {
+        let (count, smallest) = self.0.entry(name).or_default();
         *count += 1;
-        if smallest.is_empty() || case.file.len() < smallest.len() {
-            smallest.clone_from(&case.file);
+        let length = smallest.as_ref().map_or(usize::MAX, |s| s.file.len());
+        if case.file.len() < length {
+            *smallest = Some(case.clone());
         }
     }
 
@@ -67,29 +74,37 @@ impl Differences {
         self.0.values().map(|(count, _)| count).sum()
     }
 
-    fn show(&self) {
-        for (name, (count, file)) in &self.0 {
-            let records = file.len() / RECORD_BYTES;
-            println!("{name}: {count} inputs; the smallest has {records} records");
-            if records <= 16 {
-                println!("  {}", input_text(file));
+    /// A line for each name, and the smallest input where it has at most `most` records.
+    fn show(&self, most: usize) {
+        for (name, (count, smallest)) in &self.0 {
+            println!("{name}: {count} inputs");
+            let Some(case) = smallest else {
+                continue;
+            };
+            let records = case.file.len() / RECORD_BYTES;
+            println!("  the smallest has {records} records");
+            if records <= most {
+                println!("  {}", text(case));
             }
         }
     }
 }
 
-fn input_text(file: &[u8]) -> String {
-    if model::refusal(file) == 0 {
-        let records = split(file);
-        return format!("w = {}, {}", records[0].width, published::text(&records));
-    }
-    file.iter().map(|byte| format!("{byte:02x}")).collect()
+/// The expression where it is well formed, the bytes of the file, and the length of the slice.
+fn text(case: &Case) -> String {
+    let bytes: String = case.file.iter().map(|b| format!("{b:02x}")).collect();
+    let infix = match model::refusal(&case.file) {
+        0 => published::text(&split(&case.file)),
+        _ => "refused".to_string(),
+    };
+    format!("{infix}, result slice {}\n  {bytes}", case.length)
 }
 
 pub fn run() -> Result<(), String> {
     let rng = &mut Prng::new(SEED + 2);
     let mut all = Counts::default();
     let (mut faults, mut partings) = (Differences::default(), Differences::default());
+    partings.0.insert(MAP_ORDERS, (0, None));
     println!("| hogzelt_normalize_to_semilinear | inputs | accepted | of two terms or more | 1 | 2 | 3 | 4 | 5 | 6 | 7 | 8 | 9 |");
     println!("|---|---|---|---|---|---|---|---|---|---|---|---|---|");
     for family in &FAMILIES {
@@ -106,8 +121,8 @@ pub fn run() -> Result<(), String> {
     }
     println!("{}", all.line("all"));
     println!("where the build with sorted maps alone gives another answer, by parting:");
-    partings.show();
-    faults.show();
+    partings.show(SHOWN_RECORDS);
+    faults.show(usize::MAX);
     println!(
         "hogzelt_normalize_to_semilinear: {} differences",
         faults.total()
@@ -133,7 +148,7 @@ fn check(case: &Case, faults: &mut Differences, partings: &mut Differences) -> W
     }
     let sorted = sorted::bridge::normalized(&records);
     if published::normalized(&records) != sorted {
-        partings.add("parting 4, orders of maps", case);
+        partings.add(MAP_ORDERS, case);
     }
     let refused_8 = sorted == Err(8);
     if written(sorted) != wanted {

@@ -1,10 +1,8 @@
 //! Random expressions to be normalised, each made so that one part of normalising is often met.
 
-use crate::collide;
 use crate::form::RESULT_BYTES;
 use crate::normal_cases::{add, case, Case};
 use crate::prng::Prng;
-use crate::published;
 use crate::random::{self, Kinds};
 use crate::record::{
     self, binary, literal, unary, variable, Record, Records, ADD, AND, CONSTANT, MAX_RECORDS, MUL,
@@ -12,7 +10,11 @@ use crate::record::{
 };
 
 /// `count` calls on expressions that `make` makes at random widths.
-fn expressions(rng: &mut Prng, count: usize, make: impl Fn(&mut Prng, u8) -> Records) -> Vec<Case> {
+pub fn expressions(
+    rng: &mut Prng,
+    count: usize,
+    make: impl Fn(&mut Prng, u8) -> Records,
+) -> Vec<Case> {
     (0..count)
         .map(|_| {
             let w = random::width(rng);
@@ -21,7 +23,7 @@ fn expressions(rng: &mut Prng, count: usize, make: impl Fn(&mut Prng, u8) -> Rec
         .collect()
 }
 
-fn number(rng: &mut Prng, w: u8) -> Records {
+pub fn number(rng: &mut Prng, w: u8) -> Records {
     let word = random::word(rng, w);
     literal(w, word)
 }
@@ -64,7 +66,7 @@ fn constant(rng: &mut Prng, most: usize, w: u8) -> Records {
 }
 
 /// The two in either order.
-fn either(rng: &mut Prng, kind: u8, first: Records, second: Records) -> Records {
+pub fn either(rng: &mut Prng, kind: u8, first: Records, second: Records) -> Records {
     match rng.one_in(2) {
         true => binary(kind, first, second),
         false => binary(kind, second, first),
@@ -72,7 +74,7 @@ fn either(rng: &mut Prng, kind: u8, first: Records, second: Records) -> Records 
 }
 
 /// The tree as a term: itself, its negative, or times a number.
-fn weighted(rng: &mut Prng, tree: Records, w: u8) -> Records {
+pub fn weighted(rng: &mut Prng, tree: Records, w: u8) -> Records {
     match rng.below(6) {
         0 | 1 => tree,
         2 => unary(NEG, 0, tree),
@@ -84,7 +86,7 @@ fn weighted(rng: &mut Prng, tree: Records, w: u8) -> Records {
 }
 
 /// A sum of the terms, in a chain or two by two.
-fn sum(rng: &mut Prng, mut terms: Vec<Records>) -> Records {
+pub fn sum(rng: &mut Prng, mut terms: Vec<Records>) -> Records {
     while terms.len() > 1 {
         let at = match rng.one_in(2) {
             true => 0,
@@ -202,61 +204,6 @@ fn bitwise_constant(rng: &mut Prng, w: u8) -> Records {
         }
     }
     tree
-}
-
-/// Unlike trees of one hash, mostly over the same variables, met in every order.
-pub fn collisions(rng: &mut Prng, count: usize) -> Vec<Case> {
-    expressions(rng, count, |rng, w| {
-        let variables = rng.pick(&[1, 2, 2, 2, 3, 6, 7]);
-        let first = all_variables(rng, variables, w);
-        let first = match rng.below(4) {
-            0 => first,
-            1 => unary(SHR, rng.byte() % 3, first),
-            _ => {
-                let mask = number(rng, w);
-                binary(AND, first, mask)
-            }
-        };
-        let hash = published::hash(&first);
-        let mut trees = vec![first];
-        for _ in 0..1 + rng.below(3) {
-            let over = match rng.one_in(8) {
-                true => variables + 1,
-                false => variables,
-            };
-            let tree = all_variables(rng, over, w);
-            let mut tree = binary(AND, tree, literal(w, 0));
-            if rng.one_in(3) {
-                tree = unary(rng.pick(&[NOT, SHR]), 0, tree);
-            }
-            trees.push(collide::with_hash(tree, hash));
-        }
-        let terms = (0..2 + rng.below(5))
-            .map(|i| {
-                let at = match i < trees.len() {
-                    true => i,
-                    false => rng.below(trees.len()),
-                };
-                let tree = trees[at].clone();
-                match rng.one_in(3) {
-                    true => weighted(rng, tree, w),
-                    false => tree,
-                }
-            })
-            .collect();
-        sum(rng, terms)
-    })
-}
-
-/// A bitwise tree over exactly the first `count` variables.
-fn all_variables(rng: &mut Prng, count: usize, w: u8) -> Records {
-    let first = rng.below(count);
-    let kinds = [AND, OR, XOR];
-    (1..count).fold(variable(w, first as u8), |tree, i| {
-        let leaf = variable(w, ((first + i) % count) as u8);
-        let kind = rng.pick(&kinds);
-        either(rng, kind, tree, leaf)
-    })
 }
 
 /// Sums times constants, in one another, with factors that are 0 modulo 2^w.
