@@ -87,8 +87,8 @@ pub extern "C" fn hogzelt_normalize_to_semilinear(
     ensures { λ r. ⌜ Gives (normalizeToSemilinear (now (expr .entry)) (length (now (out .entry))))
         (length (now (out .entry))) r (now (used .exit) ∷ now (terms .exit) ∷ []) (now (out .exit)) ⌝ }
 {
-    let answer = semilinear_normalizer::normalize_to_semilinear(expr, out);
-    *used = answer.used;
-    *terms = answer.terms;
-    answer.refusal
+    let found = semilinear_normalizer::normalize_to_semilinear(expr, out);
+    *used = found.used;
+    *terms = found.terms;
+    found.refusal
 }
