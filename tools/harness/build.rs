@@ -143,7 +143,7 @@ fn edited_build(
         write(&folder.join(format!("{name}.rs")), &edited);
         text += &submodule(name, &folder);
     }
-    text += &submodule("dynamic_mask", &package.join("standins"));
+    text += "    pub use crate::ir::dynamic_mask;\n";
     for name in added {
         text += &submodule(name, &package.join("partings"));
     }

@@ -1,6 +1,9 @@
 //! The harness: vectors for the replay program, and comparisons of the static library with the
 //! published Rust and with the model of document 01. See run.sh for the commands.
 
+// bridge.rs is compiled in each build of the published sources
+#![allow(clippy::duplicate_mod)]
+
 include!(concat!(env!("OUT_DIR"), "/published.rs"));
 
 mod bridge;
