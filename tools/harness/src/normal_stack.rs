@@ -3,6 +3,7 @@
 
 use std::hint::black_box;
 
+use crate::collide;
 use crate::form::RESULT_BYTES;
 use crate::library;
 use crate::measure::{stack_used, time_of};
@@ -77,6 +78,7 @@ fn shapes() -> Vec<(&'static str, Records)> {
         _ => literal(64, 3),
     };
     let atom = |i: usize| binary(AND, leaf(i), literal(64, i as u64));
+    let of_one_hash = |i: usize| collide::with_hash(atom(i), 0);
     vec![
         ("one leaf", leaf(0)),
         ("nested Neg", nested(&[NEG], depth, leaf(0))),
@@ -92,6 +94,10 @@ fn shapes() -> Vec<(&'static str, Records)> {
         ),
         ("left chain of Mul", left_chain(MUL, 512, product)),
         ("256 atoms of 3", balanced(ADD, 0, 256, &atom)),
+        (
+            "256 atoms of 3, all of one hash",
+            balanced(ADD, 0, 256, &of_one_hash),
+        ),
         ("54 nested Xor", chain(leaf(0), &[XOR], 54, mask)),
         (
             "511 nested Xor (refused)",
