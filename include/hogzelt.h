@@ -78,6 +78,24 @@ uint64_t hogzelt_semilinear_value(const uint8_t *s, size_t s_len, const uint64_t
 uint64_t hogzelt_compact_atom_table(const uint8_t *s, size_t s_len, uint8_t *out, size_t out_len,
                                     uint64_t *used, uint64_t *terms);
 
+/*
+ * The semilinear form of an expression file: its value is that of the expression, under every
+ * assignment. out_len must be 57,360. Returns 0 for accepted, else the lowest refusal that applies:
+ *   1  expr_len is 0, not a multiple of 16 or above 16,384
+ *   2  out_len is not 57,360
+ *   3 to 6  as for hogzelt_expr_value
+ *   7  an Add, Mul or Neg anywhere below an And, Or, Xor or Not that has no variable
+ *   8  not linear: a product of two factors with variables, or an And, Or, Xor, Not or shift with a
+ *      variable over an Add, Mul or Neg; what has a coefficient of 0 modulo 2^w is not looked at
+ *   9  the atoms, those without a term counted, are more than 256 or their trees have more than
+ *      3,072 records
+ * All of out is written. Where the expression is accepted, the first *used bytes are the form, the
+ * rest is zero, and *terms is the count of its terms. Beside a refusal all out_len bytes are zero,
+ * and so are *used and *terms.
+ */
+uint64_t hogzelt_normalize_to_semilinear(const uint8_t *expr, size_t expr_len, uint8_t *out,
+                                         size_t out_len, uint64_t *used, uint64_t *terms);
+
 #ifdef __cplusplus
 }
 #endif

@@ -1,6 +1,8 @@
 //! Writes the module file that compiles the published Rust sources where they stand, below the
-//! directory named by COBRA_SRC, with the stand-ins of this package beside them. With the feature
-//! `library` it also links the archive named by HOGZELT_LIB.
+//! directory named by COBRA_SRC, with the stand-ins of this package beside them, and then again in
+//! two builds with edited text: `sorted`, whose maps are sorted, and `parted`, which also has
+//! document 01's partings. Edited files stand in OUT_DIR. With the feature `library` it also links
+//! the archive named by HOGZELT_LIB.
 
 use std::env;
 use std::fs;
@@ -40,13 +42,57 @@ const MODULES: [Module; 3] = [
     },
 ];
 
+/// A text in a published file of `cobra-ir`, and what stands in its place everywhere.
+struct Edit {
+    file: &'static str,
+    old: &'static str,
+    new: &'static str,
+}
+
+/// The files of an edited build.
+const EDITED: [&str; 2] = ["semilinear", "semilinear_normalizer"];
+
+/// Sorted maps, and the order of keys that they need.
+const SORTED_MAPS: [Edit; 2] = [
+    Edit {
+        file: "semilinear_normalizer",
+        old: "HashMap",
+        new: "BTreeMap",
+    },
+    Edit {
+        file: "semilinear",
+        old: "PartialEq, Eq)]\npub struct AtomKey",
+        new: "PartialEq, Eq, PartialOrd, Ord)]\npub struct AtomKey",
+    },
+];
+
+/// Parting 5: refusals 7 and 9 (partings/parting_5.rs).
+const PARTING_5: [Edit; 2] = [
+    Edit {
+        file: "semilinear_normalizer",
+        old: "    if !is_uniform_width(expr, &[], bitwidth) {",
+        new: "    crate::parted::ir::parting_5::refusal_7(expr)?;\n    \
+              if !is_uniform_width(expr, &[], bitwidth) {",
+    },
+    Edit {
+        file: "semilinear_normalizer",
+        old: "    Ok(ir)\n",
+        new: "    crate::parted::ir::parting_5::refusal_9(&ir)?;\n    Ok(ir)\n",
+    },
+];
+
 fn main() {
     println!("cargo:rerun-if-changed=build.rs");
     println!("cargo:rerun-if-env-changed=COBRA_SRC");
     let sources = PathBuf::from(variable("COBRA_SRC")).join("crates");
-    let standins = PathBuf::from(variable("CARGO_MANIFEST_DIR")).join("standins");
-    let out = PathBuf::from(variable("OUT_DIR")).join("published.rs");
-    fs::write(&out, module_file(&sources, &standins)).expect("OUT_DIR can be written");
+    let package = PathBuf::from(variable("CARGO_MANIFEST_DIR"));
+    let out = PathBuf::from(variable("OUT_DIR"));
+    let mut text = module_file(&sources, &package.join("standins"));
+    text += &edited_build("sorted", &[&SORTED_MAPS], &[], &sources, &package, &out);
+    let edits: [&[Edit]; 2] = [&SORTED_MAPS, &PARTING_5];
+    let added = ["parting_5"];
+    text += &edited_build("parted", &edits, &added, &sources, &package, &out);
+    write(&out.join("published.rs"), &text);
     if env::var_os("CARGO_FEATURE_LIBRARY").is_some() {
         link_library();
     }
@@ -73,6 +119,59 @@ fn module_file(sources: &Path, standins: &Path) -> String {
         text += "}\n";
     }
     text
+}
+
+/// The module of an edited build: its edited files, the stand-in that they need, the files that the
+/// edits call, and the bridge over this build's types.
+fn edited_build(
+    build: &str,
+    edits: &[&[Edit]],
+    added: &[&str],
+    sources: &Path,
+    package: &Path,
+    out: &Path,
+) -> String {
+    let folder = out.join(build);
+    fs::create_dir_all(&folder).expect("OUT_DIR can be written");
+    let mut text = format!("#[allow(dead_code, unused)]\npub mod {build} {{\npub mod ir {{\n");
+    for name in EDITED {
+        let source = sources.join("cobra-ir/src").join(format!("{name}.rs"));
+        println!("cargo:rerun-if-changed={}", source.display());
+        let published = fs::read_to_string(&source).expect("a published file");
+        let edited = edit(published, name, edits);
+        let edited = edited.replace("crate::ir::", &format!("crate::{build}::ir::"));
+        write(&folder.join(format!("{name}.rs")), &edited);
+        text += &submodule(name, &folder);
+    }
+    text += "    pub use crate::ir::dynamic_mask;\n";
+    for name in added {
+        text += &submodule(name, &package.join("partings"));
+    }
+    text += "}\n";
+    text += &submodule("bridge", &package.join("src"));
+    text + "}\n"
+}
+
+/// The text of a file with the edits that name it. A text that does not occur is a fault.
+fn edit(mut text: String, file: &str, edits: &[&[Edit]]) -> String {
+    for edit in edits
+        .iter()
+        .copied()
+        .flatten()
+        .filter(|edit| edit.file == file)
+    {
+        assert!(
+            text.contains(edit.old),
+            "{file}.rs does not hold {:?}",
+            edit.old
+        );
+        text = text.replace(edit.old, edit.new);
+    }
+    text
+}
+
+fn write(file: &Path, text: &str) {
+    fs::write(file, text).expect("OUT_DIR can be written");
 }
 
 fn submodule(name: &str, folder: &Path) -> String {

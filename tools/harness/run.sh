@@ -3,7 +3,9 @@
 #   run.sh vectors OUT       write the vector file OUT (docs/VECTORS.md) and print its counts
 #   run.sh dump FILE [N]     print a vector file, or its entry N, as text
 #   run.sh test              check the models against document 01's examples and the published Rust
-#   run.sh compare           compare the static library with the models and the published Rust
+#   run.sh compare [normalize]
+#                            compare the static library with the models and the published Rust, or
+#                            normalising alone
 #   run.sh stack             measure the stack and the time of the functions that walk trees
 # compare and stack build target/staticlib/libhogzelt.a with rt. Where HOGZELT_LIB names an archive
 # libhogzelt.a, that one is taken and nothing is built.
@@ -22,8 +24,9 @@ command=${1:-}
 case "$command" in
 vectors) [ $# -eq 2 ] || stop "usage: run.sh vectors OUT" ;;
 dump) [ $# -eq 2 ] || [ $# -eq 3 ] || stop "usage: run.sh dump FILE [N]" ;;
-test | compare | stack) [ $# -eq 1 ] || stop "usage: run.sh $command" ;;
-*) stop "usage: run.sh vectors OUT | dump FILE [N] | test | compare | stack" ;;
+compare) [ $# -eq 1 ] || [ "$*" = "compare normalize" ] || stop "usage: run.sh compare [normalize]" ;;
+test | stack) [ $# -eq 1 ] || stop "usage: run.sh $command" ;;
+*) stop "usage: run.sh vectors OUT | dump FILE [N] | test | compare [normalize] | stack" ;;
 esac
 
 command -v cargo >/dev/null 2>&1 || stop "cargo is missing"

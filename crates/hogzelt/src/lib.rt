@@ -7,6 +7,7 @@ ghost use Rattle.expr.specs.ExprValue.{IsExprValue};
 ghost use Rattle.semilinear.specs.Value.{IsSemilinearValue};
 ghost use Rattle.semilinear.specs.Outcome.{Gives};
 ghost use Rattle.semilinear.specs.Compact.{compactAtomTable};
+ghost use Rattle.semilinear_normalizer.specs.Normalize.{normalizeToSemilinear};
 
 // The value of an expression under an assignment; returns the refusal, 0 where it is accepted.
 #[no_mangle]
@@ -73,4 +74,21 @@ pub extern "C" fn hogzelt_compact_atom_table(
     *used = answer.used;
     *terms = answer.terms;
     answer.refusal
+}
+
+// The semilinear form of an expression; returns the refusal, 0 where it is accepted.
+#[no_mangle]
+pub extern "C" fn hogzelt_normalize_to_semilinear(
+    expr: &[u8],
+    out: &mut [u8],
+    used: &mut u64,
+    terms: &mut u64,
+) -> u64
+    ensures { λ r. ⌜ Gives (normalizeToSemilinear (now (expr .entry)) (length (now (out .entry))))
+        (length (now (out .entry))) r (now (used .exit) ∷ now (terms .exit) ∷ []) (now (out .exit)) ⌝ }
+{
+    let found = semilinear_normalizer::normalize_to_semilinear(expr, out);
+    *used = found.used;
+    *terms = found.terms;
+    found.refusal
 }

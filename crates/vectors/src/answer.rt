@@ -7,7 +7,7 @@ pub struct Answer {
 // The refusal of an entry whose words or lengths are not those of its type. No entry expects it.
 const MALFORMED: u64 = 256;
 
-// The refusal of an entry of type 7 with other result bytes than expected. No entry expects it.
+// The refusal of an entry of type 7 or 8 with other result bytes than expected. No entry expects it.
 const OTHER_BYTES: u64 = 257;
 
 // What stands in a result before a call, so that one which is not written shows.
@@ -120,12 +120,20 @@ fn packed(used: u64, terms: u64) -> u64 {
     (terms << 32) | used
 }
 
-// Type 7, over the result slice out: the refusal and the numbers found.
-fn compact(form: &[u8], wanted: &[u8], out: &mut [u8]) -> Answer {
+// What the function of type 7 or 8 gives for an input.
+fn write_form(kind: u8, input: &[u8], out: &mut [u8], used: &mut u64, terms: &mut u64) -> u64 {
+    if kind == 7 {
+        return hogzelt::hogzelt_compact_atom_table(input, out, used, terms);
+    }
+    hogzelt::hogzelt_normalize_to_semilinear(input, out, used, terms)
+}
+
+// Types 7 and 8, over the result slice out: the refusal and the numbers found.
+fn written(kind: u8, input: &[u8], wanted: &[u8], out: &mut [u8]) -> Answer {
     fill(out);
     let mut used = UNWRITTEN;
     let mut terms = UNWRITTEN;
-    let refusal = hogzelt::hogzelt_compact_atom_table(form, out, &mut used, &mut terms);
+    let refusal = write_form(kind, input, out, &mut used, &mut terms);
     let value = packed(used, terms);
     if !result_ok(refusal, out, wanted) {
         return Answer {
@@ -136,9 +144,9 @@ fn compact(form: &[u8], wanted: &[u8], out: &mut [u8]) -> Answer {
     Answer { refusal, value }
 }
 
-// Type 7, which has one word, the length of the result slice: the last `used` bytes are the expected
-// result, those before them the form.
-fn compaction(bytes: &[u8], words: &[u64], used: usize, out: &mut [u8]) -> Answer {
+// Types 7 and 8, which have one word, the length of the result slice: the last `used` bytes are the
+// expected result, those before them the form or the expression.
+fn writing(kind: u8, bytes: &[u8], words: &[u64], used: usize, out: &mut [u8]) -> Answer {
     if words.len() != 1 {
         return malformed();
     }
@@ -150,7 +158,7 @@ fn compaction(bytes: &[u8], words: &[u64], used: usize, out: &mut [u8]) -> Answe
         return malformed();
     }
     let n = bytes.len() - used;
-    compact(&bytes[..n], &bytes[n..], &mut out[..length])
+    written(kind, &bytes[..n], &bytes[n..], &mut out[..length])
 }
 
 // What the function of a type gives. `value` is the expected value, `out` room for a result slice.
@@ -159,7 +167,7 @@ pub fn answer_of(kind: u8, value: u64, bytes: &[u8], words: &[u64], out: &mut [u
         1 => expr_value(bytes, words),
         2 => hash(bytes),
         6 => form_value(bytes, words),
-        7 => compaction(bytes, words, (value % 0x1_0000_0000) as usize, out),
+        7 | 8 => writing(kind, bytes, words, (value % 0x1_0000_0000) as usize, out),
         _ => masks(kind, words),
     }
 }

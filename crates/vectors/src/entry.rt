@@ -77,16 +77,16 @@ fn run(head: Head, bytes: &[u8], out: &mut [u8]) -> Answer
 }
 
 // One more in the count of a type. It does not wrap, since the number of entries is bounded.
-fn count(counts: &mut [u64; 8], kind: u8)
-    requires { ⌜ kind < 8 ⌝ }
+fn count(counts: &mut [u64; 9], kind: u8)
+    requires { ⌜ kind < 9 ⌝ }
 {
     let k = kind as usize;
     counts[k] = std::num::wrapping_add_u64(counts[k], 1);
 }
 
 // Counts a difference; the first five of a type are printed.
-fn differ(at: u64, head: Head, found: Answer, differences: &mut [u64; 8])
-    requires { ⌜ head .kind < 8 ⌝ }
+fn differ(at: u64, head: Head, found: Answer, differences: &mut [u64; 9])
+    requires { ⌜ head .kind < 9 ⌝ }
 {
     let k = head.kind as usize;
     if differences[k] < 5 {
@@ -96,8 +96,8 @@ fn differ(at: u64, head: Head, found: Answer, differences: &mut [u64; 8])
 }
 
 // Counts an entry, and compares what was found with what is expected.
-fn compare(at: u64, head: Head, found: Answer, entries: &mut [u64; 8], differences: &mut [u64; 8])
-    requires { ⌜ head .kind < 8 ⌝ }
+fn compare(at: u64, head: Head, found: Answer, entries: &mut [u64; 9], differences: &mut [u64; 9])
+    requires { ⌜ head .kind < 9 ⌝ }
 {
     count(entries, head.kind);
     let expected = head.expected;
@@ -116,10 +116,10 @@ fn body(
     head: Head,
     bytes: &mut [u8; 116784],
     out: &mut [u8; 57376],
-    entries: &mut [u64; 8],
-    differences: &mut [u64; 8],
+    entries: &mut [u64; 9],
+    differences: &mut [u64; 9],
 ) -> bool
-    requires { ⌜ head .kind < 8 ⌝ }
+    requires { ⌜ head .kind < 9 ⌝ }
 {
     if 256 < head.words {
         report::malformed(at, b"too many words");
@@ -156,8 +156,8 @@ pub fn step(
     at: u64,
     bytes: &mut [u8; 116784],
     out: &mut [u8; 57376],
-    entries: &mut [u64; 8],
-    differences: &mut [u64; 8],
+    entries: &mut [u64; 9],
+    differences: &mut [u64; 9],
 ) -> bool {
     let mut front = [0u8; 16];
     if io::read_full(0, &mut front) != 16 {
@@ -170,7 +170,7 @@ pub fn step(
         end(at, expected.value);
         return false;
     }
-    if 7 < head.kind {
+    if 8 < head.kind {
         report::malformed(at, b"unknown type");
         return false;
     }

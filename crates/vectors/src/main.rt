@@ -11,8 +11,8 @@ const MOST_ENTRIES: u64 = 1_000_000;
 fn replay(
     bytes: &mut [u8; 116784],
     out: &mut [u8; 57376],
-    entries: &mut [u64; 8],
-    differences: &mut [u64; 8],
+    entries: &mut [u64; 9],
+    differences: &mut [u64; 9],
 ) {
     let mut at = 0;
     while at < MOST_ENTRIES {
@@ -25,9 +25,9 @@ fn replay(
 }
 
 // A line for each type.
-fn summary(entries: &[u64; 8], differences: &[u64; 8]) {
+fn summary(entries: &[u64; 9], differences: &[u64; 9]) {
     let mut kind = 1;
-    while kind < 8 {
+    while kind < 9 {
         report::summary(kind, entries[kind], differences[kind]);
         kind += 1;
     }
@@ -37,8 +37,8 @@ fn summary(entries: &[u64; 8], differences: &[u64; 8]) {
 fn main() {
     let mut bytes = [0u8; 116784];
     let mut out = [0u8; 57376];
-    let mut entries = [0u64; 8];
-    let mut differences = [0u64; 8];
+    let mut entries = [0u64; 9];
+    let mut differences = [0u64; 9];
     replay(&mut bytes, &mut out, &mut entries, &mut differences);
     summary(&entries, &differences);
 }

@@ -47,7 +47,8 @@ fn name(kind: usize) {
         4 => text(b"can_change_mask_to"),
         5 => text(b"can_change_coefficient_to"),
         6 => text(b"semilinear value"),
-        _ => text(b"compact_atom_table"),
+        7 => text(b"compact_atom_table"),
+        _ => text(b"normalize_to_semilinear"),
     }
 }
 

@@ -1,5 +1,5 @@
 //! All cases of the vector file: the hand-chosen expression files, random and damaged ones, hashes,
-//! calls of the mask functions, and semilinear forms.
+//! calls of the mask functions, semilinear forms, and expressions to be normalised.
 
 use crate::entry::{self, Entry, CHANGE_COEFFICIENT, CHANGE_MASK, REDUCE_MASK};
 use crate::form::{Form, RESULT_BYTES};
@@ -9,7 +9,7 @@ use crate::record::{
     self, balanced, binary, literal, nested, smallest, unary, variable, ADD, MAX_RECORDS, NEG, SHR,
     XOR,
 };
-use crate::{edges, form_edges, form_limits, form_random, masks, published};
+use crate::{edges, form_edges, form_limits, form_random, masks, normal_cases, published};
 
 /// The seed of the vector file: the letters of "hogzelt".
 pub const SEED: u64 = 0x0068_6F67_7A65_6C74;
@@ -44,6 +44,11 @@ pub fn entries() -> Vec<Entry> {
     all.extend(form_edges::entries());
     all.extend(form_limits::entries(rng));
     all.extend(random_forms(rng));
+    for family in &normal_cases::FAMILIES {
+        for case in (family.make)(rng, family.stored) {
+            all.push(entry::normalize(case.file, case.length));
+        }
+    }
     all
 }
 
@@ -76,7 +81,7 @@ pub fn normalised_form(rng: &mut Prng) -> Form {
         let w = random::width(rng);
         let count = 8 + rng.below(24);
         let records = random::expression(rng, count, w, Kinds::Accepted);
-        if let Some(form) = published::normalized(&records) {
+        if let Ok(form) = published::normalized(&records) {
             return form;
         }
     }

@@ -12,7 +12,7 @@ use crate::form_model::Written;
 use crate::model::Answer;
 use crate::prng::Prng;
 use crate::random::{self, Kinds};
-use crate::{form_random, library, masks};
+use crate::{form_random, library, masks, normal_compare};
 
 /// Random inputs for each function, beside the cases of the vector file.
 const RANDOM_INPUTS: usize = 250_000;
@@ -27,7 +27,8 @@ pub fn run() -> Result<(), String> {
         compare_masks(rng, &edges, kind)?;
     }
     compare_form_values(rng, &edges)?;
-    compare_compactions(rng, &edges)
+    compare_compactions(rng, &edges)?;
+    normal_compare::run()
 }
 
 /// How many inputs had which refusal.

@@ -1,6 +1,6 @@
 //! A vector file as text, one block of lines for each entry.
 
-use crate::entry::{Entry, COMPACT, FORM_VALUE, HASH, REDUCE_MASK, TYPE_NAMES, VALUE};
+use crate::entry::{Entry, COMPACT, FORM_VALUE, HASH, NORMALIZE, REDUCE_MASK, TYPE_NAMES, VALUE};
 use crate::record::{split, RECORD_BYTES};
 use crate::{form_model, model, published};
 
@@ -23,7 +23,7 @@ fn entry_text(number: usize, entry: &Entry) -> String {
     let bytes = match entry.kind {
         VALUE | HASH => expression_text(&entry.bytes),
         FORM_VALUE => form_text("form", &entry.bytes),
-        COMPACT => compact_text(entry),
+        COMPACT | NORMALIZE => writing_text(entry),
         _ => String::new(),
     };
     format!(
@@ -33,15 +33,19 @@ fn entry_text(number: usize, entry: &Entry) -> String {
     )
 }
 
-/// The form and, behind it, the expected result.
-fn compact_text(entry: &Entry) -> String {
+/// The form or the expression and, behind it, the expected result.
+fn writing_text(entry: &Entry) -> String {
     let used = entry.expected as u32 as usize;
-    let (form, result) = entry.bytes.split_at(entry.bytes.len().saturating_sub(used));
+    let (input, result) = entry.bytes.split_at(entry.bytes.len().saturating_sub(used));
     let result = match used {
         0 => String::new(),
         _ => form_text("result", result),
     };
-    form_text("form", form) + &result
+    let input = match entry.kind {
+        COMPACT => form_text("form", input),
+        _ => expression_text(input),
+    };
+    input + &result
 }
 
 /// Atoms and terms where the bytes are a valid form, else the bytes, a record to a line.
@@ -102,6 +106,7 @@ fn outcomes(kind: u8) -> Vec<&'static str> {
         HASH => vec!["hash"],
         FORM_VALUE => [0, 1, 10].map(refusal_name).to_vec(),
         COMPACT => [0, 1, 2, 10].map(refusal_name).to_vec(),
+        NORMALIZE => (0..=9).map(refusal_name).collect(),
         REDUCE_MASK => vec!["mask 0", "another mask"],
         _ => vec!["false", "true"],
     }
@@ -109,7 +114,7 @@ fn outcomes(kind: u8) -> Vec<&'static str> {
 
 fn outcome(entry: &Entry) -> &'static str {
     match (entry.kind, entry.expected) {
-        (VALUE | FORM_VALUE | COMPACT, _) => refusal_name(entry.refusal),
+        (VALUE | FORM_VALUE | COMPACT | NORMALIZE, _) => refusal_name(entry.refusal),
         (HASH, _) => "hash",
         (REDUCE_MASK, 0) => "mask 0",
         (REDUCE_MASK, _) => "another mask",
@@ -127,6 +132,9 @@ fn refusal_name(refusal: u8) -> &'static str {
         4 => "refusal 4",
         5 => "refusal 5",
         6 => "refusal 6",
+        7 => "refusal 7",
+        8 => "refusal 8",
+        9 => "refusal 9",
         10 => "refusal 10",
         _ => "another refusal",
     }

@@ -3,7 +3,7 @@
 
 use crate::form_model::{self, Written};
 use crate::record::RECORD_BYTES;
-use crate::{form, model, published, record};
+use crate::{form, model, normal_model, published, record};
 
 pub const HEAD_BYTES: usize = 16;
 pub const MAX_WORDS: usize = 256;
@@ -18,9 +18,10 @@ pub const CHANGE_MASK: u8 = 4;
 pub const CHANGE_COEFFICIENT: u8 = 5;
 pub const FORM_VALUE: u8 = 6;
 pub const COMPACT: u8 = 7;
+pub const NORMALIZE: u8 = 8;
 
 /// The names of the entry types, by number.
-pub const TYPE_NAMES: [&str; 8] = [
+pub const TYPE_NAMES: [&str; 9] = [
     "end",
     "expression value",
     "structural hash",
@@ -29,6 +30,7 @@ pub const TYPE_NAMES: [&str; 8] = [
     "can_change_coefficient_to",
     "semilinear value",
     "compact_atom_table",
+    "normalize_to_semilinear",
 ];
 
 #[derive(Clone, Debug, PartialEq, Eq)]
@@ -37,7 +39,7 @@ pub struct Entry {
     pub refusal: u8,
     pub expected: u64,
     pub words: Vec<u64>,
-    /// the expression or the form; in type 7 the used part of the result stands behind it
+    /// the expression or the form; in types 7 and 8 the used part of the result stands behind it
     pub bytes: Vec<u8>,
 }
 
@@ -104,11 +106,22 @@ pub fn form_value(bytes: Vec<u8>, words: Vec<u64>) -> Entry {
 }
 
 /// An entry of compaction into a result slice of `length` bytes. Model and Rust must agree.
-pub fn compact(mut bytes: Vec<u8>, length: usize) -> Entry {
+pub fn compact(bytes: Vec<u8>, length: usize) -> Entry {
     let written = compact_answer(&bytes, length);
+    writing(COMPACT, bytes, length, &written)
+}
+
+/// An entry of normalising into a result slice of `length` bytes. Model and Rust must agree.
+pub fn normalize(file: Vec<u8>, length: usize) -> Entry {
+    let written = normalize_answer(&file, length);
+    writing(NORMALIZE, file, length, &written)
+}
+
+/// An entry of a function that writes a form, with what it is to write.
+fn writing(kind: u8, mut bytes: Vec<u8>, length: usize, written: &Written) -> Entry {
     bytes.extend(&written.out[..written.used as usize]);
     Entry {
-        kind: COMPACT,
+        kind,
         refusal: written.refusal as u8,
         expected: written.terms << 32 | written.used,
         words: vec![length as u64],
@@ -125,6 +138,25 @@ pub fn compact_answer(bytes: &[u8], length: usize) -> Written {
         assert_eq!(written, rust, "the model compacts as the Rust does");
     }
     written
+}
+
+/// What normalising gives: refusals 1 to 6 are the model's; where the expression and the slice are
+/// well formed, the answer is also that of the Rust with document 01's partings.
+pub fn normalize_answer(file: &[u8], length: usize) -> Written {
+    let written = normal_model::answer(file, length);
+    if rust_normalizes(file, length) {
+        let rust = match crate::parted::bridge::normalized(&record::split(file)) {
+            Ok(form) => form_model::written(&form),
+            Err(refusal) => form_model::refused(refusal, length),
+        };
+        assert_eq!(written, rust, "the model normalises as the Rust does");
+    }
+    written
+}
+
+/// Whether the Rust can be asked to normalise: refusals 1 to 6 are about bytes, which it has not.
+pub fn rust_normalizes(file: &[u8], length: usize) -> bool {
+    model::refusal(file) == 0 && length == form::RESULT_BYTES
 }
 
 /// The bytes of a vector file.

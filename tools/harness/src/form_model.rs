@@ -7,7 +7,7 @@ use crate::model::{self, Answer};
 use crate::published;
 use crate::record::{split, Record, AND, CONSTANT, NOT, OR, RECORD_BYTES, SHR, VARIABLE, XOR};
 
-/// What compaction hands over: the refusal, the used length and the count of terms, both 0 beside a
+/// What compaction and normalising hand over: the refusal, the used length and the count of terms, both 0 beside a
 /// refusal, and every byte of the result slice.
 #[derive(Clone, Debug, PartialEq, Eq)]
 pub struct Written {
@@ -158,12 +158,17 @@ pub fn compact(bytes: &[u8], length: usize) -> Written {
     };
     match form {
         Ok(form) => written(&compacted(&form)),
-        Err(refusal) => Written {
-            refusal,
-            used: 0,
-            terms: 0,
-            out: vec![0; length],
-        },
+        Err(refusal) => refused(refusal, length),
+    }
+}
+
+/// What a refused call hands over: zeros in the whole slice.
+pub fn refused(refusal: u64, length: usize) -> Written {
+    Written {
+        refusal,
+        used: 0,
+        terms: 0,
+        out: vec![0; length],
     }
 }
 

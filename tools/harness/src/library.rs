@@ -27,6 +27,14 @@ mod raw {
             used: *mut u64,
             terms: *mut u64,
         ) -> u64;
+        pub fn hogzelt_normalize_to_semilinear(
+            expr: *const u8,
+            expr_len: usize,
+            out: *mut u8,
+            out_len: usize,
+            used: *mut u64,
+            terms: *mut u64,
+        ) -> u64;
     }
 }
 
@@ -85,10 +93,32 @@ pub fn semilinear_value(form: &[u8], vars: &[u64]) -> Answer {
     Answer { refusal, value }
 }
 
+/// A function that writes a form: input, result slice, used length and count of terms.
+type Writer = unsafe extern "C" fn(*const u8, usize, *mut u8, usize, *mut u64, *mut u64) -> u64;
+
 /// The library's compaction of a form into a result slice of `length` bytes.
 pub fn compact(form: &[u8], length: usize) -> Written {
+    written(raw::hogzelt_compact_atom_table, form, length)
+}
+
+/// The library's form of an expression file, in a result slice of `length` bytes.
+pub fn normalize(file: &[u8], length: usize) -> Written {
+    written(raw::hogzelt_normalize_to_semilinear, file, length)
+}
+
+/// Compaction into `out`: the refusal, the used length, the count of terms.
+pub fn compact_into(form: &[u8], out: &mut [u8]) -> [u64; 3] {
+    write_into(raw::hogzelt_compact_atom_table, form, out)
+}
+
+/// Normalising into `out`, likewise.
+pub fn normalize_into(file: &[u8], out: &mut [u8]) -> [u64; 3] {
+    write_into(raw::hogzelt_normalize_to_semilinear, file, out)
+}
+
+fn written(writer: Writer, input: &[u8], length: usize) -> Written {
     let mut out = vec![UNWRITTEN_BYTE; length + GUARD_BYTES];
-    let [refusal, used, terms] = compact_into(form, &mut out[..length]);
+    let [refusal, used, terms] = write_into(writer, input, &mut out[..length]);
     let guard = out.split_off(length);
     assert_eq!(
         guard, [UNWRITTEN_BYTE; GUARD_BYTES],
@@ -102,14 +132,13 @@ pub fn compact(form: &[u8], length: usize) -> Written {
     }
 }
 
-/// The library's compaction of a form into `out`: the refusal, the used length, the count of terms.
-pub fn compact_into(form: &[u8], out: &mut [u8]) -> [u64; 3] {
+fn write_into(writer: Writer, input: &[u8], out: &mut [u8]) -> [u64; 3] {
     let (mut used, mut terms) = (UNWRITTEN, UNWRITTEN);
     // SAFETY: both slices are valid for their lengths; what is written lies in neither and apart.
     let refusal = unsafe {
-        raw::hogzelt_compact_atom_table(
-            form.as_ptr(),
-            form.len(),
+        writer(
+            input.as_ptr(),
+            input.len(),
             out.as_mut_ptr(),
             out.len(),
             &mut used,

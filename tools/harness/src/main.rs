@@ -1,9 +1,14 @@
 //! The harness: vectors for the replay program, and comparisons of the static library with the
 //! published Rust and with the model of document 01. See run.sh for the commands.
 
+// bridge.rs is compiled in each build of the published sources
+#![allow(clippy::duplicate_mod)]
+
 include!(concat!(env!("OUT_DIR"), "/published.rs"));
 
+mod bridge;
 mod cases;
+mod collide;
 #[cfg(feature = "library")]
 mod compare;
 mod dump;
@@ -20,6 +25,16 @@ mod masks;
 #[cfg(feature = "library")]
 mod measure;
 mod model;
+mod normal_cases;
+#[cfg(feature = "library")]
+mod normal_compare;
+mod normal_limits;
+mod normal_model;
+mod normal_random;
+mod normal_small;
+#[cfg(feature = "library")]
+mod normal_stack;
+mod normal_table;
 mod prng;
 mod published;
 mod random;
@@ -43,6 +58,8 @@ fn main() -> ExitCode {
         }
         #[cfg(feature = "library")]
         ["compare"] => compare::run(),
+        #[cfg(feature = "library")]
+        ["compare", "normalize"] => normal_compare::run(),
         #[cfg(feature = "library")]
         ["stack"] => stack::run(),
         _ => Err("no such command; run.sh lists them".to_string()),

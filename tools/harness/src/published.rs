@@ -1,16 +1,13 @@
-//! The published Rust behind the names that the harness uses: expression files become its `Expr`,
-//! semilinear forms its `SemilinearIR`, and back.
+//! The published Rust behind the names that the harness uses: expression files become its `Expr`
+//! and back. bridge.rs does the same for semilinear forms, in each build.
 
 use std::sync::Arc;
 
 use crate::core::expr::{render, Expr, Kind};
-use crate::form::{Atom, Form, Term};
-use crate::ir::semilinear::{
-    compact_atom_table, create_atom, structural_hash, OperatorFamily, SemilinearIR, WeightedAtom,
-};
-use crate::ir::semilinear_normalizer::normalize_to_semilinear;
+use crate::ir::semilinear::structural_hash;
 use crate::record::{self, Record, Records};
 
+pub use crate::bridge::{compacted, normalized};
 pub use crate::ir::term_refiner::{can_change_coefficient_to, can_change_mask_to, reduce_mask};
 
 /// The tree of a well-formed expression.
@@ -71,7 +68,7 @@ pub fn text(records: &[Record]) -> String {
 }
 
 /// The records of a tree without casts, at w bits.
-fn records(tree: &Expr, w: u8) -> Records {
+pub fn records(tree: &Expr, w: u8) -> Records {
     let child = |i: usize| records(&tree.children[i], w);
     let unary = |kind: u8, arg: u8| record::unary(kind, arg, child(0));
     let binary = |kind: u8| record::binary(kind, child(0), child(1));
@@ -90,68 +87,6 @@ fn records(tree: &Expr, w: u8) -> Records {
     }
 }
 
-fn byte(number: u32) -> u8 {
+pub fn byte(number: u32) -> u8 {
     u8::try_from(number).expect("a number that a record can hold")
-}
-
-/// Provenances, by their numbers in document 01.
-const FAMILIES: [OperatorFamily; 5] = [
-    OperatorFamily::And,
-    OperatorFamily::Or,
-    OperatorFamily::Xor,
-    OperatorFamily::Not,
-    OperatorFamily::Mixed,
-];
-
-/// The Rust's form of a valid one, its atoms made by `create_atom`.
-fn ir(form: &Form) -> SemilinearIR {
-    let mut ir = SemilinearIR {
-        constant: form.constant,
-        bitwidth: u32::from(form.width),
-        ..SemilinearIR::default()
-    };
-    for atom in &form.atoms {
-        let family = FAMILIES[usize::from(atom.provenance)];
-        create_atom(&mut ir, expr(&atom.tree), family);
-    }
-    let term = |term: &Term| WeightedAtom {
-        coeff: term.coeff,
-        atom_id: u32::from(term.atom),
-    };
-    ir.terms = form.terms.iter().map(term).collect();
-    ir
-}
-
-/// Document 01's form of the Rust's, with the hashes and atom numbers that the Rust keeps.
-fn form(ir: &SemilinearIR) -> Form {
-    let mut form = Form::new(byte(ir.bitwidth), ir.constant);
-    for (number, info) in (0u32..).zip(&ir.atom_table) {
-        assert_eq!(info.atom_id, number, "atoms stand in number order");
-        let family = FAMILIES.iter().position(|f| *f == info.provenance);
-        form.atoms.push(Atom {
-            provenance: family.expect("one of five") as u8,
-            hash: info.structural_hash,
-            tree: records(&info.original_subtree, form.width),
-        });
-    }
-    let term = |term: &WeightedAtom| Term {
-        atom: u16::try_from(term.atom_id).expect("a number that a term can hold"),
-        coeff: term.coeff,
-    };
-    form.terms = ir.terms.iter().map(term).collect();
-    form
-}
-
-/// `compact_atom_table` of a valid form.
-pub fn compacted(valid: &Form) -> Form {
-    let mut ir = ir(valid);
-    compact_atom_table(&mut ir);
-    form(&ir)
-}
-
-/// `normalize_to_semilinear` of an accepted expression; none where it is not linear.
-pub fn normalized(records: &[Record]) -> Option<Form> {
-    let w = u32::from(records[0].width);
-    let ir = normalize_to_semilinear(&expr(records), &[], w).ok()?;
-    Some(form(&ir))
 }

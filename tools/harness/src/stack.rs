@@ -10,6 +10,7 @@ use crate::form_random;
 use crate::library;
 use crate::measure::{stack_used, time_of};
 use crate::model;
+use crate::normal_stack;
 use crate::prng::Prng;
 use crate::random::{self, Kinds};
 use crate::record::{
@@ -19,17 +20,25 @@ use crate::record::{
 
 const VARS: [u64; 3] = [1, 2, 3];
 
+/// The most stack that a call may use.
+const STACK_BAR: usize = 1 << 20;
+
 pub fn run() -> Result<(), String> {
     println!("stack, no call: {} bytes", stack_used(&mut || {})?);
-    let most = expression_stacks()?.max(form_stacks()?);
+    let most = expression_stacks()?
+        .max(form_stacks()?)
+        .max(normal_stack::stacks()?);
     println!("stack, most: {most} bytes");
+    if most > STACK_BAR {
+        return Err(format!("a call used more than {STACK_BAR} bytes of stack"));
+    }
     expression_times();
     form_times();
-    Ok(())
+    normal_stack::times()
 }
 
 /// Prints what a call used, and gives the most of it and `most`.
-fn show_stack(function: &str, shape: &str, file: &[u8], used: usize, most: usize) -> usize {
+pub fn show_stack(function: &str, shape: &str, file: &[u8], used: usize, most: usize) -> usize {
     let records = file.len() / RECORD_BYTES;
     println!("stack, {function}, {shape} (records: {records}): {used} bytes");
     most.max(used)
@@ -196,7 +205,7 @@ fn timed_forms() -> Vec<(&'static str, Vec<u8>)> {
     ]
 }
 
-fn show_time(function: &str, shape: &str, file: &[u8], work: impl FnMut()) {
+pub fn show_time(function: &str, shape: &str, file: &[u8], work: impl FnMut()) {
     let records = file.len() / RECORD_BYTES;
     println!(
         "time, {function}, {shape} (records: {records}): {:.1} ns per record",

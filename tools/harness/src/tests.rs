@@ -3,6 +3,7 @@
 //! read back.
 
 use crate::cases::{self, SEED};
+use crate::collide;
 use crate::core::expr_utils::collect_vars;
 use crate::entry;
 use crate::form::{Form, FROM_AND, MAX_ATOMS, MAX_TREE_RECORDS, MIXED, RESULT_BYTES};
@@ -11,12 +12,13 @@ use crate::form_random;
 use crate::ir::semilinear::compute_atom_truth_table;
 use crate::ir::semilinear_normalizer::normalize_to_semilinear;
 use crate::model::{answer, refusal};
+use crate::normal_model;
 use crate::prng::Prng;
 use crate::published;
 use crate::random::{expression, width, Kinds};
 use crate::record::{
-    arity, binary, bytes, literal, smallest, unary, variable, Record, Records, ADD, AND, CONSTANT,
-    MUL, NEG, NOT, SHR, TRUNC, VARIABLE, XOR,
+    arity, balanced, binary, bytes, left_chain, literal, smallest, unary, variable, Record,
+    Records, ADD, AND, CONSTANT, MUL, NEG, NOT, OR, SHR, TRUNC, VARIABLE, XOR,
 };
 
 const ROUNDS: usize = 20_000;
@@ -135,13 +137,13 @@ fn normalised_forms_of_the_document() {
     let mut wanted = Form::new(8, 15);
     wanted.push_term(MIXED, a.clone(), 1);
     wanted.push_term(FROM_AND, binary(AND, a.clone(), literal(8, 15)), 254);
-    assert_eq!(xor, Some(wanted));
+    assert_eq!(xor, Ok(wanted));
     let both = |l: &Records, r: &Records| binary(AND, l.clone(), r.clone());
     let sum = published::normalized(&binary(ADD, both(&a, &b), both(&b, &a)));
     let mut wanted = Form::new(8, 0);
     wanted.push_term(FROM_AND, both(&a, &b), 2);
-    assert_eq!(sum, Some(wanted));
-    assert_eq!(published::normalized(&binary(MUL, a, b)), None);
+    assert_eq!(sum, Ok(wanted));
+    assert_eq!(published::normalized(&binary(MUL, a, b)), Err(8));
 }
 
 /// What the normaliser of the Rust makes is a valid form, of the value that the expression has, and
@@ -157,7 +159,7 @@ fn normalised_forms_of_the_rust() {
         if sums_below_bitwise(&records) {
             continue;
         }
-        let Some(form) = published::normalized(&records) else {
+        let Ok(form) = published::normalized(&records) else {
             continue;
         };
         let written = entry::compact_answer(&form.bytes(), RESULT_BYTES);
@@ -171,6 +173,80 @@ fn normalised_forms_of_the_rust() {
         shorter += usize::from(used.len() < form.bytes().len());
     }
     assert!(compared > ROUNDS / 8 && shorter > 0);
+}
+
+/// The constant and the terms of a form as document 01 writes them.
+fn terms_text(file: &[u8]) -> String {
+    let written = normal_model::answer(file, RESULT_BYTES);
+    if written.refusal != 0 {
+        return format!("refusal {}", written.refusal);
+    }
+    let form = form_model::read(&written.out[..written.used as usize]).expect("a valid form");
+    let mut text = form.constant.to_string();
+    for term in &form.terms {
+        let tree = published::text(&form.atoms[usize::from(term.atom)].tree);
+        text += &format!(", {}·({tree})", term.coeff);
+    }
+    text
+}
+
+/// The starred puzzles of document 01 about normalising, and the examples of refusals 2 and 7 to 9.
+#[test]
+fn normalising_of_the_document() {
+    let (a, b) = (|| variable(8, 0), || variable(8, 1));
+    let n = |value: u64| literal(8, value);
+    let not = |x: Records| unary(NOT, 0, x);
+    let product = || binary(MUL, a(), b());
+    let both = |l: Records, r: Records| binary(AND, l, r);
+    let sum_of_all = balanced(ADD, 0, 256, &|i| variable(8, i as u8));
+    let puzzles = [
+        (n(5), "5"),
+        (binary(XOR, a(), n(15)), "15, 1·(v0), 254·(v0 & 15)"),
+        (binary(OR, a(), n(15)), "15, 1·(v0), 255·(v0 & 15)"),
+        (both(not(a()), n(15)), "15, 255·(v0 & 15)"),
+        (binary(MUL, n(0), product()), "0"),
+        (product(), "refusal 8"),
+        (binary(XOR, a(), unary(NEG, 0, n(1))), "refusal 8"),
+        (both(n(3), binary(ADD, n(1), n(2))), "refusal 7"),
+        (
+            binary(ADD, both(a(), b()), both(b(), a())),
+            "0, 2·(v0 & v1)",
+        ),
+        (binary(XOR, variable(1, 0), literal(1, 1)), "1, 1·(v0)"),
+        (both(not(not(a())), n(15)), "15, 255·(~v0 & 15)"),
+        (binary(ADD, not(not(a())), a()), "0, 2·(~~v0)"),
+        (
+            binary(ADD, sum_of_all.clone(), unary(SHR, 1, a())),
+            "refusal 9",
+        ),
+        (
+            binary(ADD, binary(ADD, sum_of_all, unary(SHR, 1, a())), product()),
+            "refusal 8",
+        ),
+    ];
+    for (tree, wanted) in puzzles {
+        assert_eq!(terms_text(&bytes(&tree)), wanted);
+    }
+    let short = normal_model::answer(&bytes(&n(5)), 57_359);
+    assert_eq!((short.refusal, short.out), (2, vec![0; 57_359]));
+}
+
+/// A literal gives a tree any hash; with one hash and the same variables the newest atom decides.
+#[test]
+fn atoms_of_one_hash() {
+    let (a, b) = (|| variable(8, 0), || variable(8, 1));
+    let first = binary(AND, binary(AND, a(), b()), literal(8, 7));
+    let second = binary(AND, binary(AND, b(), a()), literal(8, 0));
+    let second = collide::with_hash(second, published::hash(&first));
+    assert_eq!(second[3].literal, 12_854_858_925_997_745_560);
+    assert_eq!(published::hash(&second), published::hash(&first));
+    let sum = |list: [&Records; 3]| {
+        let tree = left_chain(ADD, 3, |i| list[i].clone());
+        let written = entry::normalize_answer(&bytes(&tree), RESULT_BYTES);
+        written.terms
+    };
+    assert_eq!(sum([&first, &second, &first]), 3);
+    assert_eq!(sum([&first, &second, &second]), 2);
 }
 
 #[test]

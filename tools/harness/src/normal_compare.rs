@@ -1,0 +1,182 @@
+//! Normalising by the static library beside the model, always, and beside the published Rust, where
+//! it has an answer: the build with document 01's partings must give the same, and each difference
+//! from the build with sorted maps alone is named by its parting.
+
+use std::collections::BTreeMap;
+
+use crate::cases::SEED;
+use crate::entry;
+use crate::form::{Form, RESULT_BYTES};
+use crate::form_model::{self, Written};
+use crate::library;
+use crate::model;
+use crate::normal_cases::{Case, FAMILIES};
+use crate::normal_model;
+use crate::prng::Prng;
+use crate::published;
+use crate::record::{split, RECORD_BYTES};
+use crate::{parted, sorted};
+
+/// The name of a difference between the sources as they stand and with sorted maps.
+const MAP_ORDERS: &str = "parting 4, orders of maps";
+
+/// Inputs of more records are not printed.
+const SHOWN_RECORDS: usize = 8;
+
+/// What the cases of a family came to: those accepted, those of two terms or more among them, and
+/// those of each refusal.
+#[derive(Clone, Copy, Default)]
+struct Counts {
+    outcomes: [usize; 10],
+    two_terms: usize,
+}
+
+impl Counts {
+    fn add(&mut self, answer: &Written) {
+        self.outcomes[answer.refusal as usize] += 1;
+        self.two_terms += usize::from(answer.terms > 1);
+    }
+
+    fn plus(&mut self, other: &Self) {
+        for (count, more) in self.outcomes.iter_mut().zip(other.outcomes) {
+            *count += more;
+        }
+        self.two_terms += other.two_terms;
+    }
+
+    fn line(&self, name: &str) -> String {
+        let refused: Vec<String> = self.outcomes[1..].iter().map(usize::to_string).collect();
+        format!(
+            "| {name} | {} | {} | {} | {} |",
+            self.outcomes.iter().sum::<usize>(),
+            self.outcomes[0],
+            self.two_terms,
+            refused.join(" | ")
+        )
+    }
+}
+
+/// By name, how many inputs differ, and the smallest of them.
+#[derive(Default)]
+struct Differences(BTreeMap<&'static str, (usize, Option<Case>)>);
+
+impl Differences {
+    fn add(&mut self, name: &'static str, case: &Case) {
+        let (count, smallest) = self.0.entry(name).or_default();
+        *count += 1;
+        let length = smallest.as_ref().map_or(usize::MAX, |s| s.file.len());
+        if case.file.len() < length {
+            *smallest = Some(case.clone());
+        }
+    }
+
+    fn total(&self) -> usize {
+        self.0.values().map(|(count, _)| count).sum()
+    }
+
+    /// A line for each name, and the smallest input where it has at most `most` records.
+    fn show(&self, most: usize) {
+        for (name, (count, smallest)) in &self.0 {
+            println!("{name}: {count} inputs");
+            let Some(case) = smallest else {
+                continue;
+            };
+            let records = case.file.len() / RECORD_BYTES;
+            println!("  the smallest has {records} records");
+            if records <= most {
+                println!("  {}", text(case));
+            }
+        }
+    }
+}
+
+/// The expression where it is well formed, the bytes of the file, and the length of the slice.
+fn text(case: &Case) -> String {
+    let bytes: String = case.file.iter().map(|b| format!("{b:02x}")).collect();
+    let infix = match model::refusal(&case.file) {
+        0 => published::text(&split(&case.file)),
+        _ => "refused".to_string(),
+    };
+    format!("{infix}, result slice {}\n  {bytes}", case.length)
+}
+
+pub fn run() -> Result<(), String> {
+    let rng = &mut Prng::new(SEED + 2);
+    let mut all = Counts::default();
+    let (mut faults, mut partings) = (Differences::default(), Differences::default());
+    partings.0.insert(MAP_ORDERS, (0, None));
+    println!("| hogzelt_normalize_to_semilinear | inputs | accepted | of two terms or more | 1 | 2 | 3 | 4 | 5 | 6 | 7 | 8 | 9 |");
+    println!("|---|---|---|---|---|---|---|---|---|---|---|---|---|");
+    for family in &FAMILIES {
+        let mut counts = Counts::default();
+        for case in (family.make)(rng, family.compared) {
+            let wanted = check(&case, &mut faults, &mut partings);
+            if !keeps_value(rng, &case, &wanted) {
+                faults.add("no valid form of the expression's value", &case);
+            }
+            counts.add(&wanted);
+        }
+        println!("{}", counts.line(family.name));
+        all.plus(&counts);
+    }
+    println!("{}", all.line("all"));
+    println!("where the build with sorted maps alone gives another answer, by parting:");
+    partings.show(SHOWN_RECORDS);
+    faults.show(usize::MAX);
+    println!(
+        "hogzelt_normalize_to_semilinear: {} differences",
+        faults.total()
+    );
+    match faults.total() {
+        0 => Ok(()),
+        n => Err(format!("{n} differences in normalising")),
+    }
+}
+
+/// The model's answer. Differences from it are noted.
+fn check(case: &Case, faults: &mut Differences, partings: &mut Differences) -> Written {
+    let wanted = normal_model::answer(&case.file, case.length);
+    if library::normalize(&case.file, case.length) != wanted {
+        faults.add("the library differs from the model", case);
+    }
+    if !entry::rust_normalizes(&case.file, case.length) {
+        return wanted;
+    }
+    let records = split(&case.file);
+    if written(parted::bridge::normalized(&records)) != wanted {
+        faults.add("the Rust with the partings differs from the model", case);
+    }
+    let sorted = sorted::bridge::normalized(&records);
+    if published::normalized(&records) != sorted {
+        partings.add(MAP_ORDERS, case);
+    }
+    let refused_8 = sorted == Err(8);
+    if written(sorted) != wanted {
+        match (wanted.refusal, refused_8) {
+            (7, false) => partings.add("parting 5, refusal 7, accepted by the Rust", case),
+            (7, true) => partings.add("parting 5, refusal 7, the Rust's NonLinearInput", case),
+            (9, false) => partings.add("parting 5, refusal 9, accepted by the Rust", case),
+            _ => faults.add("the Rust with sorted maps differs, for no parting", case),
+        }
+    }
+    wanted
+}
+
+/// Whether what is accepted is a valid form, of the expression's value under a random assignment.
+fn keeps_value(rng: &mut Prng, case: &Case, wanted: &Written) -> bool {
+    if wanted.refusal != 0 {
+        return true;
+    }
+    let vars: Vec<u64> = (0..256).map(|_| rng.word()).collect();
+    let used = &wanted.out[..wanted.used as usize];
+    form_model::answer(used, &vars) == model::answer(&case.file, &vars)
+}
+
+/// What the Rust's answer is in document 01's bytes. A form that is too long for the slice keeps
+/// its length.
+fn written(answer: Result<Form, u64>) -> Written {
+    match answer {
+        Ok(form) => form_model::written(&form),
+        Err(refusal) => form_model::refused(refusal, RESULT_BYTES),
+    }
+}
