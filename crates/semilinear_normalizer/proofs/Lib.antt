@@ -8,4 +8,5 @@ pub mod WordTableLaws
 pub mod RegisterLaws
 pub mod NormalizeLaws
 pub mod RefusedLaws
+pub mod UsedLaws
 mod ExampleLaws
