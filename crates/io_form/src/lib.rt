@@ -1,6 +1,5 @@
 // What the programs share: an expression is read from standard input and normalised, and a refusal
 // is printed.
-ghost use mathlib.Core.Path.{_≡_};
 ghost use Rattle.io_form.specs.Used.{IsUsed};
 
 // R and the refusal's number.
