@@ -12,6 +12,7 @@ pub mod KeyLaws
 pub mod RegisterLaws
 pub mod NormalizeLaws
 pub mod RefusedLaws
+pub mod UsedLaws
 mod ExampleLaws
 mod MarksLaws
 mod SpanOfLaws

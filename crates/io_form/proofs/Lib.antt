@@ -1,0 +1,2 @@
+-- The laws that the functions of the crate cite.
+mod AnswerLaws
