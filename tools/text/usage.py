@@ -11,14 +11,17 @@ usage: tangle write -w WIDTH [-o FILE] TEXT       text to a tangle file
   tools/text/tangle show puzzle.tangle
   tools/text/tangle normalize -w 8 '16*(a & 255) + (b ^ 15)'
 
-Text:
-  ~ -        of one operand; they bind tightest       variables  a to z are v0 to v25; v0 to v255
-  *          then each row looser than the one        literals   10  0xff  0b1010, below 2^64
-  + -        above it, as in C; operators of one      x - y      is x + (-y)
-  >>         row associate to the left                x >> n     n is a literal
-  &                                                   casts      zext(16, x)  sext(16, x)
-  ^                                                              trunc(4, x)  concat(x, y)
-  |                                                              (the engine refuses them)
+Text, its operators from the tightest to the loosest, as in C:
+  ~x  -x
+  x*y
+  x + y  x - y      x - y is x + (-y)
+  x >> n            n is a literal
+  x & y
+  x ^ y
+  x | y
+Those of one row associate to the left; parentheses group. Variables are v0 to v255, and a to z for
+v0 to v25. Literals are decimal, 0x.. or 0b.., below 2^64. zext(16, x), sext(16, x), trunc(4, x)
+and concat(x, y) can be written and shown too, but the engine refuses them.
 
 Exit status: 0 done; 1 bad input or a refusal; 2 wrong usage, or a file or program that is missing.
 """

@@ -12,7 +12,7 @@ import unittest
 import cli
 import engine
 
-from tests.helpers import FIXED_ANSWERS, ROOT, TANGLE, WORKED, bytes_of
+from tests.samples import FIXED_ANSWERS, ROOT, TANGLE, WORKED, bytes_of
 from tests.test_parse import BAD
 
 
@@ -229,6 +229,19 @@ class Normalize(Command):
         self.assertIn("neither a sheet nor a refusal", err)
         err = self.call("normalize", "--program", FIXED_ANSWERS, "-w8", "z", status=2)[1]
         self.assertIn("ended with status 3", err)
+
+
+PROGRAM = os.path.join(ROOT, "target", "bin", "normalize")
+
+
+@unittest.skipUnless(os.path.isfile(PROGRAM), "target/bin/normalize is not built")
+class BuiltProgram(unittest.TestCase):
+    def test_worked_examples(self):
+        """The program itself answers what its double does."""
+        for (width, text), answer in WORKED.items():
+            done = subprocess.run([PROGRAM], input=bytes_of(text, width), stdout=subprocess.PIPE)
+            expected = b"R %d\n" % answer if isinstance(answer, int) else answer
+            self.assertEqual(done.stdout, expected, text)
 
 
 class Builds(Command):

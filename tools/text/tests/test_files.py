@@ -5,7 +5,7 @@ import unittest
 
 from records import Fault, read_answer, read_expression, read_form, structural_hash
 
-from tests.helpers import ROOT, WORKED, bytes_of
+from tests.samples import ROOT, WORKED, bytes_of
 
 XOR = bytes_of("a ^ 15")
 FORM = WORKED[8, "a ^ 15"]  # head, a, head, a, 15, And, term, term, sum

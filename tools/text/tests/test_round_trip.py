@@ -5,12 +5,13 @@ import unittest
 
 from parse import parse
 from records import (
-    ADD, AND, BINARY, CONSTANT, MUL, NEG, SHR, UNARY, VARIABLE, WITH_ARGUMENT, Expression, Record,
-    expression_bytes, read_expression,
+    ADD, AND, BINARY, CONSTANT, MUL, NEG, SHR, UNARY, VARIABLE, WITH_ARGUMENT, Expression, Fault,
+    Record, expression_bytes, read_expression,
 )
+from scan import BadText
 from show import expression_text
 
-from tests.helpers import random_records
+from tests.samples import random_records
 
 
 class RoundTrip(unittest.TestCase):
@@ -69,6 +70,41 @@ class RoundTrip(unittest.TestCase):
                     records.append(Record(CONSTANT, 0, 1, 3))
                 records.append(node(kind, len(records) + 1))
             self.same(8, records)
+
+    def test_any_text(self):
+        """Any text is refused as such, or is an expression that comes back."""
+        source = random.Random(22)
+        pieces = "a v7 z 3 0xf 0b1 ( ) ( ) , ~ - * + >> & ^ | >>2 zext(4, concat( < $ 08 A".split()
+        pieces += [" ", "\n"]
+        good = 0
+        for _ in range(4000):
+            text = "".join(source.choice(pieces) for _ in range(source.randint(1, 9)))
+            try:
+                records = parse(text, 8).records
+            except BadText as bad:
+                self.assertTrue(bad.message and 0 <= bad.at <= len(text), text)
+                continue
+            good += 1
+            self.same(8, records)
+        self.assertGreater(good, 100)
+
+    def test_any_byte(self):
+        """With one byte changed the file has a fault, or is one that comes back."""
+        source = random.Random(23)
+        good = 0
+        for _ in range(2000):
+            data = bytearray(expression_bytes(Expression(8, random_records(source, 8, 6))))
+            byte = source.choice((0, 1, 2, 9, 10, source.randrange(256)))
+            data[source.randrange(len(data))] = byte
+            try:
+                width, records = read_expression(bytes(data))
+            except Fault as bad:
+                self.assertIn("record ", str(bad))
+                continue
+            good += 1
+            self.assertEqual(expression_bytes(Expression(width, records)), bytes(data))
+            self.same(width, records)
+        self.assertGreater(good, 100)
 
     def test_text_is_kept(self):
         """A text in the printer's own notation comes back as it was."""

@@ -5,7 +5,7 @@ import unittest
 from records import read_answer, read_expression, read_form
 from show import REFUSALS, bits_text, show_answer, show_expression, show_form
 
-from tests.helpers import A, AND_ATOM, NOT_ATOM, WORKED, XOR_ATOM, bytes_of, form_bytes
+from tests.samples import A, AND_ATOM, NOT_ATOM, WORKED, XOR_ATOM, bytes_of, form_bytes
 
 
 def form_lines(data):
