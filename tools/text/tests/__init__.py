@@ -1,0 +1,1 @@
+"""python3 -m unittest discover -s tools/text/tests -t tools/text"""
