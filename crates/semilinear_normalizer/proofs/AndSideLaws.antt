@@ -11,7 +11,7 @@ use Rattle.record.proofs.SizedLaws.{false-true}
 use Rattle.expr.specs.Utils.{hasKind, hasVarDep}
 use Rattle.expr.specs.Value.{value}
 use Rattle.expr.proofs.ValueLaws.{value-lt}
-use Rattle.semilinear_normalizer.specs.declared.collect.Side.{Side}
+use Rattle.semilinear_normalizer.specs.declared.side.Side.{Side}
 use Rattle.semilinear_normalizer.specs.Collect.{collectAtom, isNot, operand, collectNot, collectAnd}
 use Rattle.semilinear_normalizer.specs.Spots.{SideAt, sideTree, SideOf, neither, at-right, at-left}
 use Rattle.semilinear_normalizer.specs.Spots.{isBinary, leftOf, rightOf, IsAnd}

@@ -17,10 +17,10 @@ use Rattle.record.specs.Decode.{decode}
 use Rattle.record.proofs.SizedLaws.{false-true, or-false, sized-big}
 use Rattle.expr.specs.Utils.{hasKind, hasVarDep}
 use Rattle.expr.specs.Value.{value}
-use Rattle.semilinear_normalizer.specs.declared.collect.Spot.{Spot}
+use Rattle.semilinear_normalizer.specs.declared.side.Spot.{Spot}
 use Rattle.semilinear_normalizer.specs.declared.collect.Descent.{Descent}
-use Rattle.semilinear_normalizer.specs.declared.collect.Side.{Side}
-use Rattle.semilinear_normalizer.specs.declared.collect.Way.{Way}
+use Rattle.semilinear_normalizer.specs.declared.side.Side.{Side}
+use Rattle.semilinear_normalizer.specs.declared.side.Way.{Way}
 use Rattle.semilinear_normalizer.specs.Marks.{marksOf}
 use Rattle.semilinear_normalizer.specs.Collect.{Collected, linear, joinCollected, collectConstant, collectTerms}
 use Rattle.semilinear_normalizer.specs.Spots.{spanOf, Accepted, Collects, Ready, treeAt, AtSpot, SideAt, sideTree}

@@ -16,8 +16,8 @@ use Rattle.record.proofs.EncodeLaws.{sizeOf-pos}
 use Rattle.record.proofs.DecodeLaws.{decode-two, child-left, child-right}
 use Rattle.expr.specs.Utils.{hasVarDep, hasArith}
 use Rattle.expr.specs.Value.{value}
-use Rattle.semilinear_normalizer.specs.declared.collect.Spot.{Spot}
-use Rattle.semilinear_normalizer.specs.declared.collect.Side.{Side}
+use Rattle.semilinear_normalizer.specs.declared.side.Spot.{Spot}
+use Rattle.semilinear_normalizer.specs.declared.side.Side.{Side}
 use Rattle.semilinear_normalizer.specs.Marks.{marksOf, markVariable, markArith}
 use Rattle.semilinear_normalizer.specs.Spots.{spanOf, treeAt, AtSpot, SideAt, sideTree, SideOf}
 use Rattle.semilinear_normalizer.specs.Spots.{isBinary, leftOf, rightOf}

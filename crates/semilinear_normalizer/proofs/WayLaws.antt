@@ -20,9 +20,9 @@ use Rattle.record.proofs.SizedLaws.{false-true}
 use Rattle.expr.specs.Utils.{hasKind, hasVarDep, isArith, hasArith}
 use Rattle.expr.specs.Value.{value}
 use Rattle.expr.proofs.ValueLaws.{value-lt}
-use Rattle.semilinear_normalizer.specs.declared.collect.Spot.{Spot}
-use Rattle.semilinear_normalizer.specs.declared.collect.Side.{Side}
-use Rattle.semilinear_normalizer.specs.declared.collect.Way.{Way}
+use Rattle.semilinear_normalizer.specs.declared.side.Spot.{Spot}
+use Rattle.semilinear_normalizer.specs.declared.side.Side.{Side}
+use Rattle.semilinear_normalizer.specs.declared.side.Way.{Way}
 use Rattle.semilinear_normalizer.specs.Collect.{joinCollected, collectTerms}
 use Rattle.semilinear_normalizer.specs.Marks.{marksOf}
 use Rattle.semilinear_normalizer.specs.Spots.{spanOf, treeAt, AtSpot, SideAt, SideOf}

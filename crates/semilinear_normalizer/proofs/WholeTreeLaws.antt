@@ -27,7 +27,7 @@ use Rattle.semilinear.specs.declared.outcome.Answer.{Answer}
 use Rattle.semilinear.specs.Outcome.{Outcome, refused}
 use Rattle.semilinear.specs.Answers.{GivesForm}
 use Rattle.semilinear.proofs.PassLaws.{gives-same}
-use Rattle.semilinear_normalizer.specs.declared.collect.Spot.{Spot}
+use Rattle.semilinear_normalizer.specs.declared.side.Spot.{Spot}
 use Rattle.semilinear_normalizer.specs.declared.collect.Descent.{Descent}
 use Rattle.semilinear_normalizer.specs.Collect.{Collected, nonlinear, linear, joinCollected, collectTerms}
 use Rattle.semilinear_normalizer.specs.Marks.{marksOf, Marked}

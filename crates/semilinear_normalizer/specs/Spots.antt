@@ -17,10 +17,10 @@ use Rattle.arith.specs.Width.{modMul}
 use Rattle.expr.specs.Refusal.{treeRefusal}
 use Rattle.expr.specs.Utils.{hasVarDep, hasArith}
 use Rattle.expr.specs.Value.{value}
-use Rattle.semilinear_normalizer.specs.declared.collect.Spot.{Spot}
+use Rattle.semilinear_normalizer.specs.declared.side.Spot.{Spot}
 use Rattle.semilinear_normalizer.specs.declared.collect.Descent.{Descent}
-use Rattle.semilinear_normalizer.specs.declared.collect.Side.{Side}
-use Rattle.semilinear_normalizer.specs.declared.collect.Way.{Way}
+use Rattle.semilinear_normalizer.specs.declared.side.Side.{Side}
+use Rattle.semilinear_normalizer.specs.declared.side.Way.{Way}
 use Rattle.semilinear_normalizer.specs.Collect.{Emitted, Collected, nonlinear, linear, joinCollected}
 use Rattle.semilinear_normalizer.specs.Collect.{collectAtom, collectAnd, andCoeff, collectTerms}
 use Rattle.semilinear_normalizer.specs.Marks.{marksOf}

@@ -6,10 +6,11 @@ pub mod index;
 pub mod key;
 pub mod marks;
 pub mod register;
+pub mod side;
 pub mod truth;
 
 use crate::collect::Descent;
-use crate::collect::Spot;
+use crate::side::Spot;
 use semilinear::outcome::Answer;
 use semilinear::outcome::{self};
 ghost use mathlib.Core.Path.{_≡_};

@@ -28,12 +28,12 @@ use Rattle.semilinear.proofs.decompose.constant_value.Reads as constant-value-r
 use Rattle.semilinear_normalizer.proofs.collect.Descent.add_constant.Reads as add-constant-reads
 use Rattle.semilinear_normalizer.proofs.collect.Descent.collect_masked.Reads as collect-masked-reads
 use Rattle.semilinear_normalizer.proofs.collect.Descent.collect_whole.Reads as collect-whole-reads
-use Rattle.semilinear_normalizer.proofs.collect.left_side.Reads as left-side-reads
-use Rattle.semilinear_normalizer.proofs.collect.right_side.Reads as right-side-reads
-use Rattle.semilinear_normalizer.proofs.collect.side_marks.Reads as side-marks-reads
-use Rattle.semilinear_normalizer.proofs.collect.side_spot.Reads as side-spot-reads
-use Rattle.semilinear_normalizer.proofs.collect.span_of.Reads as span-of-reads
-use Rattle.semilinear_normalizer.proofs.collect.way_on.Reads as way-on-reads
+use Rattle.semilinear_normalizer.proofs.side.left_side.Reads as left-side-reads
+use Rattle.semilinear_normalizer.proofs.side.right_side.Reads as right-side-reads
+use Rattle.semilinear_normalizer.proofs.side.side_marks.Reads as side-marks-reads
+use Rattle.semilinear_normalizer.proofs.side.side_spot.Reads as side-spot-reads
+use Rattle.semilinear_normalizer.proofs.side.span_of.Reads as span-of-reads
+use Rattle.semilinear_normalizer.proofs.side.way_on.Reads as way-on-reads
 use Rattle.semilinear_normalizer.proofs.marks.has_variable.Reads as has-variable-reads
 use Rattle.semilinear_normalizer.proofs.collect.Descent.+collect_terms.{statement}
 use Rattle.semilinear_normalizer.proofs.collect.Descent.+collect_terms.Tie.{close}

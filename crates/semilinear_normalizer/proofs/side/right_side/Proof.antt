@@ -2,8 +2,8 @@
 use mathlib.Core.Path.{refl}
 use Rattle.semilinear_normalizer.specs.Spots.{rightSide}
 use borrow.Author.Needs.{needs}
-use Rattle.semilinear_normalizer.proofs.collect.right_side.Statement.{statement}
-use Rattle.semilinear_normalizer.proofs.collect.right_side.Tie as tie
+use Rattle.semilinear_normalizer.proofs.side.right_side.Statement.{statement}
+use Rattle.semilinear_normalizer.proofs.side.right_side.Tie as tie
 
 span-of-requires : tie.Need-span-of-requires
 span-of-requires c κs = search needs

@@ -2,8 +2,8 @@
 use mathlib.Core.Path.{refl}
 use Rattle.semilinear_normalizer.specs.Spots.{leftSide}
 use borrow.Author.Needs.{needs}
-use Rattle.semilinear_normalizer.proofs.collect.left_side.Statement.{statement}
-use Rattle.semilinear_normalizer.proofs.collect.left_side.Tie as tie
+use Rattle.semilinear_normalizer.proofs.side.left_side.Statement.{statement}
+use Rattle.semilinear_normalizer.proofs.side.left_side.Tie as tie
 
 span-of-requires : tie.Need-span-of-requires
 span-of-requires c κs = search needs

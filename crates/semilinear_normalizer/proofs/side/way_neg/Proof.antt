@@ -1,7 +1,7 @@
 -- `way_neg` meets its contract: the record of the definition.
 use borrow.Author.Needs.{needs}
-use Rattle.semilinear_normalizer.proofs.collect.way_neg.Statement.{statement}
-use Rattle.semilinear_normalizer.proofs.collect.way_neg.Tie as tie
+use Rattle.semilinear_normalizer.proofs.side.way_neg.Statement.{statement}
+use Rattle.semilinear_normalizer.proofs.side.way_neg.Tie as tie
 
 sub-stop : tie.Need-sub-stop
 sub-stop c = search needs

@@ -4,8 +4,8 @@ use native.Mathlib.Omega.{arith}
 use Rattle.semilinear_normalizer.proofs.SideLaws.{spot-some, spot-arith}
 use Rattle.semilinear_normalizer.proofs.WayLaws.{way-mul, way-and, way-arith, way-masked}
 use borrow.Author.Needs.{needs}
-use Rattle.semilinear_normalizer.proofs.collect.way_two.Statement.{statement}
-use Rattle.semilinear_normalizer.proofs.collect.way_two.Tie as tie
+use Rattle.semilinear_normalizer.proofs.side.way_two.Statement.{statement}
+use Rattle.semilinear_normalizer.proofs.side.way_two.Tie as tie
 
 side-of-requires : tie.Need-side-of-requires
 side-of-requires c κs = search needs

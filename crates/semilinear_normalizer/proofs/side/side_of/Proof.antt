@@ -9,8 +9,8 @@ use Rattle.semilinear_normalizer.proofs.SpanOfLaws.{span-end}
 use Rattle.semilinear_normalizer.proofs.SideLaws.{left-sized, right-sized, left-size, sides-size, sides-pos}
 use Rattle.semilinear_normalizer.proofs.SideLaws.{left-value, right-value, left-variable, right-variable}
 use Rattle.semilinear_normalizer.proofs.SideLaws.{side-left, side-right}
-use Rattle.semilinear_normalizer.proofs.collect.side_of.Statement.{statement}
-use Rattle.semilinear_normalizer.proofs.collect.side_of.Tie as tie
+use Rattle.semilinear_normalizer.proofs.side.side_of.Statement.{statement}
+use Rattle.semilinear_normalizer.proofs.side.side_of.Tie as tie
 
 sub-t : tie.Need-sub-t
 sub-t c = search needs

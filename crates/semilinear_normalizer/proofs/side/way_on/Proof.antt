@@ -8,8 +8,8 @@ use Rattle.semilinear_normalizer.proofs.SpanOfLaws.{span-big, span-end,
 use Rattle.semilinear_normalizer.proofs.SideLaws.{spot-some}
 use Rattle.semilinear_normalizer.proofs.WayLaws.{way-neg, way-end}
 use borrow.Author.Needs.{needs}
-use Rattle.semilinear_normalizer.proofs.collect.way_on.Statement.{statement}
-use Rattle.semilinear_normalizer.proofs.collect.way_on.Tie as tie
+use Rattle.semilinear_normalizer.proofs.side.way_on.Statement.{statement}
+use Rattle.semilinear_normalizer.proofs.side.way_on.Tie as tie
 
 sub-t : tie.Need-sub-t
 sub-t c = search needs

@@ -2,8 +2,8 @@
 use mathlib.Core.Path.{refl}
 use Rattle.semilinear_normalizer.specs.Spots.{spanOf}
 use borrow.Author.Needs.{needs}
-use Rattle.semilinear_normalizer.proofs.collect.span_of.Statement.{statement}
-use Rattle.semilinear_normalizer.proofs.collect.span_of.Tie as tie
+use Rattle.semilinear_normalizer.proofs.side.span_of.Statement.{statement}
+use Rattle.semilinear_normalizer.proofs.side.span_of.Tie as tie
 
 sub-result : tie.Need-sub-result
 sub-result c = search needs
