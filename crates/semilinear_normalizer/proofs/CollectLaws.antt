@@ -24,13 +24,12 @@ use Rattle.expr.specs.Utils.{hasKind, hasVarDep, hasArith}
 use Rattle.expr.specs.Value.{binary, value}
 use Rattle.expr.proofs.ValueLaws.{value-lt, value-closed}
 use Rattle.expr.proofs.IsExprLaws.{unary-of-expr, binary-of-expr}
-use Rattle.semilinear_normalizer.specs.Collect.{Emitted, Collected, nonlinear, linear}
-use Rattle.semilinear_normalizer.specs.Collect.{joinCollected, collectAtom, collectConstant, isNot, operand}
-use Rattle.semilinear_normalizer.specs.Collect.{collectNot, isMaskedNot, collectAnd, andCoeff, collectMasked}
-use Rattle.semilinear_normalizer.specs.Collect.{collectTerms}
-use Rattle.semilinear_normalizer.proofs.RootLaws.{five-six, four, literal-value, orXor}
-use Rattle.semilinear_normalizer.proofs.RootLaws.{or-xor-comm, and-coeff, not-value, value-neg, value-add}
-use Rattle.semilinear_normalizer.proofs.RootLaws.{value-mul, value-or-xor, value-and}
+use Rattle.semilinear_normalizer.specs.Collect.{Emitted, Collected, nonlinear, linear, joinCollected, collectAtom}
+use Rattle.semilinear_normalizer.specs.Collect.{collectConstant, isNot, operand, collectNot, isMaskedNot}
+use Rattle.semilinear_normalizer.specs.Collect.{collectAnd, andCoeff, collectMasked, collectTerms}
+use Rattle.semilinear_normalizer.proofs.RootLaws.{five-six, four, literal-value, orXor, or-xor-comm, and-coeff}
+use Rattle.semilinear_normalizer.proofs.RootLaws.{not-value, value-neg, value-add, value-mul, value-or-xor}
+use Rattle.semilinear_normalizer.proofs.RootLaws.{value-and}
 
 -- the coefficient times the atom, of all that was emitted
 unfoldable pub sumEmitted : ℕ → List ℕ → List Emitted → ℕ

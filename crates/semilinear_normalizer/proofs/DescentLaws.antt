@@ -1,19 +1,18 @@
 -- The descent at a spot of the file (specs/Spots.antt): where it goes on is a smaller spot, and what is collected there
 -- makes up what is collected here.
-use mathlib.Core.Path.{_≡_, refl, ap, sym, subst, _∙_}
-use Prim.Native.Nat.{ℕ, _+_, _-_, _*_, _^_, _≤_, _<_}
+use mathlib.Core.Path.{_≡_, refl, ap, sym, _∙_}
+use Prim.Native.Nat.{ℕ, _+_, _-_, _^_, _≤_, _<_}
 use native.Mathlib.Omega.{arith}
 use mathlib.Core.List.{List, []}
-use mathlib.Core.Bool.{Bool, true, false, _||_}
+use mathlib.Core.Bool.{true, false, _||_}
 use lib.ListN.{length}
 use lib.Dec.{eqb}
 use borrow.Author.Tests.{eq-eqb}
 use Rattle.arith.specs.Width.{modMul}
 use Rattle.record.specs.Fields.{kind, arity}
-use Rattle.record.specs.Span.{cut, left}
+use Rattle.record.specs.Span.{left}
 use Rattle.record.specs.Tree.{Tree, sizeOf}
 use Rattle.record.specs.Tree.Tree.{Constant, Variable, Unary, Binary}
-use Rattle.record.specs.Decode.{decode}
 use Rattle.record.proofs.SizedLaws.{false-true, or-false, sized-big}
 use Rattle.expr.specs.Utils.{hasKind, hasVarDep}
 use Rattle.expr.specs.Value.{value}
@@ -24,11 +23,12 @@ use Rattle.semilinear_normalizer.specs.declared.side.Way.{Way}
 use Rattle.semilinear_normalizer.specs.Marks.{marksOf}
 use Rattle.semilinear_normalizer.specs.Collect.{Collected, linear, joinCollected, collectConstant, collectTerms}
 use Rattle.semilinear_normalizer.specs.Spots.{spanOf, Accepted, Collects, Ready, treeAt, AtSpot, SideAt, sideTree}
-use Rattle.semilinear_normalizer.specs.Spots.{isBinary, leftOf, rightOf, leftSide, rightSide}
-use Rattle.semilinear_normalizer.specs.Spots.{WayOf, ends, goes, masks, collectWhole, collectLiteral}
+use Rattle.semilinear_normalizer.specs.Spots.{isBinary, leftOf, rightOf, leftSide, rightSide, WayOf, ends, goes}
+use Rattle.semilinear_normalizer.specs.Spots.{masks, collectWhole, collectLiteral}
 use Rattle.semilinear_normalizer.proofs.SpanOfLaws.{span-records, tree-two}
-use Rattle.semilinear_normalizer.proofs.SideLaws.{left-side, right-side, left-side-tree, right-side-tree, left-size}
-use Rattle.semilinear_normalizer.proofs.SideLaws.{left-sized, split, sides-size, spot-marks, spot-some}
+use Rattle.semilinear_normalizer.proofs.SideLaws.{left-side, right-side, left-side-tree, right-side-tree}
+use Rattle.semilinear_normalizer.proofs.SideLaws.{left-size, left-sized, split, sides-size, spot-marks}
+use Rattle.semilinear_normalizer.proofs.SideLaws.{spot-some}
 use Rattle.semilinear_normalizer.proofs.TermsLaws.{variable-two}
 use Rattle.semilinear_normalizer.proofs.CollectsLaws.{collects-as, collects-more, collects-then, collects-stop}
 use Rattle.semilinear_normalizer.proofs.CollectsLaws.{ready-after, ready-less}

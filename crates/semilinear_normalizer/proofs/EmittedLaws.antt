@@ -23,10 +23,9 @@ use Rattle.expr.proofs.IsExprLaws.{unary-of-expr, binary-of-expr}
 use Rattle.semilinear.proofs.AtomLaws.{Atom, bitwise-one, Sides, sides, sides-atom, left-atom, right-atom}
 use Rattle.semilinear.proofs.AtomLaws.{literal-sides, masked-atom}
 use Rattle.semilinear.proofs.SearchLaws.{when-both}
-use Rattle.semilinear_normalizer.specs.Collect.{Emitted, Collected, nonlinear, linear}
-use Rattle.semilinear_normalizer.specs.Collect.{joinCollected, collectAtom, collectConstant, isNot, operand}
-use Rattle.semilinear_normalizer.specs.Collect.{collectNot, isMaskedNot, collectAnd, andCoeff, collectMasked}
-use Rattle.semilinear_normalizer.specs.Collect.{collectTerms}
+use Rattle.semilinear_normalizer.specs.Collect.{Emitted, Collected, nonlinear, linear, joinCollected, collectAtom}
+use Rattle.semilinear_normalizer.specs.Collect.{collectConstant, isNot, operand, collectNot, isMaskedNot}
+use Rattle.semilinear_normalizer.specs.Collect.{collectAnd, andCoeff, collectMasked, collectTerms}
 use Rattle.semilinear_normalizer.proofs.RootLaws.{four, operand-atom}
 
 module _ (w : ℕ) (hw : w ≤ 64) where

@@ -1,5 +1,5 @@
 -- A part of the file whose root is a Not (specs/Spots.antt): what the complement is of stands before the root.
-use mathlib.Core.Path.{_≡_, refl, ap, sym, _∙_}
+use mathlib.Core.Path.{_≡_, refl, ap, _∙_}
 use Prim.Native.Nat.{ℕ, _+_, _-_, _≤_}
 use native.Mathlib.Omega.{arith}
 use native.Mathlib.Decide.{ℕ-discrete}
@@ -8,12 +8,11 @@ use mathlib.Core.Bool.{Bool, true, false}
 use lib.ListN.{length, take, drop, length-take, length-drop}
 use lib.Seq.{take-take}
 use lib.Dec.{eqb}
-use borrow.Author.Tests.{eq-eqb, ne-eqb}
+use borrow.Author.Tests.{ne-eqb}
 use Rattle.record.specs.Choice.{when}
 use Rattle.record.specs.Fields.{kind, amount, arity, literal, varIndex}
-use Rattle.record.specs.Tree.{Tree}
-use Rattle.record.specs.Tree.Tree.{Constant, Variable, Unary, Binary}
-use Rattle.record.specs.Span.{body, left, right}
+use Rattle.record.specs.Tree.Tree.{Constant, Variable, Unary}
+use Rattle.record.specs.Span.{body}
 use Rattle.record.specs.Decode.{leaf, decode}
 use Rattle.record.proofs.SpanLaws.{fold-leaf, fold-one, fold-two}
 use Rattle.expr.proofs.RefusalLaws.{accepted-big, accepted-body}

@@ -3,7 +3,7 @@
 use mathlib.Core.Path.{_≡_, refl, ap, sym, _∙_}
 use Prim.Native.Nat.{ℕ, _+_, _-_, _*_, _^_, _≤_, _<_}
 use native.Mathlib.Omega.{arith}
-use mathlib.Core.List.{List, [], _∷_}
+use mathlib.Core.List.{List, []}
 use mathlib.Core.Bool.{true, false}
 use lib.ListN.{length}
 use lib.Pow.{pow-pos}
@@ -16,14 +16,13 @@ use Rattle.record.specs.Decode.{decode}
 use Rattle.expr.specs.Utils.{hasVarDep}
 use Rattle.semilinear_normalizer.specs.declared.collect.Descent.{Descent}
 use Rattle.semilinear_normalizer.specs.Collect.{linear, collectAtom, collectNot, collectAnd, andCoeff}
-use Rattle.semilinear_normalizer.specs.Spots.{spanOf, spotTree, Accepted, Collects, Pushed, Ready}
-use Rattle.semilinear_normalizer.specs.Spots.{collectLiteral}
+use Rattle.semilinear_normalizer.specs.Spots.{spanOf, spotTree, Accepted, Collects, Pushed, Ready, collectLiteral}
 use Rattle.semilinear_normalizer.proofs.JoinLaws.{mod-add-zero}
 use Rattle.semilinear_normalizer.proofs.AndLaws.{literal-not, literal-atom, and-zero}
 use Rattle.semilinear_normalizer.proofs.InnerLaws.{not-inner, not-root, not-operand, other-root}
 use Rattle.semilinear_normalizer.proofs.SpotsLaws.{spotOf, collects-push}
-use Rattle.semilinear_normalizer.proofs.CollectsLaws.{collects-as, collects-none, collects-constant, collects-then}
-use Rattle.semilinear_normalizer.proofs.CollectsLaws.{ready-after, ready-less}
+use Rattle.semilinear_normalizer.proofs.CollectsLaws.{collects-as, collects-none, collects-constant}
+use Rattle.semilinear_normalizer.proofs.CollectsLaws.{collects-then, ready-after, ready-less}
 
 module _ (w : ℕ) (file : List ℕ) (before : List ℕ) (d : Descent) (after : List ℕ) (r : Descent)
     (ready : Ready w 1 before d) where

@@ -1,20 +1,20 @@
 -- The value of a root from its children's, times a coefficient, modulo 2 ^ w: what each case of the descent rests on.
-use mathlib.Core.Path.{_≡_, refl, ap, ap₂, sym, _∙_}
+use mathlib.Core.Path.{_≡_, refl, ap, sym, _∙_}
 use Prim.Native.Nat.{ℕ, _+_, _-_, _*_, _^_, _≤_, _<_}
 use native.Mathlib.Omega.{arith}
 use native.Mathlib.Nat.{lt-of-lt-of-le, mod-eq-of-lt, zero-mul, add-mul}
 use native.Mathlib.Decide.{ℕ-discrete}
 use mathlib.Core.Logic.{_⊎_, inl, inr}
 use mathlib.Core.List.{List, []}
-use mathlib.Core.Bool.{Bool, true, false, _||_}
+use mathlib.Core.Bool.{Bool, true, false}
 use lib.Dec.{eqb}
 use lib.Pow.{pow-mono}
 use borrow.Author.Tests.{ne-eqb}
 use lib.Bits.{bitAnd, bitOr, bitXor, or-comm, xor-comm}
 use Rattle.arith.specs.Congruence.{Eqm}
 use Rattle.arith.specs.Width.{modMul, modNeg}
-use Rattle.arith.proofs.CongruenceLaws.{eqm-intro, eqm-of-eq, eqm-refl, eqm-sym, eqm-trans, eqm-mod}
-use Rattle.arith.proofs.CongruenceLaws.{eqm-add, eqm-mul-r, eqm-mul-l, eqm-cancel}
+use Rattle.arith.proofs.CongruenceLaws.{eqm-intro, eqm-of-eq, eqm-refl, eqm-sym, eqm-trans, eqm-mod, eqm-add, eqm-mul-r}
+use Rattle.arith.proofs.CongruenceLaws.{eqm-mul-l, eqm-cancel}
 use Rattle.arith.proofs.WidthLaws.{mod-mul-eqm, mod-mul-lt, mod-neg-eqm, mod-neg-lt}
 use Rattle.arith.proofs.MaskLaws.{or-minus, xor-minus}
 use Rattle.record.specs.Choice.{when}

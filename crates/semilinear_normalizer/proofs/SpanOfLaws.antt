@@ -15,11 +15,11 @@ use Rattle.record.specs.Tree.{Tree, sizeOf}
 use Rattle.record.specs.Tree.Tree.{Constant, Variable, Unary, Binary}
 use Rattle.record.specs.Span.{cut, body, left, right, sized}
 use Rattle.record.specs.Decode.{leaf, decode}
-use Rattle.record.proofs.SpanLaws.{cut-le, length-body, length-left, length-right, span-ind}
-use Rattle.record.proofs.SpanLaws.{fold-leaf, fold-one, fold-two}
+use Rattle.record.proofs.SpanLaws.{cut-le, length-body, length-left, length-right, span-ind, fold-leaf, fold-one}
+use Rattle.record.proofs.SpanLaws.{fold-two}
 use Rattle.record.proofs.DecodeLaws.{decode-leaf, decode-one, decode-two}
-use Rattle.record.proofs.SizedLaws.{false-true, sized-big, sized-length, sized-leaf, sized-body}
-use Rattle.record.proofs.SizedLaws.{sized-left, sized-right}
+use Rattle.record.proofs.SizedLaws.{false-true, sized-big, sized-length, sized-leaf, sized-body, sized-left}
+use Rattle.record.proofs.SizedLaws.{sized-right}
 use Rattle.expr.specs.Refusal.{treeRefusal}
 use Rattle.expr.proofs.RefusalLaws.{accepted-big, accepted-root, accepted-body, accepted-left, accepted-right}
 use Rattle.expr.proofs.RefusalLaws.{sized-accepted}

@@ -25,16 +25,16 @@ use Rattle.semilinear_normalizer.specs.declared.side.Side.{Side}
 use Rattle.semilinear_normalizer.specs.declared.side.Way.{Way}
 use Rattle.semilinear_normalizer.specs.Collect.{joinCollected, collectTerms}
 use Rattle.semilinear_normalizer.specs.Marks.{marksOf}
-use Rattle.semilinear_normalizer.specs.Spots.{spanOf, treeAt, AtSpot, SideAt, SideOf}
-use Rattle.semilinear_normalizer.specs.Spots.{isBinary, leftOf, rightOf, collectLiteral, collectWhole, WayOf}
+use Rattle.semilinear_normalizer.specs.Spots.{spanOf, treeAt, AtSpot, SideAt, SideOf, isBinary, leftOf, rightOf}
+use Rattle.semilinear_normalizer.specs.Spots.{collectLiteral, collectWhole, WayOf}
 use Rattle.semilinear_normalizer.proofs.MarksLaws.{body-marks}
-use Rattle.semilinear_normalizer.proofs.SpanOfLaws.{span-kind, body-accepted, tree-leaf, tree-one}
-use Rattle.semilinear_normalizer.proofs.SpanOfLaws.{binary-zero, binary-one}
+use Rattle.semilinear_normalizer.proofs.SpanOfLaws.{span-kind, body-accepted, tree-leaf, tree-one, binary-zero}
+use Rattle.semilinear_normalizer.proofs.SpanOfLaws.{binary-one}
 use Rattle.semilinear_normalizer.proofs.SideLaws.{spot-marks, split}
 use Rattle.semilinear_normalizer.proofs.TermsLaws.{not-arith, variable-one, variable-two, other-right}
-use Rattle.semilinear_normalizer.proofs.TermsLaws.{terms-variable, terms-neg, terms-one}
-use Rattle.semilinear_normalizer.proofs.TermsLaws.{mul-right, mul-left, mul-both, and-whole, arith-whole}
-use Rattle.semilinear_normalizer.proofs.TermsLaws.{both-whole, masked-right, masked-left}
+use Rattle.semilinear_normalizer.proofs.TermsLaws.{terms-variable, terms-neg, terms-one, mul-right, mul-left}
+use Rattle.semilinear_normalizer.proofs.TermsLaws.{mul-both, and-whole, arith-whole, both-whole, masked-right}
+use Rattle.semilinear_normalizer.proofs.TermsLaws.{masked-left}
 
 size-left : (k : ℕ) (l r : Tree) → sizeOf l < sizeOf (Binary k l r)
 unfolding sizeOf

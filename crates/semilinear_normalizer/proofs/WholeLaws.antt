@@ -1,13 +1,13 @@
 -- Where the descent ends (specs/Spots.antt, collectWhole): what the root's mark and kind say of the tree.
 use mathlib.Core.Path.{_≡_, refl, ap, sym, _∙_}
-use Prim.Native.Nat.{ℕ, _+_, _-_, _*_, _≤_, _<_}
+use Prim.Native.Nat.{ℕ, _-_, _≤_}
 use native.Mathlib.Omega.{arith}
 use native.Mathlib.Decide.{ℕ-discrete}
 use mathlib.Core.List.{List}
 use mathlib.Core.Bool.{Bool, true, false}
 use lib.ListN.{length, getD}
 use lib.Dec.{eqb}
-use borrow.Author.Tests.{eq-eqb, ne-eqb}
+use borrow.Author.Tests.{ne-eqb}
 use Rattle.record.specs.Choice.{when}
 use Rattle.record.specs.Fields.{kind, arity, literal, varIndex}
 use Rattle.record.specs.Tree.{Tree, sizeOf}
@@ -17,10 +17,9 @@ use Rattle.record.specs.Decode.{leaf, decode}
 use Rattle.record.proofs.SpanLaws.{fold-leaf, fold-one, fold-two}
 use Rattle.record.proofs.SizedLaws.{false-true}
 use Rattle.expr.specs.Utils.{hasArith, hasVarDep}
-use Rattle.expr.proofs.RefusalLaws.{accepted-big}
 use Rattle.semilinear_normalizer.specs.Collect.{nonlinear, collectAtom, collectAnd}
 use Rattle.semilinear_normalizer.specs.Marks.{markOf, markVariable, markArith, marksOf}
-use Rattle.semilinear_normalizer.specs.Spots.{spanOf, Accepted, isBinary, leftOf, rightOf, IsAnd, collectWhole}
+use Rattle.semilinear_normalizer.specs.Spots.{leftOf, rightOf, IsAnd, collectWhole}
 use Rattle.semilinear_normalizer.proofs.MarksLaws.{length-marks, root-mark, mark-variable, mark-arith}
 
 -- ---- the root's mark

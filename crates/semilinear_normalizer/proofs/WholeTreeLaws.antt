@@ -6,7 +6,7 @@ use native.Mathlib.Omega.{arith}
 use native.Mathlib.Nat.{mod-eq-of-lt, zero-add, sub-zero}
 use mathlib.Core.List.{List, []}
 use mathlib.Core.Bool.{true, false}
-use lib.ListN.{length, take, drop}
+use lib.ListN.{length, take}
 use lib.Seq.{take-all}
 use lib.Pow.{pow-pos, pow-mono}
 use borrow.Author.Tests.{eq-eqb, ne-eqb}
@@ -24,15 +24,15 @@ use Rattle.expr.proofs.RefusalLaws.{accepted-root, sized-accepted}
 use Rattle.expr.proofs.AcceptLaws.{accept-expr}
 use Rattle.expr.proofs.ExprValueLaws.{accepted-tree, accepted-length}
 use Rattle.semilinear.specs.declared.outcome.Answer.{Answer}
-use Rattle.semilinear.specs.Outcome.{Outcome, refused}
+use Rattle.semilinear.specs.Outcome.{refused}
 use Rattle.semilinear.specs.Answers.{GivesForm}
 use Rattle.semilinear.proofs.PassLaws.{gives-same}
 use Rattle.semilinear_normalizer.specs.declared.side.Spot.{Spot}
 use Rattle.semilinear_normalizer.specs.declared.collect.Descent.{Descent}
 use Rattle.semilinear_normalizer.specs.Collect.{Collected, nonlinear, linear, joinCollected, collectTerms}
 use Rattle.semilinear_normalizer.specs.Marks.{marksOf, Marked}
-use Rattle.semilinear_normalizer.specs.Spots.{spanOf, spotsIn, collectedIn, Accepted, SpotsOk, Collects, Ready}
-use Rattle.semilinear_normalizer.specs.Spots.{treeAt, AtSpot}
+use Rattle.semilinear_normalizer.specs.Spots.{spanOf, spotsIn, collectedIn, SpotsOk, Collects, Ready, treeAt}
+use Rattle.semilinear_normalizer.specs.Spots.{AtSpot}
 use Rattle.semilinear_normalizer.specs.Normalize.{collectedOutcome, normalizeTree, normalizeToSemilinear}
 use Rattle.semilinear_normalizer.proofs.EmittedLaws.{GoodCollected, collect-good}
 use Rattle.semilinear_normalizer.proofs.MarksLaws.{length-marks}

@@ -1,6 +1,6 @@
 -- The form that is written (specs/Index.antt, Registers and TermsPut): a full table is refusal 9, and the atoms, the terms
 -- and the sum record of any other are the bytes of the collected form.
-use mathlib.Core.Path.{_≡_, refl, ap, ap₂, sym, _∙_}
+use mathlib.Core.Path.{_≡_, refl, ap, ap₂, _∙_}
 use Prim.Native.Nat.{ℕ, _+_, _*_, _≤_}
 use native.Mathlib.Omega.{arith}
 use mathlib.Core.List.{List, [], _++_}
@@ -12,7 +12,7 @@ use Rattle.record.proofs.PutLaws.{length-put, put-padded-at}
 use Rattle.semilinear.specs.declared.compact.Written.{Written}
 use Rattle.semilinear.specs.declared.outcome.Answer.{Answer}
 use Rattle.semilinear.specs.declared.table.Table.{Table}
-use Rattle.semilinear.specs.Form.{Row, Form, fitsTable, termCount, atomsBytes, termsBytes, sumBytes, encodeForm}
+use Rattle.semilinear.specs.Form.{Row, fitsTable, termCount, atomsBytes, termsBytes, sumBytes, encodeForm}
 use Rattle.semilinear.specs.Outcome.{refused, formOutcome}
 use Rattle.semilinear.specs.Answers.{GivesForm}
 use Rattle.semilinear.proofs.FormLaws.{length-terms, term-count-le}

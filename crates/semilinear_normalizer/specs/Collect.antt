@@ -3,9 +3,9 @@
 -- and the two evaluators of constants (122-171) have no definition of their own: a variable-free subtree that is a
 -- constant or a factor has its value at w bits (difference 3), and refusal 7 keeps out where the Rust's evaluators
 -- differ from it.
-use Prim.Native.Nat.{ℕ, _%_, _^_}
+use Prim.Native.Nat.{ℕ}
 use mathlib.Core.List.{List, [], _∷_, _++_}
-use mathlib.Core.Bool.{Bool, true, false, not, _&&_, _||_}
+use mathlib.Core.Bool.{Bool, false, not, _&&_, _||_}
 use lib.Dec.{eqb}
 use Rattle.arith.specs.Width.{modAdd, modMul, modNeg}
 use Rattle.record.specs.Choice.{when}

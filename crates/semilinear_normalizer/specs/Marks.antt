@@ -1,6 +1,6 @@
 -- What the descent asks of every subtree, as one number for each record, the subtree's root, in the order of the
 -- records.
-use Prim.Native.Nat.{ℕ, _+_, _*_, _%_}
+use Prim.Native.Nat.{ℕ, _+_, _%_}
 use mathlib.Core.Path.{_≡_}
 use mathlib.Core.List.{List, [], _∷_, _++_}
 use mathlib.Core.Bool.{Bool}

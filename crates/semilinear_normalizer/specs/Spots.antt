@@ -21,8 +21,8 @@ use Rattle.semilinear_normalizer.specs.declared.side.Spot.{Spot}
 use Rattle.semilinear_normalizer.specs.declared.collect.Descent.{Descent}
 use Rattle.semilinear_normalizer.specs.declared.side.Side.{Side}
 use Rattle.semilinear_normalizer.specs.declared.side.Way.{Way}
-use Rattle.semilinear_normalizer.specs.Collect.{Emitted, Collected, nonlinear, linear, joinCollected}
-use Rattle.semilinear_normalizer.specs.Collect.{collectAtom, collectAnd, andCoeff, collectTerms}
+use Rattle.semilinear_normalizer.specs.Collect.{Emitted, Collected, nonlinear, linear, joinCollected, collectAtom}
+use Rattle.semilinear_normalizer.specs.Collect.{collectAnd, andCoeff, collectTerms}
 use Rattle.semilinear_normalizer.specs.Marks.{marksOf}
 
 -- ---- the words

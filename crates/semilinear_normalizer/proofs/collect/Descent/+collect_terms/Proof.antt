@@ -1,7 +1,7 @@
 -- `collect_terms` meets its contract: each way on is a smaller spot of the file, and what is collected there makes up
 -- what is collected here.
 use mathlib.Core.Path.{refl, ap, sym, _∙_}
-use Prim.Native.Nat.{_-_}
+use Prim.Native.Nat.{_-_, ℕ, _<_}
 use native.Mathlib.Omega.{arith}
 use mathlib.Core.List.{List, []}
 use borrow.Author.Tests.{ne-eqb, not-true, not-false}
@@ -17,7 +17,6 @@ use Rattle.semilinear_normalizer.proofs.DescentLaws.{terms-zero, terms-
 use Rattle.semilinear_normalizer.proofs.DescentLaws.{down-spot, down-falls, down-ready, ready-right, sum-then}
 use Rattle.semilinear_normalizer.proofs.DescentLaws.{sum-stop, down-way, way-ends, way-goes, way-literal}
 use Rattle.semilinear_normalizer.proofs.DescentLaws.{ready-masked, way-masked-stop, way-masked-then}
-use Prim.Native.Nat.{ℕ, _<_}
 use borrow.Fn.Kinds.{In}
 use borrow.Fn.PlainCycle.{Measures, is, falls, and}
 use Rattle.semilinear_normalizer.proofs.collect.Descent.collect_terms.Reads as collect-terms

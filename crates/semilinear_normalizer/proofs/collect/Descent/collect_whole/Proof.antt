@@ -1,5 +1,5 @@
 -- `collect_whole` meets its contract: by the root's mark and kind.
-use mathlib.Core.Path.{ap, sym, _∙_}
+use mathlib.Core.Path.{sym, _∙_}
 use native.Mathlib.Omega.{arith}
 use Rattle.expr.proofs.RefusalLaws.{accepted-big}
 use Rattle.semilinear_normalizer.specs.Spots.{spanOf}
