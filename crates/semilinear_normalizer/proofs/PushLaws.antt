@@ -64,7 +64,7 @@ module _ (w : ℕ) (file : List ℕ) (before : List ℕ) (d : Descent) (after : 
     pub literal-and-plain : eqb c 0 ≡ false → (kind (spanOf file s e) ≡ 7 → ⊥)
         → Pushed (d .constant) c s e 1 v before d after r → And (decode (spanOf file s e))
     literal-and-plain some k p =
-        collects-as (literal-atom w c _ v small some (other-root w file s e h k)) (literal-push c s e h v small p)
+        collects-as (literal-atom w c _ v small some (other-root h k)) (literal-push c s e h v small p)
 
     pub literal-and-not : eqb c 0 ≡ false → kind (spanOf file s e) ≡ 7
         → hasVarDep (decode (spanOf file s e)) ≡ true
@@ -72,9 +72,9 @@ module _ (w : ℕ) (file : List ℕ) (before : List ℕ) (d : Descent) (after : 
         → And (decode (spanOf file s e))
     literal-and-not some k var p =
         collects-as
-        (literal-not w c _ v small some (not-root w file s e h k) var
-        ∙ ap (λ (t : Tree). collectNot w c t v) (not-operand w file s e h k))
-        (not-push c s (e - 16) (not-inner w file s e h k) v small p)
+        (literal-not w c _ v small some (not-root h k) var
+        ∙ ap (λ (t : Tree). collectNot w c t v) (not-operand h k))
+        (not-push c s (e - 16) (not-inner h k) v small p)
 
 pub literal-and-zero : (w : ℕ) (file words : List ℕ) (d : Descent) → Ready w 1 words d → (c : ℕ) (t : Tree) (v : ℕ) → c ≡ 0
     → Collects w file 1 (collectAnd w c t (Constant v)) words d words d
