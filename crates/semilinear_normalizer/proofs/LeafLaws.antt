@@ -1,4 +1,4 @@
--- Laws of the tree of a root without children (`leaf` of record's specs/Decode.antt): a literal or a variable, by its kind.
+-- Laws of the tree of a root without children (`leaf` of record's specs/Decode.antt): a literal or a variable.
 use mathlib.Core.Path.{_≡_, sym, _∙_}
 use Prim.Native.Nat.{ℕ}
 use mathlib.Core.List.{List}

@@ -76,8 +76,8 @@ module _ (w : ℕ) (file : List ℕ) (before : List ℕ) (d : Descent) (after : 
         ∙ ap (λ (t : Tree). collectNot w c t v) (not-operand h k))
         (not-push c s (e - 16) (not-inner h k) v small p)
 
-pub literal-and-zero : (w : ℕ) (file words : List ℕ) (d : Descent) → Ready w 1 words d → (c : ℕ) (t : Tree) (v : ℕ) → c ≡ 0
-    → Collects w file 1 (collectAnd w c t (Constant v)) words d words d
+pub literal-and-zero : (w : ℕ) (file words : List ℕ) (d : Descent) → Ready w 1 words d → (c : ℕ) (t : Tree) (v : ℕ)
+    → c ≡ 0 → Collects w file 1 (collectAnd w c t (Constant v)) words d words d
 literal-and-zero w file words d ready c t v e =
     collects-as (and-zero w c t (Constant v) e) (collects-none w file 1 words d ready)
 
@@ -90,8 +90,8 @@ module _ (w : ℕ) (file words : List ℕ) (d : Descent) (ready : Ready w 1 word
 
   pub ready-literal : Ready w 1 words e
   ready-literal =
-      ready-after w (ready .width) file 0 1 (linear (modMul c v w) []) (linear 0 []) words d words e constant-first ready
-      (ap (λ (x : Descent). x .linear) same ∙ ready .linear)
+      ready-after w (ready .width) file 0 1 (linear (modMul c v w) []) (linear 0 []) words d words e constant-first
+      ready (ap (λ (x : Descent). x .linear) same ∙ ready .linear)
 
   pub collects-literal : (k : ℕ) (t : Tree) (after : List ℕ) (r : Descent)
       → Collects w file 1 (collectAnd w (andCoeff w k c) t (Constant v)) words e after r

@@ -1,5 +1,4 @@
--- Laws of the terms that are put (specs/Index.antt): one by one they are the terms of the rows, and behind the atoms and
--- before the sum record they make the form's bytes.
+-- Laws of the terms that are put (specs/Index.antt): one by one they are the terms of the rows.
 use mathlib.Core.Path.{_≡_, refl, ap, sym, _∙_}
 use Prim.Native.Nat.{ℕ, zero, suc, _+_, _*_, _≤_}
 use native.Mathlib.Omega.{arith}

@@ -35,7 +35,8 @@ counted-none s h ok = absurd (omega (arith, sized-big s ok))
 counted-leaf : (s : List ℕ) → 16 ≤ length s → arity (kind s) ≡ 0 → Counted s
 unfolding Counted sizeOf
 counted-leaf s big a ok =
-    let d : sizeOf (decode s) ≡ 1 = ap sizeOf (fold-leaf _ _ _ _ s big a) ∙ leaf-both (λ (t : Tree). sizeOf t ≡ 1) s refl refl in
+    let d : sizeOf (decode s) ≡ 1 =
+    ap sizeOf (fold-leaf _ _ _ _ s big a) ∙ leaf-both (λ (t : Tree). sizeOf t ≡ 1) s refl refl in
     omega (arith, sized-leaf s ok a)
 
 counted-one : (s : List ℕ) → 16 ≤ length s → arity (kind s) ≡ 1 → Counted (body s) → Counted s

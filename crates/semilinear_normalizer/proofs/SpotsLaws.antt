@@ -1,5 +1,5 @@
--- Laws of specs/Spots.antt: atoms that stand in lent words keep what they stand for when another one is put behind them,
--- and what one more atom adds to what was collected.
+-- Laws of specs/Spots.antt: atoms that stand in lent words keep what they stand for when another one is put behind
+-- them, and what one more atom adds to what was collected.
 use mathlib.Core.Path.{_≡_, refl, ap, _∙_}
 use Prim.Native.Nat.{ℕ, zero, suc, _+_, _*_, _^_, _≤_, _<_}
 use native.Mathlib.Omega.{arith}
@@ -76,7 +76,8 @@ module _ (file : List ℕ) (n c s e m v : ℕ) (before : List ℕ) (d : Descent)
 
   old : (i : ℕ) → i < 5 * d .count → getD after i 0 ≡ getD before i 0
   old i h =
-      ap (λ (l : List ℕ). getD l i 0) (p .written) ∙ getD-put-before before (5 * d .count) (spotWords c s e m v) fits i h
+      ap (λ (l : List ℕ). getD l i 0) (p .written)
+      ∙ getD-put-before before (5 * d .count) (spotWords c s e m v) fits i h
 
   new : (i : ℕ) → i < 5 → getD after (5 * d .count + i) 0 ≡ getD (spotWords c s e m v) i 0
   new i h =

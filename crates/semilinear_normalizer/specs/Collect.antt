@@ -19,6 +19,7 @@ pub record Emitted : Type 0 where
   pub coeff : ℕ
   pub tree : Tree
 
+-- what a descent collects: a constant and weighted atoms, or nothing where it is not linear
 pub data Collected : Type 0 where
   nonlinear : Collected
   linear : ℕ → List Emitted → Collected
@@ -29,13 +30,15 @@ joinCollected w nonlinear y = nonlinear
 joinCollected w (linear c l) nonlinear = nonlinear
 joinCollected w (linear c l) (linear d m) = linear (modAdd c d w) (l ++ m)
 
--- an atom as it stands, and a variable-free subtree
+-- an atom as it stands
 unfoldable pub collectAtom : ℕ → Tree → Collected
 collectAtom c t = linear 0 (record { coeff = c; tree = t } ∷ [])
 
+-- a subtree without a variable
 unfoldable pub collectConstant : ℕ → ℕ → Tree → Collected
 collectConstant w c t = linear (modMul c (value w [] t) w) []
 
+-- the root is a Not
 unfoldable pub isNot : Tree → Bool
 isNot (Constant v) = false
 isNot (Variable i) = false
