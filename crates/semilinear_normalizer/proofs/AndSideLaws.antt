@@ -6,15 +6,15 @@ use mathlib.Core.List.{List, []}
 use mathlib.Core.Bool.{Bool, true, false, _||_}
 use lib.Dec.{eqb}
 use Rattle.record.specs.Tree.{Tree}
-use Rattle.record.specs.Tree.Tree.{Constant, Variable, Unary, Binary}
+use Rattle.record.specs.Tree.Tree.{Binary}
 use Rattle.record.proofs.SizedLaws.{false-true}
 use Rattle.expr.specs.Utils.{hasKind, hasVarDep}
 use Rattle.expr.specs.Value.{value}
 use Rattle.expr.proofs.ValueLaws.{value-lt}
 use Rattle.semilinear_normalizer.specs.declared.side.Side.{Side}
 use Rattle.semilinear_normalizer.specs.Collect.{collectAtom, isNot, operand, collectNot, collectAnd}
-use Rattle.semilinear_normalizer.specs.Spots.{SideAt, sideTree, SideOf, neither, at-right, at-left}
-use Rattle.semilinear_normalizer.specs.Spots.{isBinary, leftOf, rightOf, IsAnd}
+use Rattle.semilinear_normalizer.specs.Spots.{SideAt, sideTree, SideOf, neither, at-right, at-left, isBinary}
+use Rattle.semilinear_normalizer.specs.Spots.{leftOf, rightOf, IsAnd}
 use Rattle.semilinear_normalizer.proofs.AndLaws.{and-not-left, and-not-right, and-plain-left, and-plain-right}
 use Rattle.semilinear_normalizer.proofs.AndLaws.{and-both}
 

@@ -13,8 +13,7 @@ use lib.Dec.{eqb}
 use lib.Bits.{differ}
 use borrow.Author.Tests.{eqb-true, eqb-false, eq-eqb, not-false}
 use Rattle.arith.specs.Bit.{bitAt}
-use Rattle.arith.proofs.BitLaws.{bit-lt, bit-and, bit-or, bit-xor, bit-not, bit-mod}
-use Rattle.arith.proofs.BitLaws.{differ-lt}
+use Rattle.arith.proofs.BitLaws.{bit-lt, bit-and, bit-or, bit-xor, bit-not, bit-mod, differ-lt}
 use Rattle.record.specs.Choice.{when}
 use Rattle.record.specs.Tree.{Tree}
 use Rattle.record.specs.Tree.Tree.{Constant, Variable, Unary, Binary}

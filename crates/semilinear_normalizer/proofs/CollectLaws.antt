@@ -2,12 +2,11 @@
 use mathlib.Core.Path.{_≡_, refl, ap, ap₂, sym, subst, _∙_}
 use Prim.Native.Nat.{ℕ, _+_, _-_, _*_, _%_, _^_, _≤_, _<_}
 use native.Mathlib.Omega.{arith}
-use native.Mathlib.Nat.{lt-of-lt-of-le, mod-eq-of-lt, zero-mul, mul-assoc, mul-comm}
+use native.Mathlib.Nat.{mod-eq-of-lt, zero-mul, mul-assoc, mul-comm}
 use mathlib.Core.Logic.{_⊎_}
 use mathlib.Core.List.{List, [], _∷_, _++_}
 use mathlib.Core.Bool.{Bool, true, false, not, _&&_, _||_}
 use lib.Dec.{eqb}
-use lib.Pow.{pow-mono}
 use lib.Bits.{bitAnd, and-comm}
 use borrow.Author.Tests.{eqb-true, eqb-false, ne-eqb, not-true}
 use Rattle.arith.specs.Congruence.{Eqm}
@@ -24,13 +23,13 @@ use Rattle.expr.specs.Utils.{hasKind, hasVarDep, hasArith}
 use Rattle.expr.specs.Value.{binary, value}
 use Rattle.expr.proofs.ValueLaws.{value-lt, value-closed}
 use Rattle.expr.proofs.IsExprLaws.{unary-of-expr, binary-of-expr}
-use Rattle.semilinear_normalizer.specs.Collect.{Emitted, Collected, nonlinear, linear}
-use Rattle.semilinear_normalizer.specs.Collect.{joinCollected, collectAtom, collectConstant, isNot, operand}
-use Rattle.semilinear_normalizer.specs.Collect.{collectNot, isMaskedNot, collectAnd, andCoeff, collectMasked}
-use Rattle.semilinear_normalizer.specs.Collect.{collectTerms}
-use Rattle.semilinear_normalizer.proofs.RootLaws.{five-six, four, literal-value, orXor}
-use Rattle.semilinear_normalizer.proofs.RootLaws.{or-xor-comm, and-coeff, not-value, value-neg, value-add}
-use Rattle.semilinear_normalizer.proofs.RootLaws.{value-mul, value-or-xor, value-and}
+use Rattle.semilinear.proofs.RowsLaws.{word-lt}
+use Rattle.semilinear_normalizer.specs.Collect.{Emitted, Collected, nonlinear, linear, joinCollected, collectAtom}
+use Rattle.semilinear_normalizer.specs.Collect.{collectConstant, isNot, operand, collectNot, isMaskedNot}
+use Rattle.semilinear_normalizer.specs.Collect.{collectAnd, andCoeff, collectMasked, collectTerms}
+use Rattle.semilinear_normalizer.proofs.RootLaws.{five-six, four, literal-value, orXor, or-xor-comm, and-coeff}
+use Rattle.semilinear_normalizer.proofs.RootLaws.{not-value, value-neg, value-add, value-mul, value-or-xor}
+use Rattle.semilinear_normalizer.proofs.RootLaws.{value-and}
 
 -- the coefficient times the atom, of all that was emitted
 unfoldable pub sumEmitted : ℕ → List ℕ → List Emitted → ℕ
@@ -51,9 +50,6 @@ module _ (w : ℕ) (vars : List ℕ) (hw : w ≤ 64) where
 
   abbrev v : Tree → ℕ
   v = value w vars
-
-  word : {n : ℕ} → n < 2 ^ w → n < 2 ^ 64
-  word h = lt-of-lt-of-le h (pow-mono hw)
 
   has-eqm : (x : Collected) {a b : ℕ} → Eqm (2 ^ w) a b → HasValue x a → HasValue x b
   unfolding HasValue
@@ -166,7 +162,7 @@ module _ (w : ℕ) (vars : List ℕ) (hw : w ≤ 64) where
       (λ h. has-constant c (Unary k a t) (closed-one k a t e (not-true _ h)))
       (λ h. has-when (eqb k 8) _ _ (c * v (Unary k a t))
       (λ n. has-eqm _ (subst (λ (j : ℕ). Eqm (2 ^ w) (modNeg c w * v t) (c * v (Unary j a t))) (sym (eqb-true k 8 n))
-      (value-neg w vars a t c hw hc)) (below (modNeg c w) (word (mod-neg-lt c w hw))))
+      (value-neg w vars a t c hw hc)) (below (modNeg c w) (word-lt w _ hw (mod-neg-lt c w hw))))
       (λ n. has-when (hasArith t) _ _ (c * v (Unary k a t)) (λ x. has-nonlinear _) (λ x. has-atom c (Unary k a t)))))
 
   closed-two : (k : ℕ) (l r : Tree) → 2 ≤ k → hasVarDep l || hasVarDep r ≡ false → hasVarDep (Binary k l r) ≡ false
@@ -182,7 +178,7 @@ module _ (w : ℕ) (vars : List ℕ) (hw : w ≤ 64) where
       (eqm-trans (eqm-mul-r (v t) (mod-mul-eqm c (value w [] m) w hw))
       (eqm-of-eq
       (mul-assoc c (value w [] m) (v t) ∙ ap (λ (x : ℕ). c * (x * v t)) (sym (value-closed w vars m hm)))))
-      (below (modMul c (value w [] m) w) (word (mod-mul-lt c (value w [] m) w hw)))
+      (below (modMul c (value w [] m) w) (word-lt w _ hw (mod-mul-lt c (value w [] m) w hw)))
 
   kept-mul : (l r : Tree) (c : ℕ) → Kept l → Kept r
       → HasValue

@@ -1,5 +1,5 @@
--- Laws of the steps of the descent (specs/Spots.antt, Collects and Ready): what single steps collect, and one step after
--- another.
+-- Laws of the steps of the descent (specs/Spots.antt, Collects and Ready): what single steps collect, and one step
+-- after another.
 use mathlib.Core.Path.{_≡_, refl, ap, sym, _∙_}
 use Prim.Native.Nat.{ℕ, _+_, _≤_}
 use native.Mathlib.Omega.{arith}
@@ -69,8 +69,8 @@ module _ (w : ℕ) (file : List ℕ) (n : ℕ) (words : List ℕ) (d : Descent) 
 -- ---- one step after another
 
 -- of a bigger tree
-pub collects-more : {w : ℕ} {file : List ℕ} {n : ℕ} {x : Collected} {a : List ℕ} {d : Descent} {b : List ℕ} {r : Descent}
-    (m : ℕ) → n ≤ m → Collects w file n x a d b r → Collects w file m x a d b r
+pub collects-more : {w : ℕ} {file : List ℕ} {n : ℕ} {x : Collected} {a : List ℕ} {d : Descent} {b : List ℕ}
+    {r : Descent} (m : ℕ) → n ≤ m → Collects w file n x a d b r → Collects w file m x a d b r
 collects-more m h c =
     record {
       collected = c .collected;
@@ -81,8 +81,8 @@ collects-more m h c =
     }
 
 -- with what it collects written otherwise
-pub collects-as : {w : ℕ} {file : List ℕ} {n : ℕ} {x y : Collected} {a : List ℕ} {d : Descent} {b : List ℕ} {r : Descent}
-    → y ≡ x → Collects w file n x a d b r → Collects w file n y a d b r
+pub collects-as : {w : ℕ} {file : List ℕ} {n : ℕ} {x y : Collected} {a : List ℕ} {d : Descent} {b : List ℕ}
+    {r : Descent} → y ≡ x → Collects w file n x a d b r → Collects w file n y a d b r
 collects-as e c = rw e c
 
 module _ (w : ℕ) (hw : w ≤ 64) (file : List ℕ) (n m : ℕ) (x y : Collected) (a : List ℕ) (d : Descent) (b : List ℕ)

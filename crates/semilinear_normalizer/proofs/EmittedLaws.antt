@@ -3,11 +3,10 @@
 use mathlib.Core.Path.{_≡_, refl}
 use Prim.Native.Nat.{ℕ, _^_, _≤_, _<_}
 use native.Mathlib.Omega.{arith}
-use native.Mathlib.Nat.{lt-of-lt-of-le}
 use mathlib.Core.List.{List, [], _∷_, _++_}
 use mathlib.Core.Bool.{Bool, true, false, not, _&&_, _||_}
 use lib.Dec.{eqb}
-use lib.Pow.{pow-pos, pow-mono}
+use lib.Pow.{pow-pos}
 use borrow.Author.Tests.{eqb-false, not-true, not-false}
 use Rattle.arith.specs.Width.{modMul, modNeg}
 use Rattle.arith.proofs.WidthLaws.{mod-add-lt, mod-mul-lt, mod-neg-lt}
@@ -23,10 +22,10 @@ use Rattle.expr.proofs.IsExprLaws.{unary-of-expr, binary-of-expr}
 use Rattle.semilinear.proofs.AtomLaws.{Atom, bitwise-one, Sides, sides, sides-atom, left-atom, right-atom}
 use Rattle.semilinear.proofs.AtomLaws.{literal-sides, masked-atom}
 use Rattle.semilinear.proofs.SearchLaws.{when-both}
-use Rattle.semilinear_normalizer.specs.Collect.{Emitted, Collected, nonlinear, linear}
-use Rattle.semilinear_normalizer.specs.Collect.{joinCollected, collectAtom, collectConstant, isNot, operand}
-use Rattle.semilinear_normalizer.specs.Collect.{collectNot, isMaskedNot, collectAnd, andCoeff, collectMasked}
-use Rattle.semilinear_normalizer.specs.Collect.{collectTerms}
+use Rattle.semilinear.proofs.RowsLaws.{word-lt}
+use Rattle.semilinear_normalizer.specs.Collect.{Emitted, Collected, nonlinear, linear, joinCollected, collectAtom}
+use Rattle.semilinear_normalizer.specs.Collect.{collectConstant, isNot, operand, collectNot, isMaskedNot}
+use Rattle.semilinear_normalizer.specs.Collect.{collectAnd, andCoeff, collectMasked, collectTerms}
 use Rattle.semilinear_normalizer.proofs.RootLaws.{four, operand-atom}
 
 module _ (w : ℕ) (hw : w ≤ 64) where
@@ -69,13 +68,10 @@ module _ (w : ℕ) (hw : w ≤ 64) where
   unfolding GoodCollected AllGood collectConstant
   good-constant c t = (mod-mul-lt c (value w [] t) w hw, tt)
 
-  word : {n : ℕ} → n < 2 ^ w → n < 2 ^ 64
-  word h = lt-of-lt-of-le h (pow-mono hw)
-
   good-not : (c : ℕ) (x : Tree) (k : ℕ) → k < 2 ^ w → Atom x → GoodCollected (collectNot w c x k)
   unfolding GoodCollected AllGood collectNot
   good-not c x k hk h =
-      (mod-mul-lt c k w hw, (record { atom = masked-atom x k (word hk) h; fits = mod-neg-lt c w hw }, tt))
+      (mod-mul-lt c k w hw, (record { atom = masked-atom x k (word-lt w k hw hk) h; fits = mod-neg-lt c w hw }, tt))
 
   -- ---- the cases of the descent
 
@@ -111,7 +107,7 @@ module _ (w : ℕ) (hw : w ≤ 64) where
   good-masked k c x t m h a =
       good-join _ _ (good-join _ _ h (good-constant c m))
       (good-and (andCoeff w k c) t (Constant (value w [] m)) (and-coeff-lt k c)
-      (literal-sides t (value w [] m) (word (value-lt w [] m)) a))
+      (literal-sides t (value w [] m) (word-lt w _ hw (value-lt w [] m)) a))
 
   -- ---- the descent
 

@@ -14,8 +14,8 @@ use Rattle.expr.specs.Utils.{hasKind, isArith, isBitwise, hasArith, hasConstant
 use Rattle.expr.specs.Value.{unary, binary, value}
 use Rattle.expr.specs.Vars.{nextVar, supportF, support, sameVars}
 use Rattle.expr.specs.Hash.{mixHash, tagHash, varHash, structuralHash}
-use Rattle.semilinear.specs.Form.{Row, termCount, atomBytes, atomsBytes, termBytes, termsBytes, sumBytes}
-use Rattle.semilinear.specs.Form.{encodeForm, eqTree, treeRecords, fitsTable}
+use Rattle.semilinear.specs.Form.{Row, termCount, atomBytes, atomsBytes, termBytes, termsBytes, sumBytes, encodeForm}
+use Rattle.semilinear.specs.Form.{eqTree, treeRecords, fitsTable}
 use Rattle.semilinear.specs.Outcome.{Outcome, accepted, refused, refusalOf, formOutcome}
 use Rattle.semilinear_normalizer.specs.Collect.{joinCollected, collectAtom, collectConstant, isNot, operand}
 use Rattle.semilinear_normalizer.specs.Collect.{collectNot, isMaskedNot, collectAnd, andCoeff, collectMasked}

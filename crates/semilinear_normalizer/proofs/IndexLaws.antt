@@ -1,19 +1,20 @@
 -- Laws of the view of the atom table (specs/Index.antt): its length, one row more, a coefficient added, and that rows
 -- and entries stay where words and bytes before them do.
 use mathlib.Core.Path.{_≡_, refl, ap, ap₂, sym, _∙_}
-use Prim.Native.Nat.{ℕ, zero, suc, _+_, _-_, _*_, _≤_, _<_}
+use Prim.Native.Nat.{ℕ, zero, suc, _+_, _*_, _≤_, _<_}
 use native.Mathlib.Omega.{arith}
 use native.Mathlib.Numerals.{add-one}
 use native.Mathlib.Decide.{decLt}
 use mathlib.Core.List.{List, [], _∷_, _++_}
-use lib.ListN.{length, getD, take, drop, set, length-append}
-use lib.Seq.{take-nil, take-take, getD-take, take-set-le, drop-set-lt, getD-set-same, getD-set-other}
+use lib.ListN.{length, getD, take, set, length-append}
+use lib.Seq.{getD-set-same, getD-set-other}
 use Rattle.arith.specs.Width.{modAdd}
 use Rattle.expr.proofs.RefusalLaws.{sized-accepted}
 use Rattle.semilinear.specs.Form.{Row}
 use Rattle.semilinear_normalizer.specs.Register.{addRow}
 use Rattle.semilinear_normalizer.specs.Spots.{spanOf}
 use Rattle.semilinear_normalizer.specs.Index.{entrySpan, rowAt, rowsIn, EntryOk, Searchable}
+use Rattle.semilinear_normalizer.proofs.PartLaws.{getD-same, span-same, span-set-before, span-set-behind}
 
 -- ---- one row more
 
@@ -27,11 +28,6 @@ unfolding rowsIn
 length-rows-in index out zero = refl
 length-rows-in index out (suc n) =
     length-append (rowsIn index out n) (rowAt index out n ∷ []) ∙ rw (length-rows-in index out n) (omega arith)
-
-pub add-row-end : (w : ℕ) (new : Row) (l : List Row) → addRow w new (length l) l ≡ l ++ (new ∷ [])
-unfolding addRow
-add-row-end w new [] = refl
-add-row-end w new (x ∷ l) = ap (λ (m : List Row). x ∷ m) (add-row-end w new l)
 
 -- ---- the rows from one number on
 
@@ -69,37 +65,6 @@ module _ (index out index' out' : List ℕ) where
       rows-from index' out' n
       ∙ rows-from-ext n 0 (λ j h k. same j (omega arith))
       ∙ sym (rows-from index out n)
-
--- ---- parts of a list
-
-drop-take : (s m k : ℕ) (l : List ℕ) → s + m ≡ k → drop s (take k l) ≡ take m (drop s l)
-drop-take zero m k l e = let f : k ≡ m = omega arith in ap (λ (i : ℕ). take i l) f
-drop-take (suc s) m zero l e = absurd (omega arith)
-drop-take (suc s) m (suc k) [] e = sym (take-nil m)
-drop-take (suc s) m (suc k) (x ∷ l) e = drop-take s m k l (omega arith)
-
-span-take : (l : List ℕ) (s e n : ℕ) → s ≤ e → e ≤ n → spanOf (take n l) s e ≡ spanOf l s e
-unfolding spanOf
-span-take l s e n h k =
-    sym (drop-take s (e - s) e (take n l) (omega arith))
-    ∙ ap (drop s) (take-take e n l k)
-    ∙ drop-take s (e - s) e l (omega arith)
-
--- lists with the same first n elements have the same elements and parts before n
-module _ (l m : List ℕ) (n : ℕ) (same : take n m ≡ take n l) where
-  pub getD-same : (i : ℕ) → i < n → getD m i 0 ≡ getD l i 0
-  getD-same i h = sym (getD-take n m i 0 h) ∙ ap (λ (x : List ℕ). getD x i 0) same ∙ getD-take n l i 0 h
-
-  pub span-same : (s e : ℕ) → s ≤ e → e ≤ n → spanOf m s e ≡ spanOf l s e
-  span-same s e h k = sym (span-take m s e n h k) ∙ ap (λ (x : List ℕ). spanOf x s e) same ∙ span-take l s e n h k
-
--- one element set before a part or behind it
-pub span-set-before : (l : List ℕ) (i a s e : ℕ) → i < s → spanOf (set l i a) s e ≡ spanOf l s e
-unfolding spanOf
-span-set-before l i a s e h = ap (take (e - s)) (drop-set-lt s l i a h)
-
-pub span-set-behind : (l : List ℕ) (i a s e : ℕ) → s ≤ e → e ≤ i → spanOf (set l i a) s e ≡ spanOf l s e
-span-set-behind l i a s e h k = span-same l (set l i a) e (take-set-le e l i a k) s e h (omega arith)
 
 -- ---- entries
 

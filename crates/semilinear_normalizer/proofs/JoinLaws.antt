@@ -1,5 +1,5 @@
--- Laws of `joinCollected` (specs/Collect.antt): what is collected one after the other, grouped either way, and what adds
--- nothing.
+-- Laws of `joinCollected` (specs/Collect.antt): what is collected one after the other, grouped either way, and what
+-- adds nothing.
 use mathlib.Core.Path.{_≡_, refl, ap, ap₂, sym, _∙_}
 use Prim.Native.Nat.{ℕ, _+_, _%_, _^_, _≤_, _<_}
 use native.Mathlib.Nat.{add-assoc, add-zero, mod-add-mod, add-mod-mod, mod-eq-of-lt}

@@ -1,4 +1,6 @@
 -- The laws of the definitions, for the crates above.
+mod LeafLaws
+mod PartLaws
 pub mod RootLaws
 pub mod JoinLaws
 pub mod CollectLaws
@@ -28,6 +30,8 @@ mod PushLaws
 mod AndSideLaws
 mod WholeLaws
 mod DescentLaws
+mod AddLaws
+mod WayOnLaws
 mod PutSpanLaws
 mod IndexLaws
 mod SlotLaws

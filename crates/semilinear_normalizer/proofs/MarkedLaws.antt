@@ -3,13 +3,10 @@ use mathlib.Core.Path.{_≡_, refl, ap, ap₂, sym, _∙_}
 use Prim.Native.Nat.{ℕ, _+_, _-_, _≤_}
 use native.Mathlib.Omega.{arith}
 use mathlib.Core.List.{List, [], _∷_}
-use mathlib.Core.Bool.{Bool, true, false}
-use lib.Dec.{eqb}
+use mathlib.Core.Bool.{true}
 use lib.ListN.{length}
-use Rattle.record.specs.Choice.{when}
-use Rattle.record.specs.Fields.{kind, size, varIndex, literal, arity}
+use Rattle.record.specs.Fields.{kind, size, arity}
 use Rattle.record.specs.Tree.{Tree, sizeOf}
-use Rattle.record.specs.Tree.Tree.{Constant, Variable}
 use Rattle.record.specs.Span.{body, left, right, sized}
 use Rattle.record.specs.Decode.{leaf, decode}
 use Rattle.record.specs.Put.{put}
@@ -21,6 +18,7 @@ use Rattle.expr.specs.Utils.{traitsOf, joinTraits, nodeTraits}
 use Rattle.expr.proofs.UtilsLaws.{traits-one, traits-two}
 use Rattle.semilinear_normalizer.specs.Marks.{markNumber, markOf, marksOf, Marked}
 use Rattle.semilinear_normalizer.proofs.MarksLaws.{length-marks}
+use Rattle.semilinear_normalizer.proofs.LeafLaws.{leaf-both}
 use Rattle.semilinear_normalizer.proofs.SpanOfLaws.{size-sized}
 
 -- the mark of what a tree holds
@@ -32,15 +30,8 @@ unfolding markOf traitsOf
 number-of t e = ap numberOf e
 
 leaf-marks : (s : List ℕ) → marksOf (leaf s) ≡ markOf (leaf s) ∷ []
-unfolding leaf marksOf
-leaf-marks s = go (eqb (kind s) 0)
-  where
-    leafIf : Bool → Tree
-    leafIf b = when b (λ _. Constant (literal s)) (λ _. Variable (varIndex s))
-
-    go : (b : Bool) → marksOf (leafIf b) ≡ markOf (leafIf b) ∷ []
-    go true = refl
-    go false = refl
+unfolding marksOf
+leaf-marks s = leaf-both (λ (t : Tree). marksOf t ≡ markOf t ∷ []) s refl refl
 
 pub size-pos : (s : List ℕ) → sized s ≡ true → 1 ≤ size s
 size-pos s ok = omega (arith, sized-length s ok, sized-big s ok)

@@ -74,6 +74,18 @@ module _ (w : ℕ) (pos : 1 ≤ w) (hw : w ≤ 64) (t : Tree) (expr : isExpr t �
         register-all-ok w [] hw l [] (good .1) refl,
       )
 
+-- ---- what was collected
+
+module _ (w c : ℕ) (l : List Emitted) where
+  pub collected-nine : fitsTable (collectedForm w c l .rows) ≡ false → collectedOutcome w (linear c l) ≡ refused 9
+  unfolding collectedOutcome
+  collected-nine f = simp f
+
+  pub collected-form : fitsTable (collectedForm w c l .rows) ≡ true
+      → collectedOutcome w (linear c l) ≡ formOutcome (collectedForm w c l) false
+  unfolding collectedOutcome
+  collected-form f = simp f
+
 -- ---- a tree
 
 -- what normalising a tree gives, by the first test that decides
@@ -88,7 +100,7 @@ pub data TreeCase (w : ℕ) (t : Tree) : Type 0 where
       → TreeCase w t
 
 module _ (w : ℕ) (t : Tree) where
-  tree-collected : hasConstantArith t ≡ false → normalizeTree w t ≡ collectedOutcome w (collectTerms w 1 t)
+  pub tree-collected : hasConstantArith t ≡ false → normalizeTree w t ≡ collectedOutcome w (collectTerms w 1 t)
   unfolding normalizeTree
   tree-collected h = simp h
 
@@ -102,13 +114,11 @@ module _ (w : ℕ) (t : Tree) where
 
   module _ (h : hasConstantArith t ≡ false) (c : ℕ) (l : List Emitted) (e : collectTerms w 1 t ≡ linear c l) where
     pub tree-nine : fitsTable (collectedForm w c l .rows) ≡ false → normalizeTree w t ≡ refused 9
-    unfolding collectedOutcome
-    tree-nine f = tree-collected h ∙ ap (collectedOutcome w) e ∙ simp f
+    tree-nine f = tree-collected h ∙ ap (collectedOutcome w) e ∙ collected-nine w c l f
 
     pub tree-form : fitsTable (collectedForm w c l .rows) ≡ true
         → normalizeTree w t ≡ formOutcome (collectedForm w c l) false
-    unfolding collectedOutcome
-    tree-form f = tree-collected h ∙ ap (collectedOutcome w) e ∙ simp f
+    tree-form f = tree-collected h ∙ ap (collectedOutcome w) e ∙ collected-form w c l f
 
   pub tree-case : TreeCase w t
   tree-case = go (hasConstantArith t) (collectTerms w 1 t) refl refl

@@ -3,7 +3,7 @@
 use mathlib.Core.Path.{_≡_, refl, ap, sym, _∙_}
 use Prim.Native.Nat.{ℕ, _+_, _-_, _*_, _^_, _≤_, _<_}
 use native.Mathlib.Omega.{arith}
-use mathlib.Core.List.{List, [], _∷_}
+use mathlib.Core.List.{List, []}
 use mathlib.Core.Bool.{true, false}
 use lib.ListN.{length}
 use lib.Pow.{pow-pos}
@@ -16,14 +16,13 @@ use Rattle.record.specs.Decode.{decode}
 use Rattle.expr.specs.Utils.{hasVarDep}
 use Rattle.semilinear_normalizer.specs.declared.collect.Descent.{Descent}
 use Rattle.semilinear_normalizer.specs.Collect.{linear, collectAtom, collectNot, collectAnd, andCoeff}
-use Rattle.semilinear_normalizer.specs.Spots.{spanOf, spotTree, Accepted, Collects, Pushed, Ready}
-use Rattle.semilinear_normalizer.specs.Spots.{collectLiteral}
+use Rattle.semilinear_normalizer.specs.Spots.{spanOf, spotTree, Accepted, Collects, Pushed, Ready, collectLiteral}
 use Rattle.semilinear_normalizer.proofs.JoinLaws.{mod-add-zero}
 use Rattle.semilinear_normalizer.proofs.AndLaws.{literal-not, literal-atom, and-zero}
 use Rattle.semilinear_normalizer.proofs.InnerLaws.{not-inner, not-root, not-operand, other-root}
 use Rattle.semilinear_normalizer.proofs.SpotsLaws.{spotOf, collects-push}
-use Rattle.semilinear_normalizer.proofs.CollectsLaws.{collects-as, collects-none, collects-constant, collects-then}
-use Rattle.semilinear_normalizer.proofs.CollectsLaws.{ready-after, ready-less}
+use Rattle.semilinear_normalizer.proofs.CollectsLaws.{collects-as, collects-none, collects-constant}
+use Rattle.semilinear_normalizer.proofs.CollectsLaws.{collects-then, ready-after, ready-less}
 
 module _ (w : ℕ) (file : List ℕ) (before : List ℕ) (d : Descent) (after : List ℕ) (r : Descent)
     (ready : Ready w 1 before d) where
@@ -65,7 +64,7 @@ module _ (w : ℕ) (file : List ℕ) (before : List ℕ) (d : Descent) (after : 
     pub literal-and-plain : eqb c 0 ≡ false → (kind (spanOf file s e) ≡ 7 → ⊥)
         → Pushed (d .constant) c s e 1 v before d after r → And (decode (spanOf file s e))
     literal-and-plain some k p =
-        collects-as (literal-atom w c _ v small some (other-root w file s e h k)) (literal-push c s e h v small p)
+        collects-as (literal-atom w c _ v small some (other-root h k)) (literal-push c s e h v small p)
 
     pub literal-and-not : eqb c 0 ≡ false → kind (spanOf file s e) ≡ 7
         → hasVarDep (decode (spanOf file s e)) ≡ true
@@ -73,12 +72,12 @@ module _ (w : ℕ) (file : List ℕ) (before : List ℕ) (d : Descent) (after : 
         → And (decode (spanOf file s e))
     literal-and-not some k var p =
         collects-as
-        (literal-not w c _ v small some (not-root w file s e h k) var
-        ∙ ap (λ (t : Tree). collectNot w c t v) (not-operand w file s e h k))
-        (not-push c s (e - 16) (not-inner w file s e h k) v small p)
+        (literal-not w c _ v small some (not-root h k) var
+        ∙ ap (λ (t : Tree). collectNot w c t v) (not-operand h k))
+        (not-push c s (e - 16) (not-inner h k) v small p)
 
-pub literal-and-zero : (w : ℕ) (file words : List ℕ) (d : Descent) → Ready w 1 words d → (c : ℕ) (t : Tree) (v : ℕ) → c ≡ 0
-    → Collects w file 1 (collectAnd w c t (Constant v)) words d words d
+pub literal-and-zero : (w : ℕ) (file words : List ℕ) (d : Descent) → Ready w 1 words d → (c : ℕ) (t : Tree) (v : ℕ)
+    → c ≡ 0 → Collects w file 1 (collectAnd w c t (Constant v)) words d words d
 literal-and-zero w file words d ready c t v e =
     collects-as (and-zero w c t (Constant v) e) (collects-none w file 1 words d ready)
 
@@ -91,8 +90,8 @@ module _ (w : ℕ) (file words : List ℕ) (d : Descent) (ready : Ready w 1 word
 
   pub ready-literal : Ready w 1 words e
   ready-literal =
-      ready-after w (ready .width) file 0 1 (linear (modMul c v w) []) (linear 0 []) words d words e constant-first ready
-      (ap (λ (x : Descent). x .linear) same ∙ ready .linear)
+      ready-after w (ready .width) file 0 1 (linear (modMul c v w) []) (linear 0 []) words d words e constant-first
+      ready (ap (λ (x : Descent). x .linear) same ∙ ready .linear)
 
   pub collects-literal : (k : ℕ) (t : Tree) (after : List ℕ) (r : Descent)
       → Collects w file 1 (collectAnd w (andCoeff w k c) t (Constant v)) words e after r

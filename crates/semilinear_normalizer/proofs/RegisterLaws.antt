@@ -12,11 +12,10 @@ use Rattle.arith.specs.Width.{modAdd}
 use Rattle.arith.proofs.CongruenceLaws.{eqm-of-eq, eqm-refl, eqm-trans, eqm-add, eqm-mul-r}
 use Rattle.arith.proofs.WidthLaws.{mod-add-eqm, mod-add-lt}
 use Rattle.record.specs.Choice.{when}
-use Rattle.record.specs.Tree.{Tree, encode}
+use Rattle.record.specs.Tree.{Tree}
 use Rattle.record.specs.Tree.Tree.{Constant, Variable, Unary, Binary}
-use Rattle.expr.specs.Refusal.{isExpr}
 use Rattle.expr.specs.Value.{value}
-use Rattle.semilinear.specs.Form.{Row, sumRows, eqTree, rowsOk}
+use Rattle.semilinear.specs.Form.{Row, sumRows, rowsOk}
 use Rattle.semilinear.proofs.FormLaws.{Good, good-row, rows-cons}
 use Rattle.semilinear.proofs.AtomLaws.{Atom, atom-tree, tree-atom, eq-of-eq-tree}
 use Rattle.semilinear_normalizer.specs.Collect.{Emitted}

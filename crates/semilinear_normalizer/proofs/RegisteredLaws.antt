@@ -10,10 +10,8 @@ use mathlib.Core.Bool.{Bool, true, false, _||_}
 use lib.ListN.{length}
 use lib.Dec.{eqb, leb}
 use borrow.Author.Tests.{ne-eqb, le-leb, leb-true}
-use Rattle.record.specs.Choice.{when}
-use Rattle.record.specs.Fields.{kind, varIndex, literal}
 use Rattle.record.specs.Tree.{Tree}
-use Rattle.record.specs.Tree.Tree.{Constant, Variable, Unary, Binary}
+use Rattle.record.specs.Tree.Tree.{Unary, Binary}
 use Rattle.record.specs.Decode.{leaf}
 use Rattle.record.proofs.SizedLaws.{false-true, and-true}
 use Rattle.semilinear.specs.Form.{Row, treeRecords, fitsTable}
@@ -23,6 +21,7 @@ use Rattle.semilinear_normalizer.specs.Register.{familyOf, detectProvena
 use Rattle.semilinear_normalizer.specs.Register.{registerAll}
 use Rattle.semilinear_normalizer.specs.Spots.{spotAt, spotsIn}
 use Rattle.semilinear_normalizer.specs.Index.{joinProvenance, rowOf}
+use Rattle.semilinear_normalizer.proofs.LeafLaws.{leaf-both}
 
 -- ---- the family of a root
 
@@ -41,12 +40,8 @@ module _ (f x y : ℕ) where
   family-in p q = rw (p, q)
 
 pub provenance-leaf : (s : List ℕ) → detectProvenance (leaf s) ≡ 4
-unfolding leaf detectProvenance
-provenance-leaf s = go (eqb (kind s) 0)
-  where
-    go : (b : Bool) → detectProvenance (when b (λ _. Constant (literal s)) (λ _. Variable (varIndex s))) ≡ 4
-    go true = refl
-    go false = refl
+unfolding detectProvenance
+provenance-leaf s = leaf-both (λ (t : Tree). detectProvenance t ≡ 4) s refl refl
 
 module _ (k a : ℕ) (t : Tree) where
   pub provenance-not : k ≡ 7 → detectProvenance (Unary k a t) ≡ 3

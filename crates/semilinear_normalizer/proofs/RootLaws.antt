@@ -1,20 +1,19 @@
 -- The value of a root from its children's, times a coefficient, modulo 2 ^ w: what each case of the descent rests on.
-use mathlib.Core.Path.{_≡_, refl, ap, ap₂, sym, _∙_}
+use mathlib.Core.Path.{_≡_, refl, ap, sym, _∙_}
 use Prim.Native.Nat.{ℕ, _+_, _-_, _*_, _^_, _≤_, _<_}
 use native.Mathlib.Omega.{arith}
-use native.Mathlib.Nat.{lt-of-lt-of-le, mod-eq-of-lt, zero-mul, add-mul}
+use native.Mathlib.Nat.{mod-eq-of-lt, zero-mul, add-mul}
 use native.Mathlib.Decide.{ℕ-discrete}
 use mathlib.Core.Logic.{_⊎_, inl, inr}
 use mathlib.Core.List.{List, []}
-use mathlib.Core.Bool.{Bool, true, false, _||_}
+use mathlib.Core.Bool.{Bool, true, false}
 use lib.Dec.{eqb}
-use lib.Pow.{pow-mono}
 use borrow.Author.Tests.{ne-eqb}
 use lib.Bits.{bitAnd, bitOr, bitXor, or-comm, xor-comm}
 use Rattle.arith.specs.Congruence.{Eqm}
 use Rattle.arith.specs.Width.{modMul, modNeg}
-use Rattle.arith.proofs.CongruenceLaws.{eqm-intro, eqm-of-eq, eqm-refl, eqm-sym, eqm-trans, eqm-mod}
-use Rattle.arith.proofs.CongruenceLaws.{eqm-add, eqm-mul-r, eqm-mul-l, eqm-cancel}
+use Rattle.arith.proofs.CongruenceLaws.{eqm-intro, eqm-of-eq, eqm-refl, eqm-sym, eqm-trans, eqm-mod, eqm-add, eqm-mul-r}
+use Rattle.arith.proofs.CongruenceLaws.{eqm-mul-l, eqm-cancel}
 use Rattle.arith.proofs.WidthLaws.{mod-mul-eqm, mod-mul-lt, mod-neg-eqm, mod-neg-lt}
 use Rattle.arith.proofs.MaskLaws.{or-minus, xor-minus}
 use Rattle.record.specs.Choice.{when}
@@ -27,6 +26,7 @@ use Rattle.expr.specs.Value.{unary, binary, value}
 use Rattle.expr.proofs.IsExprLaws.{unary-of-expr}
 use Rattle.expr.proofs.ValueLaws.{value-lt, value-closed}
 use Rattle.semilinear.proofs.AtomLaws.{Atom}
+use Rattle.semilinear.proofs.RowsLaws.{word-lt}
 use Rattle.semilinear_normalizer.specs.Collect.{isNot, operand, andCoeff}
 
 -- ---- tests and kinds
@@ -63,9 +63,6 @@ or-xor-comm k x y = go (eqb k 6)
     go false = or-comm x y
 
 module _ (w : ℕ) (hw : w ≤ 64) where
-  word : {n : ℕ} → n < 2 ^ w → n < 2 ^ 64
-  word h = lt-of-lt-of-le h (pow-mono hw)
-
   -- c·x + c·y and the coefficient of x & y make c times the Or or Xor of x and y
   pub and-coeff : (k c : ℕ) (x y : ℕ) → c < 2 ^ 64
       → (andCoeff w k c < 2 ^ 64) × Eqm (2 ^ w) (c * x + c * y + andCoeff w k c * bitAnd x y) (c * orXor k x y)
@@ -77,15 +74,15 @@ module _ (w : ℕ) (hw : w ≤ 64) where
           eqm-trans
           (eqm-add (eqm-refl (modNeg (modMul c 2 w) w))
           (eqm-sym (eqm-trans (mod-mul-eqm c 2 w hw) (eqm-of-eq (omega arith)))))
-          (mod-neg-eqm (modMul c 2 w) w hw (word (mod-mul-lt c 2 w hw)))
+          (mod-neg-eqm (modMul c 2 w) w hw (word-lt w _ hw (mod-mul-lt c 2 w hw)))
 
       go : (b : Bool)
           → (when b (λ _. modNeg (modMul c 2 w) w) (λ _. modNeg c w) < 2 ^ 64)
           × Eqm (2 ^ w) (c * x + c * y + when b (λ _. modNeg (modMul c 2 w) w) (λ _. modNeg c w) * bitAnd x y)
           (c * when b (λ _. bitXor x y) (λ _. bitOr x y))
       go true =
-          (word (mod-neg-lt (modMul c 2 w) w hw), eqm-sym (xor-minus (2 ^ w) c x y (modNeg (modMul c 2 w) w) double))
-      go false = (word (mod-neg-lt c w hw), eqm-sym (or-minus (2 ^ w) c x y (modNeg c w) (mod-neg-eqm c w hw hc)))
+          (word-lt w _ hw (mod-neg-lt (modMul c 2 w) w hw), eqm-sym (xor-minus (2 ^ w) c x y (modNeg (modMul c 2 w) w) double))
+      go false = (word-lt w _ hw (mod-neg-lt c w hw), eqm-sym (or-minus (2 ^ w) c x y (modNeg c w) (mod-neg-eqm c w hw hc)))
 
 -- ---- roots
 

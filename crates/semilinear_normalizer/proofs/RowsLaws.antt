@@ -18,8 +18,6 @@ use Rattle.arith.specs.Bit.{bitAt}
 use Rattle.arith.proofs.BitLaws.{bits-below, bit-lt, bit-past, bit-of-zero, bit-and, bit-or, bit-xor, bit-not, bit-ones}
 use Rattle.arith.proofs.BitLaws.{bit-mod}
 use Rattle.record.specs.Choice.{when}
-use Rattle.record.specs.Fields.{kind, literal, varIndex}
-use Rattle.record.specs.Decode.{leaf}
 use Rattle.record.specs.Tree.{Tree}
 use Rattle.record.specs.Tree.Tree.{Constant, Variable, Unary, Binary}
 use Rattle.record.proofs.SizedLaws.{and-true}
@@ -84,16 +82,6 @@ module _ (n p : ℕ) (vs : List ℕ) where
       e
       ∙ rows-of-bits (Variable v) (tableF n q vs (Variable v)) (tableF-lt q vs (Variable v) n)
       (tableF-bit q vs (Variable v) n)
-
--- the tree of a root without children, of kind k
-module _ (s : List ℕ) {k : ℕ} (hk : k ≡ kind s) where
-  pub leaf-constant : k ≡ 0 → leaf s ≡ Constant (literal s)
-  unfolding leaf
-  leaf-constant e = simp (eq-eqb (kind s) 0 (sym hk ∙ e))
-
-  pub leaf-variable : (k ≡ 0 → ⊥) → leaf s ≡ Variable (varIndex s)
-  unfolding leaf
-  leaf-variable d = simp (ne-eqb (kind s) 0 (λ e. d (hk ∙ e)))
 
 -- ---- the low rows, and the same rows
 

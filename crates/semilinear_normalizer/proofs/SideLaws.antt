@@ -18,16 +18,16 @@ use Rattle.expr.specs.Utils.{hasVarDep, hasArith}
 use Rattle.expr.specs.Value.{value}
 use Rattle.semilinear_normalizer.specs.declared.side.Spot.{Spot}
 use Rattle.semilinear_normalizer.specs.declared.side.Side.{Side}
-use Rattle.semilinear_normalizer.specs.Marks.{marksOf, markVariable, markArith}
-use Rattle.semilinear_normalizer.specs.Spots.{spanOf, treeAt, AtSpot, SideAt, sideTree, SideOf}
-use Rattle.semilinear_normalizer.specs.Spots.{isBinary, leftOf, rightOf}
+use Rattle.semilinear_normalizer.specs.Marks.{marksOf, markOf, markVariable, markArith}
+use Rattle.semilinear_normalizer.specs.Spots.{spanOf, treeAt, AtSpot, SideAt, sideTree, SideOf, isBinary, leftOf}
+use Rattle.semilinear_normalizer.specs.Spots.{rightOf}
 use Rattle.semilinear_normalizer.proofs.MarksLaws.{length-marks, left-mark, right-mark, left-marks, right-marks}
 use Rattle.semilinear_normalizer.proofs.MarksLaws.{root-mark, mark-variable, mark-arith}
 use Rattle.semilinear_normalizer.proofs.SpanOfLaws.{size-sized, span-sized, binary-zero, binary-one}
 use Rattle.semilinear_normalizer.proofs.SpanOfLaws.{left-accepted, right-accepted, left-span, right-span}
 use Rattle.semilinear_normalizer.proofs.SpanOfLaws.{span-big}
 
--- a tree has as many marks as records, and its own mark last; i is its place
+-- a tree has as many marks as records
 module _ {w : ℕ} {file marks : List ℕ} {x : Spot} (at : AtSpot w file marks x) where
   pub spot-marks : length marks ≡ sizeOf (treeAt file x)
   spot-marks = ap length (at .marks-are) ∙ length-marks (treeAt file x)
@@ -35,24 +35,19 @@ module _ {w : ℕ} {file marks : List ℕ} {x : Spot} (at : AtSpot w file marks 
   pub spot-some : 1 ≤ length marks
   spot-some = omega (arith, spot-marks, sizeOf-pos (treeAt file x))
 
-  own-mark : (i : ℕ) → getD marks i 0 ≡ getD (marksOf (treeAt file x)) i 0
-  own-mark i = ap (λ (m : List ℕ). getD m i 0) (at .marks-are)
+  -- its own mark, the last, as the code reads it
+  own-mark : getD marks (length marks - 1) 0 ≡ markOf (treeAt file x)
+  own-mark =
+      ap (λ (m : List ℕ). getD m (length marks - 1) 0) (at .marks-are)
+      ∙ root-mark (treeAt file x) (length marks - 1) (omega (arith, spot-marks, sizeOf-pos (treeAt file x)))
 
-  last-place : {i : ℕ} → i ≡ length marks - 1 → i + 1 ≡ sizeOf (treeAt file x)
-  last-place e = omega (arith, spot-marks, sizeOf-pos (treeAt file x))
+  pub spot-variable : {b v : Bool} → b ≡ markVariable (getD marks (length marks - 1) 0) → b ≡ v
+      → hasVarDep (treeAt file x) ≡ v
+  spot-variable h e = sym (ap markVariable own-mark ∙ mark-variable (treeAt file x)) ∙ sym h ∙ e
 
-  pub spot-variable : {i : ℕ} → i ≡ length marks - 1 → markVariable (getD marks i 0) ≡ hasVarDep (treeAt file x)
-  spot-variable {i} e =
-      ap markVariable (own-mark i ∙ root-mark (treeAt file x) i (last-place e)) ∙ mark-variable (treeAt file x)
-
-  pub spot-arith : {i : ℕ} → i ≡ length marks - 1 → markArith (getD marks i 0) ≡ hasArith (treeAt file x)
-  spot-arith {i} e =
-      ap markArith (own-mark i ∙ root-mark (treeAt file x) i (last-place e)) ∙ mark-arith (treeAt file x)
-
--- a side of a root is a spot again, with its part of the marks
-pub side-spot : {w : ℕ} {file marks : List ℕ} (c : ℕ) {b : Side} → SideAt w file marks b
-    → AtSpot w file (spanOf marks (b .from) (b .to)) (record { coeff = c; start = b .start; end = b .end })
-side-spot c s = record { span = s .span; marks-are = s .marks-are }
+  pub spot-arith : {b v : Bool} → b ≡ markArith (getD marks (length marks - 1) 0) → b ≡ v
+      → hasArith (treeAt file x) ≡ v
+  spot-arith h e = sym (ap markArith own-mark ∙ mark-arith (treeAt file x)) ∙ sym h ∙ e
 
 -- a root with two children
 module _ {w : ℕ} {file marks : List ℕ} {x : Spot} (at : AtSpot w file marks x)
@@ -173,17 +168,6 @@ module _ {w : ℕ} {file marks : List ℕ} {x : Spot} (at : AtSpot w file marks 
               ∙ right-marks (kind span) l r (length marks - 1 - n) count
               ∙ ap marksOf (sym right-side-tree);
         }
-
-    -- the sides as spots
-    pub left-spot : (c : ℕ) → AtSpot w file (take n marks) (record { coeff = c; start = x .start; end = x .start + i })
-    unfolding spanOf
-    left-spot c = record { span = left-side .span; marks-are = rw sub-zero at (left-side .marks-are) }
-
-    pub right-spot : (c : ℕ)
-        → AtSpot w file (take (length marks - 1 - n) (drop n marks))
-        (record { coeff = c; start = x .start + i; end = x .end - 16 })
-    unfolding spanOf
-    right-spot c = record { span = right-side .span; marks-are = right-side .marks-are }
 
     pub side-right : hasVarDep l ≡ false → v ≡ value w [] l → SideOf w file marks l r rightSide
     side-right h ev = SideOf.at-right refl h right-side-tree ev right-side

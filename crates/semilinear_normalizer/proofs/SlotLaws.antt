@@ -5,8 +5,7 @@ use Prim.Native.Nat.{ℕ, zero, suc, _+_, _-_, _*_, _≤_, _<_}
 use native.Mathlib.Omega.{arith}
 use mathlib.Core.List.{List}
 use mathlib.Core.Bool.{Bool, true, false}
-use lib.ListN.{length, getD, drop, length-take, length-drop}
-use lib.Seq.{getD-take, getD-drop}
+use lib.ListN.{length, getD, drop}
 use lib.Dec.{eqb}
 use borrow.Author.Tests.{eq-eqb, ne-eqb}
 use Rattle.record.specs.Choice.{when}
@@ -15,21 +14,12 @@ use Rattle.record.specs.Decode.{decode}
 use Rattle.record.proofs.ListsLaws.{eq-of-eq-list, eq-list-self, eq-list-differ, eq-list-next, eq-list-end}
 use Rattle.expr.specs.Vars.{support, sameVars}
 use Rattle.semilinear.specs.Loop.{firstIn}
-use Rattle.semilinear.proofs.SearchLaws.{when-both, first-le}
+use Rattle.semilinear.proofs.SearchLaws.{when-both}
 use Rattle.semilinear_normalizer.specs.Spots.{spanOf}
 use Rattle.semilinear_normalizer.specs.Key.{notPure}
 use Rattle.semilinear_normalizer.specs.Index.{entrySpan, lastF, slotAt, newestSlot, rowByHash, rowByKey}
 use Rattle.semilinear_normalizer.specs.Index.{Searchable}
-
--- ---- spans of words
-
-pub length-span : (l : List ℕ) (s e : ℕ) → e ≤ length l → length (spanOf l s e) ≡ e - s
-unfolding spanOf
-length-span l s e h = length-take (e - s) (drop s l) ∙ rw (length-drop s l) (omega arith)
-
-pub getD-span : (l : List ℕ) (s e i : ℕ) → i < e - s → getD (spanOf l s e) i 0 ≡ getD l (s + i) 0
-unfolding spanOf
-getD-span l s e i h = getD-take (e - s) (drop s l) i 0 h ∙ getD-drop s l i 0
+use Rattle.semilinear_normalizer.proofs.PartLaws.{length-span, getD-span}
 
 -- ---- the last number that passes a test
 
@@ -129,12 +119,6 @@ module _ (n : ℕ) (key index : List ℕ) where
   pub row-key-search : (getD key 0 0 ≡ notPure → ⊥) → rowByKey n key index ≡ firstIn (keyAt key index) 0 n
   unfolding rowByKey
   row-key-search d = simp (ne-eqb (getD key 0 0) notPure d)
-
-  pub row-by-key-le : rowByKey n key index ≤ n
-  unfolding rowByKey
-  row-by-key-le =
-      when-both (λ (k : ℕ). k ≤ n) (eqb (getD key 0 0) notPure) n (firstIn (keyAt key index) 0 n) (λ _. omega arith)
-      (λ _. first-le (keyAt key index) 0 n (omega arith))
 
 -- the words of a key from number i on
 module _ (j : ℕ) (key index : List ℕ) (i : ℕ) (room : 11 * (j + 1) ≤ length index) (seven : length key ≡ 7) where

@@ -1,51 +1,42 @@
 -- Laws of spans of a file (specs/Spots.antt): how many records a span holds, where its children's spans lie, and that
 -- these are accepted where it is.
 use mathlib.Core.Path.{_≡_, refl, ap, sym, subst, _∙_}
-use Prim.Native.Nat.{ℕ, zero, suc, _+_, _-_, _*_, _≤_, _<_}
+use Prim.Native.Nat.{ℕ, zero, _+_, _-_, _*_, _≤_, _<_}
 use native.Mathlib.Omega.{arith}
-use native.Mathlib.Nat.{suc-sub-suc, sub-zero, zero-sub}
-use mathlib.Core.List.{List, [], _∷_}
-use mathlib.Core.Bool.{Bool, true, false}
-use lib.Dec.{eqb}
-use lib.ListN.{length, take, drop, length-take, length-drop}
-use lib.Seq.{take-nil, take-take, drop-drop}
-use Rattle.record.specs.Choice.{when}
-use Rattle.record.specs.Fields.{kind, size, amount, varIndex, literal, arity}
+use mathlib.Core.List.{List}
+use mathlib.Core.Bool.{true, false}
+use lib.ListN.{length, take}
+use Rattle.record.specs.Fields.{kind, size, amount, arity}
 use Rattle.record.specs.Tree.{Tree, sizeOf}
-use Rattle.record.specs.Tree.Tree.{Constant, Variable, Unary, Binary}
+use Rattle.record.specs.Tree.Tree.{Unary, Binary}
 use Rattle.record.specs.Span.{cut, body, left, right, sized}
 use Rattle.record.specs.Decode.{leaf, decode}
-use Rattle.record.proofs.SpanLaws.{cut-le, length-body, length-left, length-right, span-ind}
-use Rattle.record.proofs.SpanLaws.{fold-leaf, fold-one, fold-two}
+use Rattle.record.proofs.SpanLaws.{cut-le, length-body, length-left, length-right, span-ind, fold-leaf, fold-one}
+use Rattle.record.proofs.SpanLaws.{fold-two}
 use Rattle.record.proofs.DecodeLaws.{decode-leaf, decode-one, decode-two}
-use Rattle.record.proofs.SizedLaws.{false-true, sized-big, sized-length, sized-leaf, sized-body}
-use Rattle.record.proofs.SizedLaws.{sized-left, sized-right}
+use Rattle.record.proofs.SizedLaws.{false-true, sized-big, sized-length, sized-leaf, sized-body, sized-left}
+use Rattle.record.proofs.SizedLaws.{sized-right}
 use Rattle.expr.specs.Refusal.{treeRefusal}
 use Rattle.expr.proofs.RefusalLaws.{accepted-big, accepted-root, accepted-body, accepted-left, accepted-right}
 use Rattle.expr.proofs.RefusalLaws.{sized-accepted}
 use Rattle.semilinear_normalizer.specs.Spots.{spanOf, Accepted, isBinary}
+use Rattle.semilinear_normalizer.proofs.LeafLaws.{leaf-both}
+use Rattle.semilinear_normalizer.proofs.PartLaws.{length-span, span-span, take-span}
 
 -- ---- the records of a span
 
 Counted : List ℕ → Type 0
 Counted s = sized s ≡ true → sizeOf (decode s) * 16 ≡ length s
 
-size-leaf : (s : List ℕ) → sizeOf (leaf s) ≡ 1
-unfolding leaf sizeOf
-size-leaf s = go (eqb (kind s) 0)
-  where
-    go : (b : Bool) → sizeOf (when b (λ _. Constant (literal s)) (λ _. Variable (varIndex s))) ≡ 1
-    go true = refl
-    go false = refl
-
 counted-none : (s : List ℕ) → length s < 16 → Counted s
 unfolding Counted
 counted-none s h ok = absurd (omega (arith, sized-big s ok))
 
 counted-leaf : (s : List ℕ) → 16 ≤ length s → arity (kind s) ≡ 0 → Counted s
-unfolding Counted
+unfolding Counted sizeOf
 counted-leaf s big a ok =
-    let d : sizeOf (decode s) ≡ 1 = ap sizeOf (fold-leaf _ _ _ _ s big a) ∙ size-leaf s in
+    let d : sizeOf (decode s) ≡ 1 =
+    ap sizeOf (fold-leaf _ _ _ _ s big a) ∙ leaf-both (λ (t : Tree). sizeOf t ≡ 1) s refl refl in
     omega (arith, sized-leaf s ok a)
 
 counted-one : (s : List ℕ) → 16 ≤ length s → arity (kind s) ≡ 1 → Counted (body s) → Counted s
@@ -75,48 +66,12 @@ module _ (s : List ℕ) (ok : sized s ≡ true) where
 
 -- the size fields of a root and of its children's spans; n is how many children it has
 module _ (s : List ℕ) (ok : sized s ≡ true) {n : ℕ} (e : n ≡ arity (kind s)) where
-  pub size-one : n ≡ 1 → {r : List ℕ} → r ≡ body s → size r + 1 ≡ size s
-  size-one h hr =
-      let sb = sized-length (body s) (sized-body s ok (sym e ∙ h)) in
-      rw hr (omega (arith, sb, length-body s, sized-length s ok, sized-big s ok))
-
   pub size-two : (n ≡ 0 → ⊥) → (n ≡ 1 → ⊥) → {l r : List ℕ} → l ≡ left s → r ≡ right s → size l + size r + 1 ≡ size s
   size-two p q hl hr =
       let a = sized-length (left s) (sized-left s ok (λ h. p (e ∙ h)) (λ h. q (e ∙ h))) in
       let b = sized-length (right s) (sized-right s ok (λ h. p (e ∙ h)) (λ h. q (e ∙ h))) in
       let len = sized-length s ok in
       rw (hl, hr) (omega (arith, a, b, length-left s, length-right s, cut-le s, len, sized-big s ok))
-
--- ---- parts of a span
-
-drop-take : (m n : ℕ) (l : List ℕ) → drop m (take n l) ≡ take (n - m) (drop m l)
-drop-take zero n l = rw sub-zero
-drop-take (suc m) zero l = rw zero-sub
-drop-take (suc m) (suc n) [] = sym (take-nil (suc n - suc m))
-drop-take (suc m) (suc n) (x ∷ l) = rw suc-sub-suc (drop-take m n l)
-
-pub length-span : (file : List ℕ) (start end : ℕ) → start ≤ end → end ≤ length file
-    → length (spanOf file start end) ≡ end - start
-unfolding spanOf
-length-span file start end h k = simp (length-take, length-drop) (omega arith)
-
--- a part of a span is a span of the file
-pub span-span : (file : List ℕ) (start end i j : ℕ) → start + j ≤ end
-    → spanOf (spanOf file start end) i j ≡ spanOf file (start + i) (start + j)
-unfolding spanOf
-span-span file start end i j h =
-    let a : j - i ≤ end - start - i = omega arith in
-    let b : start + j - (start + i) ≡ j - i = omega arith in
-    rw (drop-take i (end - start) (drop start file), b, ← drop-drop i start file)
-    (take-take (j - i) (end - start - i) (drop i (drop start file)) a)
-
-pub take-span : (file : List ℕ) (start end j m : ℕ) → start + j ≤ end → start + j ≡ m
-    → take j (spanOf file start end) ≡ spanOf file start m
-unfolding spanOf
-take-span file start end j m h e =
-    let a : j ≤ end - start = omega arith in
-    let b : j ≡ m - start = omega arith in
-    take-take j (end - start) (drop start file) a ∙ ap (λ (n : ℕ). take n (drop start file)) b
 
 -- the spans of the children of a span of the file
 module _ (file : List ℕ) (start end : ℕ) (rising : start ≤ end) (inside : end ≤ length file)
@@ -125,7 +80,7 @@ module _ (file : List ℕ) (start end : ℕ) (rising : start ≤ end) (inside : 
   here = spanOf file start end
 
   len : length here ≡ end - start
-  len = length-span file start end rising inside
+  len = length-span file start end inside
 
   pub body-span : body here ≡ spanOf file start (end - 16)
   unfolding body
@@ -139,29 +94,17 @@ module _ (file : List ℕ) (start end : ℕ) (rising : start ≤ end) (inside : 
   pub right-span : right here ≡ spanOf file (start + cut here) (end - 16)
   unfolding right spanOf
   right-span =
-      span-span file start end (cut here) (length here - 16) (omega (arith, len, big))
+      span-span file start end (cut here) (length here - 16) (cut-le here) (omega (arith, len, big))
       ∙ ap (spanOf file (start + cut here)) (omega (arith, len, big))
 
 -- ---- accepted spans
-
-binary-leaf : (s : List ℕ) → isBinary (leaf s) ≡ false
-unfolding leaf isBinary
-binary-leaf s = go (eqb (kind s) 0)
-  where
-    go : (b : Bool) → isBinary (when b (λ _. Constant (literal s)) (λ _. Variable (varIndex s))) ≡ false
-    go true = refl
-    go false = refl
-
-binary-unary : (k a : ℕ) (t : Tree) → isBinary (Unary k a t) ≡ false
-unfolding isBinary
-binary-unary k a t = refl
 
 module _ {w : ℕ} {file : List ℕ} {start end : ℕ} (ok : Accepted w file start end) where
   abbrev span : List ℕ
   span = spanOf file start end
 
   pub span-length : length span ≡ end - start
-  span-length = length-span file start end (ok .rising) (ok .inside)
+  span-length = length-span file start end (ok .inside)
 
   pub span-big : 16 ≤ length span
   span-big = accepted-big w span (ok .tree)
@@ -180,13 +123,14 @@ module _ {w : ℕ} {file : List ℕ} {start end : ℕ} (ok : Accepted w file sta
 
   -- a root with two children
   pub binary-zero : isBinary (decode span) ≡ true → arity (kind span) ≡ 0 → ⊥
+  unfolding isBinary
   binary-zero e h =
-      false-true (sym (ap isBinary (decode-leaf span span-sized refl h) ∙ binary-leaf span) ∙ e)
+      let no : isBinary (leaf span) ≡ false = leaf-both (λ (t : Tree). isBinary t ≡ false) span refl refl in
+      false-true (sym (ap isBinary (decode-leaf span span-sized refl h) ∙ no) ∙ e)
 
   pub binary-one : isBinary (decode span) ≡ true → arity (kind span) ≡ 1 → ⊥
-  binary-one e h =
-      false-true
-      (sym (ap isBinary (decode-one span span-sized refl h refl) ∙ binary-unary (kind span) _ (decode (body span))) ∙ e)
+  unfolding isBinary
+  binary-one e h = false-true (sym (ap isBinary (decode-one span span-sized refl h refl)) ∙ e)
 
   module _ {n : ℕ} (e : n ≡ arity (kind span)) where
     pub body-accepted : n ≡ 1 → Accepted w file start (end - 16)
@@ -237,3 +181,7 @@ module _ {w : ℕ} {file : List ℕ} {start end : ℕ} (ok : Accepted w file sta
   pub binary-two : arity (kind span) ≡ 2 → isBinary (decode span) ≡ true
   unfolding isBinary
   binary-two a = ap isBinary (tree-two refl (omega arith) (omega arith))
+
+-- the kind of the root of s, where k is read from t
+pub kind-read : {s t : List ℕ} {k n : ℕ} → t ≡ s → k ≡ kind t → k ≡ n → kind s ≡ n
+kind-read et ek e = sym (ek ∙ ap kind et) ∙ e

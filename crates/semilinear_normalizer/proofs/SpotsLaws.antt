@@ -1,25 +1,22 @@
--- Laws of specs/Spots.antt: atoms that stand in lent words keep what they stand for when another one is put behind them,
--- and what one more atom adds to what was collected.
-use mathlib.Core.Path.{_≡_, refl, ap, sym, _∙_}
+-- Laws of specs/Spots.antt: atoms that stand in lent words keep what they stand for when another one is put behind
+-- them, and what one more atom adds to what was collected.
+use mathlib.Core.Path.{_≡_, refl, ap, _∙_}
 use Prim.Native.Nat.{ℕ, zero, suc, _+_, _*_, _^_, _≤_, _<_}
 use native.Mathlib.Omega.{arith}
 use native.Mathlib.Decide.{decLt}
 use native.Mathlib.Numerals.{add-one}
 use mathlib.Core.List.{List, [], _∷_, _++_}
-use mathlib.Core.Bool.{Bool, true, false}
+use mathlib.Core.Bool.{true, false}
 use lib.ListN.{length, getD}
 use Rattle.arith.specs.Width.{modAdd}
 use Rattle.arith.proofs.WidthLaws.{mod-add-lt}
-use Rattle.record.specs.Choice.{when}
-use Rattle.record.specs.Tree.{Tree}
 use Rattle.record.specs.Decode.{decode}
 use Rattle.record.specs.Put.{put}
 use Rattle.record.proofs.PutLaws.{length-put, getD-put-before, getD-put-in}
-use Rattle.record.proofs.SizedLaws.{false-true}
 use Rattle.semilinear_normalizer.specs.declared.collect.Descent.{Descent}
-use Rattle.semilinear_normalizer.specs.Collect.{Emitted, Collected, nonlinear, linear, joinCollected}
-use Rattle.semilinear_normalizer.specs.Spots.{spanOf, spotWords, spotTree, spotAt, spotsIn, collectedIn}
-use Rattle.semilinear_normalizer.specs.Spots.{Accepted, SpotsOk, Collects, Pushed}
+use Rattle.semilinear_normalizer.specs.Collect.{Emitted, nonlinear, linear, joinCollected}
+use Rattle.semilinear_normalizer.specs.Spots.{spanOf, spotWords, spotTree, spotAt, spotsIn, collectedIn, Accepted}
+use Rattle.semilinear_normalizer.specs.Spots.{SpotsOk, Collects, Pushed}
 
 -- ---- the words of atoms
 
@@ -79,7 +76,8 @@ module _ (file : List ℕ) (n c s e m v : ℕ) (before : List ℕ) (d : Descent)
 
   old : (i : ℕ) → i < 5 * d .count → getD after i 0 ≡ getD before i 0
   old i h =
-      ap (λ (l : List ℕ). getD l i 0) (p .written) ∙ getD-put-before before (5 * d .count) (spotWords c s e m v) fits i h
+      ap (λ (l : List ℕ). getD l i 0) (p .written)
+      ∙ getD-put-before before (5 * d .count) (spotWords c s e m v) fits i h
 
   new : (i : ℕ) → i < 5 → getD after (5 * d .count + i) 0 ≡ getD (spotWords c s e m v) i 0
   new i h =

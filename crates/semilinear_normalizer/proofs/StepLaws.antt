@@ -1,7 +1,7 @@
 -- One atom registered, by what the searches find (specs/Index.antt): the row that has its tree, the row that has its
 -- key, or none.
 use mathlib.Core.Path.{_≡_, ap, sym, _∙_}
-use Prim.Native.Nat.{ℕ, _+_, _*_, _≤_, _<_}
+use Prim.Native.Nat.{ℕ, _*_, _≤_, _<_}
 use native.Mathlib.Omega.{arith}
 use mathlib.Core.List.{List, [], _∷_, _++_}
 use lib.ListN.{getD, set}
@@ -14,8 +14,8 @@ use Rattle.semilinear.specs.declared.table.Table.{Table}
 use Rattle.semilinear.specs.Form.{Row}
 use Rattle.semilinear_normalizer.specs.Register.{sharedRow, registerAtom}
 use Rattle.semilinear_normalizer.specs.Key.{keyOf}
-use Rattle.semilinear_normalizer.specs.Index.{rowsIn, Indexed, Registers, Searchable, emitted, rowOf}
-use Rattle.semilinear_normalizer.specs.Index.{rowByHash, rowByKey}
+use Rattle.semilinear_normalizer.specs.Index.{rowsIn, Indexed, Registers, Searchable, emitted, rowOf, rowByHash}
+use Rattle.semilinear_normalizer.specs.Index.{rowByKey}
 use Rattle.semilinear_normalizer.proofs.SlotLaws.{row-by-hash-le}
 use Rattle.semilinear_normalizer.proofs.IndexLaws.{length-rows-in, searchable}
 use Rattle.semilinear_normalizer.proofs.SharedLaws.{shared-by-hash, shared-by-key}

@@ -12,8 +12,8 @@ use Rattle.record.specs.Tree.{Tree}
 use Rattle.record.specs.Tree.Tree.{Variable, Unary, Binary}
 use Rattle.expr.specs.Utils.{hasKind, hasVarDep, isArith, hasArith}
 use Rattle.expr.specs.Value.{value}
-use Rattle.semilinear_normalizer.specs.Collect.{Collected, joinCollected, collectConstant}
-use Rattle.semilinear_normalizer.specs.Collect.{collectMasked, collectTerms}
+use Rattle.semilinear_normalizer.specs.Collect.{Collected, joinCollected, collectConstant, collectMasked}
+use Rattle.semilinear_normalizer.specs.Collect.{collectTerms}
 use Rattle.semilinear_normalizer.specs.Spots.{collectLiteral, collectWhole}
 use Rattle.semilinear_normalizer.proofs.JoinLaws.{join-assoc}
 

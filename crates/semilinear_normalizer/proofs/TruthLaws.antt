@@ -11,8 +11,7 @@ use lib.ListN.{length, getD}
 use lib.Dec.{eqb, leb}
 use borrow.Author.Tests.{eqb-true, leb-true, not-true}
 use Rattle.arith.specs.Bit.{bitAt}
-use Rattle.arith.proofs.BitLaws.{bit-lt, bit-zero, bit-suc}
-use Rattle.arith.proofs.BitLaws.{bit-under, bit-top, bits-below}
+use Rattle.arith.proofs.BitLaws.{bit-lt, bit-zero, bit-suc, bit-under, bit-top, bits-below}
 use Rattle.record.specs.Choice.{when}
 use Rattle.record.specs.Lists.{elem, eqList}
 use Rattle.record.specs.Tree.{Tree}
@@ -26,8 +25,7 @@ use Rattle.expr.specs.Vars.{occurs, support, sameVars}
 use Rattle.expr.proofs.ValueLaws.{value-lt}
 use Rattle.expr.proofs.IsExprLaws.{occurs-lt}
 use Rattle.expr.proofs.SupportLaws.{support-occurs}
-use Rattle.semilinear_normalizer.specs.Truth.{hasShift, bitOf, rowBits, rowOf}
-use Rattle.semilinear_normalizer.specs.Truth.{tableF, table}
+use Rattle.semilinear_normalizer.specs.Truth.{hasShift, bitOf, rowBits, rowOf, tableF, table}
 use Rattle.semilinear_normalizer.specs.Register.{sharedVars, isPure, sameTable}
 use Rattle.semilinear_normalizer.proofs.BitOfLaws.{Bitwise, bit-value, bit-of-agree, bit-of-place, bit-of-lt}
 

@@ -5,15 +5,14 @@ use native.Mathlib.Omega.{arith}
 use native.Mathlib.Nat.{sub-zero}
 use native.Mathlib.Decide.{ℕ-discrete}
 use mathlib.Core.List.{List, []}
-use mathlib.Core.Bool.{Bool, true, false, _||_}
+use mathlib.Core.Bool.{true, false, _||_}
 use lib.Dec.{eqb}
 use lib.ListN.{length, take}
 use borrow.Author.Tests.{eqb-false, ne-eqb}
 use Rattle.arith.specs.Width.{modMul, modNeg}
-use Rattle.record.specs.Choice.{when}
-use Rattle.record.specs.Fields.{kind, amount, arity, varIndex, literal}
+use Rattle.record.specs.Fields.{kind, amount, arity, varIndex}
 use Rattle.record.specs.Tree.{Tree, sizeOf}
-use Rattle.record.specs.Tree.Tree.{Constant, Variable, Unary, Binary}
+use Rattle.record.specs.Tree.Tree.{Unary, Binary}
 use Rattle.record.specs.Decode.{leaf, decode}
 use Rattle.record.proofs.FieldsLaws.{kind-of-arity-one, kind-of-arity-two, arity-two, arity-one-of-le}
 use Rattle.record.proofs.SizedLaws.{false-true}
@@ -25,16 +24,17 @@ use Rattle.semilinear_normalizer.specs.declared.side.Side.{Side}
 use Rattle.semilinear_normalizer.specs.declared.side.Way.{Way}
 use Rattle.semilinear_normalizer.specs.Collect.{joinCollected, collectTerms}
 use Rattle.semilinear_normalizer.specs.Marks.{marksOf}
-use Rattle.semilinear_normalizer.specs.Spots.{spanOf, treeAt, AtSpot, SideAt, SideOf}
-use Rattle.semilinear_normalizer.specs.Spots.{isBinary, leftOf, rightOf, collectLiteral, collectWhole, WayOf}
+use Rattle.semilinear_normalizer.specs.Spots.{spanOf, treeAt, AtSpot, SideAt, SideOf, isBinary, leftOf, rightOf}
+use Rattle.semilinear_normalizer.specs.Spots.{collectLiteral, collectWhole, WayOf}
+use Rattle.semilinear_normalizer.proofs.LeafLaws.{leaf-both}
 use Rattle.semilinear_normalizer.proofs.MarksLaws.{body-marks}
-use Rattle.semilinear_normalizer.proofs.SpanOfLaws.{span-kind, body-accepted, tree-leaf, tree-one}
-use Rattle.semilinear_normalizer.proofs.SpanOfLaws.{binary-zero, binary-one}
+use Rattle.semilinear_normalizer.proofs.SpanOfLaws.{span-kind, body-accepted, tree-leaf, tree-one, binary-zero}
+use Rattle.semilinear_normalizer.proofs.SpanOfLaws.{binary-one}
 use Rattle.semilinear_normalizer.proofs.SideLaws.{spot-marks, split}
 use Rattle.semilinear_normalizer.proofs.TermsLaws.{not-arith, variable-one, variable-two, other-right}
-use Rattle.semilinear_normalizer.proofs.TermsLaws.{terms-variable, terms-neg, terms-one}
-use Rattle.semilinear_normalizer.proofs.TermsLaws.{mul-right, mul-left, mul-both, and-whole, arith-whole}
-use Rattle.semilinear_normalizer.proofs.TermsLaws.{both-whole, masked-right, masked-left}
+use Rattle.semilinear_normalizer.proofs.TermsLaws.{terms-variable, terms-neg, terms-one, mul-right, mul-left}
+use Rattle.semilinear_normalizer.proofs.TermsLaws.{mul-both, and-whole, arith-whole, both-whole, masked-right}
+use Rattle.semilinear_normalizer.proofs.TermsLaws.{masked-left}
 
 size-left : (k : ℕ) (l r : Tree) → sizeOf l < sizeOf (Binary k l r)
 unfolding sizeOf
@@ -154,15 +154,10 @@ module _ {w : ℕ} {file marks : List ℕ} {x : Spot} (at : AtSpot w file marks 
 
 whole-leaf : (w c : ℕ) → eqb c 0 ≡ false → (s : List ℕ) → hasVarDep (leaf s) ≡ true
     → collectTerms w c (leaf s) ≡ collectWhole w c (leaf s)
-unfolding leaf hasKind
-whole-leaf w c hc s = go (eqb (kind s) 0)
-  where
-    leafIf : Bool → Tree
-    leafIf b = when b (λ _. Constant (literal s)) (λ _. Variable (varIndex s))
-
-    go : (b : Bool) → hasVarDep (leafIf b) ≡ true → collectTerms w c (leafIf b) ≡ collectWhole w c (leafIf b)
-    go true h = false-true h
-    go false h = terms-variable w c hc (varIndex s)
+unfolding hasKind
+whole-leaf w c hc s =
+    leaf-both (λ (t : Tree). hasVarDep t ≡ true → collectTerms w c t ≡ collectWhole w c t) s (λ h. false-true h)
+    (λ _. terms-variable w c hc (varIndex s))
 
 module _ {w : ℕ} {file marks : List ℕ} {x : Spot} (at : AtSpot w file marks x) (hc : eqb (x .coeff) 0 ≡ false)
     (hv : hasVarDep (treeAt file x) ≡ true) where

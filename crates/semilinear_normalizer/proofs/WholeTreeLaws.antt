@@ -1,15 +1,14 @@
--- Normalising a whole accepted file (specs/Normalize.antt): the descent from its root with the coefficient 1 collects what
--- the definition says, and the refusals 7 and 8 are found where they are defined.
+-- Normalising a whole accepted file (specs/Normalize.antt): the descent from its root with the coefficient 1 collects
+-- what the definition says, and the refusals 7 and 8 are found where they are defined.
 use mathlib.Core.Path.{_≡_, refl, ap, ap₂, sym, _∙_}
 use Prim.Native.Nat.{ℕ, _+_, _*_, _^_, _≤_, _<_}
 use native.Mathlib.Omega.{arith}
 use native.Mathlib.Nat.{mod-eq-of-lt, zero-add, sub-zero}
 use mathlib.Core.List.{List, []}
 use mathlib.Core.Bool.{true, false}
-use lib.ListN.{length, take, drop}
+use lib.ListN.{length, take}
 use lib.Seq.{take-all}
 use lib.Pow.{pow-pos, pow-mono}
-use borrow.Author.Tests.{eq-eqb, ne-eqb}
 use Rattle.arith.proofs.WidthLaws.{mod-add}
 use Rattle.record.specs.Fields.{size, width}
 use Rattle.record.specs.Tree.{Tree, sizeOf, IsBytes}
@@ -24,17 +23,18 @@ use Rattle.expr.proofs.RefusalLaws.{accepted-root, sized-accepted}
 use Rattle.expr.proofs.AcceptLaws.{accept-expr}
 use Rattle.expr.proofs.ExprValueLaws.{accepted-tree, accepted-length}
 use Rattle.semilinear.specs.declared.outcome.Answer.{Answer}
-use Rattle.semilinear.specs.Outcome.{Outcome, refused}
+use Rattle.semilinear.specs.Outcome.{refused}
 use Rattle.semilinear.specs.Answers.{GivesForm}
 use Rattle.semilinear.proofs.PassLaws.{gives-same}
 use Rattle.semilinear_normalizer.specs.declared.side.Spot.{Spot}
 use Rattle.semilinear_normalizer.specs.declared.collect.Descent.{Descent}
 use Rattle.semilinear_normalizer.specs.Collect.{Collected, nonlinear, linear, joinCollected, collectTerms}
 use Rattle.semilinear_normalizer.specs.Marks.{marksOf, Marked}
-use Rattle.semilinear_normalizer.specs.Spots.{spanOf, spotsIn, collectedIn, Accepted, SpotsOk, Collects, Ready}
-use Rattle.semilinear_normalizer.specs.Spots.{treeAt, AtSpot}
+use Rattle.semilinear_normalizer.specs.Spots.{spanOf, spotsIn, collectedIn, SpotsOk, Collects, Ready, treeAt}
+use Rattle.semilinear_normalizer.specs.Spots.{AtSpot}
 use Rattle.semilinear_normalizer.specs.Normalize.{collectedOutcome, normalizeTree, normalizeToSemilinear}
 use Rattle.semilinear_normalizer.proofs.EmittedLaws.{GoodCollected, collect-good}
+use Rattle.semilinear_normalizer.proofs.NormalizeLaws.{tree-collected, tree-seven, file-tree}
 use Rattle.semilinear_normalizer.proofs.MarksLaws.{length-marks}
 use Rattle.semilinear_normalizer.proofs.SpanOfLaws.{size-sized}
 use Rattle.semilinear_normalizer.proofs.SpotsLaws.{collected-linear, collected-nonlinear}
@@ -99,13 +99,9 @@ module _ (w : ℕ) (t : List ℕ) (h : IsBytes t) (ok : treeRefusal w t ≡ 0) w
 
   -- ---- refusal 7
 
-  seven : hasConstantArith (decode t) ≡ true → normalizeTree w (decode t) ≡ refused 7
-  unfolding normalizeTree
-  seven e = simp e
-
   pub gives-seven : hasConstantArith (decode t) ≡ true → {n : ℕ} → n ≡ 57360 → (r : Answer) {e : List ℕ}
       → GivesForm (refused 7) n r e → GivesForm (normalizeTree w (decode t)) 57360 r e
-  gives-seven c en r {e} g = gives-same (seven c) 57360 r e (rw en at g)
+  gives-seven c en r {e} g = gives-same (tree-seven w (decode t) c) 57360 r e (rw en at g)
 
   -- ---- what the descent collects
 
@@ -123,23 +119,19 @@ module _ (w : ℕ) (t : List ℕ) (h : IsBytes t) (ok : treeRefusal w t ≡ 0) w
         ∙ ap₂ (joinCollected w) nil (ap (λ (s : List ℕ). collectTerms w 1 (decode s)) whole-span)
         ∙ from-nothing w hw (collectTerms w 1 (decode t)) (collect-good w hw (decode t) (accept-expr w t h ok) 1 one)
 
-    outcome-is : normalizeTree w (decode t) ≡ collectedOutcome w (collectTerms w 1 (decode t))
-    unfolding normalizeTree
-    outcome-is = simp plain
-
     pub gives-eight : r .linear ≡ false → {n : ℕ} → n ≡ 57360 → (a : Answer) {e : List ℕ}
         → GivesForm (refused 8) n a e → GivesForm (normalizeTree w (decode t)) 57360 a e
     unfolding collectedOutcome
     gives-eight lin en a {e} g =
         gives-same
-        (outcome-is ∙ ap (collectedOutcome w) (sym collected-whole ∙ collected-nonlinear t after r lin)) 57360 a e
+        (tree-collected w (decode t) plain ∙ ap (collectedOutcome w) (sym collected-whole ∙ collected-nonlinear t after r lin)) 57360 a e
         (rw en at g)
 
     pub gives-collected : r .linear ≡ true → (a : Answer) {e : List ℕ}
         → GivesForm (collectedOutcome w (linear (r .constant) (spotsIn t after (r .count)))) 57360 a e
         → GivesForm (normalizeTree w (decode t)) 57360 a e
     gives-collected lin a {e} g =
-        gives-same (outcome-is ∙ ap (collectedOutcome w) (sym collected-whole ∙ collected-linear t after r lin)) 57360 a
+        gives-same (tree-collected w (decode t) plain ∙ ap (collectedOutcome w) (sym collected-whole ∙ collected-linear t after r lin)) 57360 a
         e g
 
     pub spots-whole : SpotsOk w t after (r .count)
@@ -151,27 +143,10 @@ module _ (w : ℕ) (t : List ℕ) (h : IsBytes t) (ok : treeRefusal w t ≡ 0) w
 -- ---- the entry point
 
 module _ (s : List ℕ) (len : ℕ) where
-  pub outcome-one : exprRefusal s ≡ 1 → normalizeToSemilinear s len ≡ refused 1
-  unfolding normalizeToSemilinear
-  outcome-one e = simp (eq-eqb (exprRefusal s) 1 e)
-
-  module _ (n : exprRefusal s ≡ 1 → ⊥) where
-    pub outcome-two : (len ≡ 57360 → ⊥) → normalizeToSemilinear s len ≡ refused 2
-    unfolding normalizeToSemilinear
-    outcome-two e = simp (ne-eqb (exprRefusal s) 1 n, ne-eqb len 57360 e)
-
-    pub outcome-expr : len ≡ 57360 → (exprRefusal s ≡ 0 → ⊥) → normalizeToSemilinear s len ≡ refused (exprRefusal s)
-    unfolding normalizeToSemilinear
-    outcome-expr e z = simp (ne-eqb (exprRefusal s) 1 n, eq-eqb len 57360 e, ne-eqb (exprRefusal s) 0 z)
-
-  outcome-tree : len ≡ 57360 → exprRefusal s ≡ 0 → normalizeToSemilinear s len ≡ normalizeTree (width s) (decode s)
-  unfolding normalizeToSemilinear
-  outcome-tree e z = simp (z, eq-eqb len 57360 e)
-
   pub gives-tree : {w : ℕ} → w ≡ width s → len ≡ 57360 → exprRefusal s ≡ 0 → (r : Answer) {e : List ℕ}
       → GivesForm (normalizeTree w (decode s)) 57360 r e → GivesForm (normalizeToSemilinear s len) len r e
   gives-tree ew el z r {e} g =
-      rw el (gives-same (sym (ap (normalizeToSemilinear s) el) ∙ outcome-tree el z) 57360 r e (rw ew at g))
+      rw el (gives-same (file-tree s 57360 z refl) 57360 r e (rw ew at g))
 
 -- the sizes of an accepted file
 pub file-room : (s : List ℕ) → exprRefusal s ≡ 0 → (size s ≤ 1024) × (length s ≤ 16384)

@@ -9,8 +9,7 @@ use mathlib.Core.List.{List, [], _∷_}
 use mathlib.Core.Bool.{true, false}
 use lib.ListN.{length, getD}
 use Rattle.arith.specs.Bit.{bitAt}
-use Rattle.arith.proofs.BitLaws.{bit-zero}
-use Rattle.arith.proofs.BitLaws.{bits-below}
+use Rattle.arith.proofs.BitLaws.{bit-zero, bits-below}
 use Rattle.record.specs.Tree.{Tree}
 use Rattle.record.proofs.ListsLaws.{eq-of-eq-list}
 use Rattle.expr.specs.Refusal.{isExpr}
@@ -18,8 +17,7 @@ use Rattle.expr.specs.Utils.{hasArith}
 use Rattle.expr.specs.Value.{value}
 use Rattle.expr.specs.Vars.{occurs, support, sameVars}
 use Rattle.expr.proofs.IsExprLaws.{occurs-lt}
-use Rattle.semilinear_normalizer.specs.Truth.{bitOf, rowBits}
-use Rattle.semilinear_normalizer.specs.Truth.{table}
+use Rattle.semilinear_normalizer.specs.Truth.{bitOf, rowBits, table}
 use Rattle.semilinear_normalizer.specs.Register.{isPure}
 use Rattle.semilinear_normalizer.proofs.BitOfLaws.{Bitwise, bit-value, bit-of-agree}
 use Rattle.semilinear_normalizer.proofs.TruthLaws.{row-bits-lt, table-lt, table-bit, Pure, pure-parts}

@@ -1,6 +1,6 @@
--- The form that is written (specs/Index.antt, Registers and TermsPut): a full table is refusal 9, and the atoms, the terms
--- and the sum record of any other are the bytes of the collected form.
-use mathlib.Core.Path.{_≡_, refl, ap, ap₂, sym, _∙_}
+-- The form that is written (specs/Index.antt, Registers and TermsPut): a full table is refusal 9, and the atoms, the
+-- terms and the sum record of any other are the bytes of the collected form.
+use mathlib.Core.Path.{_≡_, refl, ap, ap₂, _∙_}
 use Prim.Native.Nat.{ℕ, _+_, _*_, _≤_}
 use native.Mathlib.Omega.{arith}
 use mathlib.Core.List.{List, [], _++_}
@@ -12,8 +12,8 @@ use Rattle.record.proofs.PutLaws.{length-put, put-padded-at}
 use Rattle.semilinear.specs.declared.compact.Written.{Written}
 use Rattle.semilinear.specs.declared.outcome.Answer.{Answer}
 use Rattle.semilinear.specs.declared.table.Table.{Table}
-use Rattle.semilinear.specs.Form.{Row, Form, fitsTable, termCount, atomsBytes, termsBytes, sumBytes, encodeForm}
-use Rattle.semilinear.specs.Outcome.{refused, formOutcome}
+use Rattle.semilinear.specs.Form.{Row, termCount, atomsBytes, termsBytes, sumBytes, encodeForm}
+use Rattle.semilinear.specs.Outcome.{refused}
 use Rattle.semilinear.specs.Answers.{GivesForm}
 use Rattle.semilinear.proofs.FormLaws.{length-terms, term-count-le}
 use Rattle.semilinear.proofs.HoldsLaws.{padded-holds, at-holds}
@@ -23,6 +23,7 @@ use Rattle.semilinear_normalizer.specs.Collect.{Emitted, linear}
 use Rattle.semilinear_normalizer.specs.Register.{registerAll}
 use Rattle.semilinear_normalizer.specs.Index.{rowsIn, Indexed, Registers, TermsPut}
 use Rattle.semilinear_normalizer.specs.Normalize.{collectedForm, collectedOutcome}
+use Rattle.semilinear_normalizer.proofs.NormalizeLaws.{collected-nine, collected-form}
 use Rattle.semilinear_normalizer.proofs.IndexLaws.{length-rows-in}
 
 length-sum : (w c : ℕ) → length (sumBytes w c) ≡ 16
@@ -30,19 +31,11 @@ unfolding sumBytes recordBytes
 length-sum w c = refl
 
 module _ (w c : ℕ) (l : List Emitted) where
-  past-outcome : fitsTable (registerAll w l []) ≡ false → collectedOutcome w (linear c l) ≡ refused 9
-  unfolding collectedOutcome collectedForm
-  past-outcome e = simp e
-
-  fits-outcome : fitsTable (registerAll w l []) ≡ true
-      → collectedOutcome w (linear c l) ≡ formOutcome (collectedForm w c l) false
-  unfolding collectedOutcome collectedForm
-  fits-outcome e = simp e
-
   module _ {index out : List ℕ} {tab : Table} (reg : Registers w (registerAll w l []) index out tab) where
     pub gives-full : tab .full ≡ true → {n : ℕ} → n ≡ 57360 → (r : Answer) {e : List ℕ} → GivesForm (refused 9) n r e
         → GivesForm (collectedOutcome w (linear c l)) 57360 r e
-    gives-full full en r {e} h = gives-same (past-outcome (reg .past full)) 57360 r e (rw en at h)
+    unfolding collectedForm
+    gives-full full en r {e} h = gives-same (collected-nine w c l (reg .past full)) 57360 r e (rw en at h)
 
     module _ (more : tab .full ≡ false) (len : length out ≡ 57360) where
       abbrev rows : List Row
@@ -101,14 +94,15 @@ module _ (w c : ℕ) (l : List Emitted) where
             let out-is : out ≡ padded 57360 atoms =
             padded-holds w tab out all holds (indexed .clean) more ∙ ap (λ (n : ℕ). padded n atoms) len in
             let at-is : tab .at ≡ length atoms = at-holds w tab out all holds more in
-            let used-is : r .used ≡ length (atoms ++ terms) = omega (arith, t′ .place, at-is, length-append atoms terms) in
+            let used-is : r .used ≡ length (atoms ++ terms) =
+            omega (arith, t′ .place, at-is, length-append atoms terms) in
             let used : r .used + 16 ≡ length ((atoms ++ terms) ++ z) =
             omega (arith, used-is, length-append (atoms ++ terms) z, length-sum w c) in
             let own : Answer = record { refusal = 0; used = r .used + 16; terms = r .terms; flag = false } in
             let answer : _≡_ {A = Answer} own
             (record { refusal = 0; used = length ((atoms ++ terms) ++ z); terms = termCount all; flag = false }) =
             ap₂ (λ (u n : ℕ). record { refusal = 0; used = u; terms = n; flag = false }) used (t′ .count) in
-            gives-same (fits-outcome (rw same at (indexed .holds .kept more .fits))) 57360 own e
+            gives-same (collected-form w c l (rw same at (indexed .holds .kept more .fits))) 57360 own e
             (gives-form (collectedForm w c l) false 57360 own e answer
             (p
             ∙ ap (λ (b : List ℕ). put b (r .used) z)

@@ -3,9 +3,9 @@
 -- and the two evaluators of constants (122-171) have no definition of their own: a variable-free subtree that is a
 -- constant or a factor has its value at w bits (difference 3), and refusal 7 keeps out where the Rust's evaluators
 -- differ from it.
-use Prim.Native.Nat.{ℕ, _%_, _^_}
+use Prim.Native.Nat.{ℕ}
 use mathlib.Core.List.{List, [], _∷_, _++_}
-use mathlib.Core.Bool.{Bool, true, false, not, _&&_, _||_}
+use mathlib.Core.Bool.{Bool, false, not, _&&_, _||_}
 use lib.Dec.{eqb}
 use Rattle.arith.specs.Width.{modAdd, modMul, modNeg}
 use Rattle.record.specs.Choice.{when}
@@ -19,6 +19,7 @@ pub record Emitted : Type 0 where
   pub coeff : ℕ
   pub tree : Tree
 
+-- what a descent collects: a constant and weighted atoms, or nothing where it is not linear
 pub data Collected : Type 0 where
   nonlinear : Collected
   linear : ℕ → List Emitted → Collected
@@ -29,13 +30,15 @@ joinCollected w nonlinear y = nonlinear
 joinCollected w (linear c l) nonlinear = nonlinear
 joinCollected w (linear c l) (linear d m) = linear (modAdd c d w) (l ++ m)
 
--- an atom as it stands, and a variable-free subtree
+-- an atom as it stands
 unfoldable pub collectAtom : ℕ → Tree → Collected
 collectAtom c t = linear 0 (record { coeff = c; tree = t } ∷ [])
 
+-- a subtree without a variable
 unfoldable pub collectConstant : ℕ → ℕ → Tree → Collected
 collectConstant w c t = linear (modMul c (value w [] t) w) []
 
+-- the root is a Not
 unfoldable pub isNot : Tree → Bool
 isNot (Constant v) = false
 isNot (Variable i) = false

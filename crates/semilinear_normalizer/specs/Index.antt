@@ -29,10 +29,11 @@ use Rattle.semilinear_normalizer.specs.Key.{notPure, keyOf}
 unfoldable pub entryWords : ℕ → ℕ → ℕ → ℕ → List ℕ → List ℕ
 entryWords c hash start end key = c ∷ hash ∷ start ∷ end ∷ key
 
--- the bytes of atom j's tree, and the tree
+-- the bytes of atom j's tree
 unfoldable pub entrySpan : List ℕ → List ℕ → ℕ → List ℕ
 entrySpan index out j = spanOf out (getD index (11 * j + 2) 0) (getD index (11 * j + 3) 0)
 
+-- the tree of atom j
 abbrev pub entryTree : List ℕ → List ℕ → ℕ → Tree
 entryTree index out j = decode (entrySpan index out j)
 
@@ -104,6 +105,7 @@ lastF (suc n) p none = when (p n) (λ _. n) (λ _. lastF n p none)
 unfoldable pub slotAt : ℕ → Tree → List ℕ → List ℕ → ℕ → Bool
 slotAt hash t index out j = eqb (getD index (11 * j + 1) 0) hash && sameVars (entryTree index out j) t
 
+-- the newest of the first n atoms with this hash and the variables of t, else n
 unfoldable pub newestSlot : ℕ → ℕ → Tree → List ℕ → List ℕ → ℕ
 newestSlot n hash t index out = lastF n (slotAt hash t index out) n
 
@@ -128,10 +130,11 @@ pub record Searchable (index out : List ℕ) (n : ℕ) : Type 0 where
 
 -- ---- the terms
 
--- the bytes of the term of atom i, none where its coefficient c is 0, and how many terms that is
+-- the bytes of the term of atom i, none where its coefficient c is 0
 unfoldable pub rowTerm : ℕ → ℕ → ℕ → List ℕ
 rowTerm w i c = when (eqb c 0) (λ _. []) (λ _. termBytes w i c)
 
+-- how many terms that is
 unfoldable pub rowTerms : ℕ → ℕ
 rowTerms c = when (eqb c 0) (λ _. 0) (λ _. 1)
 

@@ -1,6 +1,6 @@
 -- What the descent asks of every subtree, as one number for each record, the subtree's root, in the order of the
 -- records.
-use Prim.Native.Nat.{ℕ, _+_, _*_, _%_}
+use Prim.Native.Nat.{ℕ, _+_, _%_}
 use mathlib.Core.Path.{_≡_}
 use mathlib.Core.List.{List, [], _∷_, _++_}
 use mathlib.Core.Bool.{Bool}
@@ -16,13 +16,15 @@ use Rattle.expr.specs.Utils.{hasVarDep, hasArith, traitsOf}
 unfoldable pub markNumber : Bool → Bool → ℕ
 markNumber variable arith = when variable (λ _. 1) (λ _. 0) + when arith (λ _. 2) (λ _. 0)
 
+-- the mark of a tree's root
 unfoldable pub markOf : Tree → ℕ
 markOf t = markNumber (hasVarDep t) (hasArith t)
 
--- the two tests of a mark
+-- the mark says that there is a variable
 unfoldable pub markVariable : ℕ → Bool
 markVariable m = eqb (m % 2) 1
 
+-- the mark says that there is an Add, a Mul or a Neg
 unfoldable pub markArith : ℕ → Bool
 markArith m = ltb 1 m
 

@@ -17,10 +17,11 @@ use Rattle.semilinear.specs.Form.{Row, eqTree}
 use Rattle.semilinear_normalizer.specs.Collect.{Emitted}
 use Rattle.semilinear_normalizer.specs.Truth.{table}
 
--- And over And and Mixed is And, otherwise Mixed; likewise Or and Xor; a Not is Not; all else is Mixed
+-- the family f where both children belong to it or are Mixed, otherwise Mixed
 unfoldable pub familyOf : ℕ → ℕ → ℕ → ℕ
 familyOf f x y = when ((eqb x f || eqb x 4) && (eqb y f || eqb y 4)) (λ _. f) (λ _. 4)
 
+-- And over And and Mixed is And, likewise Or and Xor; a Not is Not; all else is Mixed
 unfoldable pub detectProvenance : Tree → ℕ
 detectProvenance (Constant v) = 4
 detectProvenance (Variable i) = 4
@@ -81,6 +82,7 @@ addRow w new zero (x ∷ l) =
     record { provenance = x .provenance; tree = x .tree; coeff = modAdd (x .coeff) (new .coeff) w } ∷ l
 addRow w new (suc j) (x ∷ l) = x ∷ addRow w new j l
 
+-- one atom: added to the row that it shares, or a row more
 unfoldable pub registerAtom : ℕ → Emitted → List Row → List Row
 registerAtom w e rows =
     addRow w (record { provenance = detectProvenance (e .tree); tree = e .tree; coeff = e .coeff })

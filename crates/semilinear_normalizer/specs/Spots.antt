@@ -21,8 +21,8 @@ use Rattle.semilinear_normalizer.specs.declared.side.Spot.{Spot}
 use Rattle.semilinear_normalizer.specs.declared.collect.Descent.{Descent}
 use Rattle.semilinear_normalizer.specs.declared.side.Side.{Side}
 use Rattle.semilinear_normalizer.specs.declared.side.Way.{Way}
-use Rattle.semilinear_normalizer.specs.Collect.{Emitted, Collected, nonlinear, linear, joinCollected}
-use Rattle.semilinear_normalizer.specs.Collect.{collectAtom, collectAnd, andCoeff, collectTerms}
+use Rattle.semilinear_normalizer.specs.Collect.{Emitted, Collected, nonlinear, linear, joinCollected, collectAtom}
+use Rattle.semilinear_normalizer.specs.Collect.{collectAnd, andCoeff, collectTerms}
 use Rattle.semilinear_normalizer.specs.Marks.{marksOf}
 
 -- ---- the words
@@ -122,26 +122,28 @@ collectLiteral w k c t v =
 
 -- ---- where the descent goes on
 
+-- the root has two children
 unfoldable pub isBinary : Tree → Bool
 isBinary (Constant v) = false
 isBinary (Variable i) = false
 isBinary (Unary k a t) = false
 isBinary (Binary k l r) = true
 
--- the children of a root with two
+-- the left child of a root with two
 unfoldable pub leftOf : Tree → Tree
 leftOf (Constant v) = Constant v
 leftOf (Variable i) = Variable i
 leftOf (Unary k a t) = Unary k a t
 leftOf (Binary k l r) = l
 
+-- the right child of a root with two
 unfoldable pub rightOf : Tree → Tree
 rightOf (Constant v) = Constant v
 rightOf (Variable i) = Variable i
 rightOf (Unary k a t) = Unary k a t
 rightOf (Binary k l r) = r
 
--- where the children of a root with two stand in the file, and their marks
+-- where the left child of a root with two stands in the file, and its marks
 unfoldable pub leftSide : List ℕ → Spot → Side
 leftSide file x =
     record {
@@ -153,6 +155,7 @@ leftSide file x =
       value = 0;
     }
 
+-- where the right child stands, and its marks
 unfoldable pub rightSide : List ℕ → List ℕ → Spot → Side
 rightSide file marks x =
     record {
@@ -164,6 +167,7 @@ rightSide file marks x =
       value = 0;
     }
 
+-- the root is an And
 abbrev pub IsAnd : Tree → Type 0
 IsAnd t = t ≡ Binary 4 (leftOf t) (rightOf t)
 
@@ -185,8 +189,8 @@ collectWhole w c (Binary k l r) =
     when (hasArith (Binary k l r)) (λ _. nonlinear)
     (λ _. when (eqb k 4) (λ _. collectAnd w c l r) (λ _. collectAtom c (Binary k l r)))
 
--- how the descent goes on at a tree t with a variable that is no Add, under a coefficient c other than 0: it ends there,
--- or goes to one child, or to one child and then to the And of it and a literal
+-- how the descent goes on at a tree t of kind k with a variable that is no Add, under a coefficient c other than 0: it
+-- ends there, or goes to one child, or to one child and then to the And of it and a literal
 pub data WayOf (w : ℕ) (file marks : List ℕ) (k c : ℕ) (t : Tree) (b : Way) : Type 0 where
   ends : b .found ≡ false → collectTerms w c t ≡ collectWhole w c t → WayOf w file marks k c t b
   goes : b .found ≡ true → b .masked ≡ false → SideAt w file marks (b .child)

@@ -7,8 +7,7 @@ use crate::side::Side;
 use crate::side::Spot;
 ghost use mathlib.Core.Path.{_≡_};
 ghost use mathlib.Core.Bool.{true, false};
-ghost use mathlib.Core.List.{List, [], _∷_};
-ghost use Prim.Native.Nat.{ℕ, _+_, _-_, _*_, _^_, _<_, _≤_};
+ghost use Prim.Native.Nat.{_+_, _*_, _^_, _<_, _≤_};
 ghost use lib.ListN.{length};
 ghost use lib.Dec.{eqb};
 ghost use Rattle.arith.specs.Width.{modAdd, modMul, modNeg};
@@ -16,9 +15,9 @@ ghost use Rattle.record.specs.Tree.{sizeOf};
 ghost use Rattle.record.specs.Tree.Tree.{Constant};
 ghost use Rattle.expr.specs.Utils.{hasVarDep};
 ghost use Rattle.semilinear_normalizer.specs.Collect.{collectAnd, andCoeff, collectTerms};
-ghost use Rattle.semilinear_normalizer.specs.Spots.{Accepted, Collects, Ready, treeAt, AtSpot};
-ghost use Rattle.semilinear_normalizer.specs.Spots.{sideTree, leftOf, rightOf, IsAnd, Pushed};
-ghost use Rattle.semilinear_normalizer.specs.Spots.{collectWhole, collectLiteral};
+ghost use Rattle.semilinear_normalizer.specs.Spots.{Accepted, Collects, Ready, treeAt};
+ghost use Rattle.semilinear_normalizer.specs.Spots.{AtSpot, sideTree, leftOf, rightOf, IsAnd};
+ghost use Rattle.semilinear_normalizer.specs.Spots.{Pushed, collectWhole, collectLiteral};
 
 // A descent on its way: whether all was linear so far, the constant, and how many atoms there are.
 pub struct Descent {
@@ -55,7 +54,11 @@ impl Descent {
 
     // What is not linear stays so.
     fn not_linear(mut self) -> Self
-        ensures { λ r. ⌜ r ≡ record { linear = false; constant = self .constant; count = self .count } ⌝ }
+        ensures { λ r. ⌜ r ≡ record {
+          linear = false;
+          constant = self .constant;
+          count = self .count;
+        } ⌝ }
     {
         self.linear = false;
         self
@@ -98,8 +101,8 @@ impl Descent {
         spots: &mut [u64],
     ) -> Self
         requires { ⌜ 5 * self .count + 5 ≤ length (now spots) ⌝ }
-        ensures { λ r. ⌜ Pushed (modAdd (self .constant) (modMul c v w) w) (modNeg c w) start end 1 v
-            (now (spots .entry)) self (now (spots .exit)) r ⌝ }
+        ensures { λ r. ⌜ Pushed (modAdd (self .constant) (modMul c v w) w) (modNeg c w)
+            start end 1 v (now (spots .entry)) self (now (spots .exit)) r ⌝ }
     {
         let inner = Spot {
             coeff: arith::mod_neg(c, w),
@@ -111,10 +114,13 @@ impl Descent {
 
     // An And without Add, Mul and Neg, with a variable.
     fn collect_and(self, x: Spot, file: &[u8], marks: &[u8], w: u32, spots: &mut [u64]) -> Self
-        requires { ⌜ AtSpot w (now file) (now marks) x × Ready w 1 (now spots) self × (eqb (x .coeff) 0 ≡ false)
-            × (hasVarDep (treeAt (now file) x) ≡ true) × IsAnd (treeAt (now file) x) ⌝ }
-        ensures { λ r. ⌜ Collects w (now (file .entry)) 1 (collectAnd w (x .coeff) (leftOf (treeAt (now (file .entry)) x))
-            (rightOf (treeAt (now (file .entry)) x))) (now (spots .entry)) self (now (spots .exit)) r ⌝ }
+        requires { ⌜ AtSpot w (now file) (now marks) x × Ready w 1 (now spots) self
+            × (eqb (x .coeff) 0 ≡ false) × (hasVarDep (treeAt (now file) x) ≡ true)
+            × IsAnd (treeAt (now file) x) ⌝ }
+        ensures { λ r. ⌜ Collects w (now (file .entry)) 1
+            (collectAnd w (x .coeff) (leftOf (treeAt (now (file .entry)) x))
+            (rightOf (treeAt (now (file .entry)) x)))
+            (now (spots .entry)) self (now (spots .exit)) r ⌝ }
     {
         let side = side::side_of(x, file, marks, w);
         if !side.found {
@@ -130,9 +136,10 @@ impl Descent {
 
     // The And of the subtree of x and the literal v, which the descent makes.
     fn collect_literal_and(self, x: Spot, v: u64, file: &[u8], w: u32, spots: &mut [u64]) -> Self
-        requires { ⌜ Accepted w (now file) (x .start) (x .end) × Ready w 1 (now spots) self × (v < 2 ^ w)
-            × (hasVarDep (treeAt (now file) x) ≡ true) ⌝ }
-        ensures { λ r. ⌜ Collects w (now (file .entry)) 1 (collectAnd w (x .coeff) (treeAt (now (file .entry)) x) (Constant v))
+        requires { ⌜ Accepted w (now file) (x .start) (x .end) × Ready w 1 (now spots) self
+            × (v < 2 ^ w) × (hasVarDep (treeAt (now file) x) ≡ true) ⌝ }
+        ensures { λ r. ⌜ Collects w (now (file .entry)) 1
+            (collectAnd w (x .coeff) (treeAt (now (file .entry)) x) (Constant v))
             (now (spots .entry)) self (now (spots .exit)) r ⌝ }
     {
         let coeff = x.coeff;
@@ -157,8 +164,8 @@ impl Descent {
         w: u32,
         spots: &mut [u64],
     ) -> Self
-        requires { ⌜ Accepted w (now file) (side .start) (side .end) × Ready w 1 (now spots) self × (side .value < 2 ^ w)
-            × (hasVarDep (sideTree (now file) side) ≡ true) ⌝ }
+        requires { ⌜ Accepted w (now file) (side .start) (side .end) × Ready w 1 (now spots) self
+            × (side .value < 2 ^ w) × (hasVarDep (sideTree (now file) side) ≡ true) ⌝ }
         ensures { λ r. ⌜ Collects w (now (file .entry)) 1
             (collectLiteral w k c (sideTree (now (file .entry)) side) (side .value))
             (now (spots .entry)) self (now (spots .exit)) r ⌝ }
@@ -175,9 +182,10 @@ impl Descent {
 
     // A tree with a variable where the descent ends: nonlinear, or an atom.
     fn collect_whole(self, x: Spot, file: &[u8], marks: &[u8], w: u32, spots: &mut [u64]) -> Self
-        requires { ⌜ AtSpot w (now file) (now marks) x × Ready w 1 (now spots) self × (eqb (x .coeff) 0 ≡ false)
-            × (hasVarDep (treeAt (now file) x) ≡ true) ⌝ }
-        ensures { λ r. ⌜ Collects w (now (file .entry)) 1 (collectWhole w (x .coeff) (treeAt (now (file .entry)) x))
+        requires { ⌜ AtSpot w (now file) (now marks) x × Ready w 1 (now spots) self
+            × (eqb (x .coeff) 0 ≡ false) × (hasVarDep (treeAt (now file) x) ≡ true) ⌝ }
+        ensures { λ r. ⌜ Collects w (now (file .entry)) 1
+            (collectWhole w (x .coeff) (treeAt (now (file .entry)) x))
             (now (spots .entry)) self (now (spots .exit)) r ⌝ }
     {
         let start = x.start;
@@ -203,9 +211,11 @@ impl Descent {
         w: u32,
         spots: &mut [u64],
     ) -> Self
-        requires { ⌜ AtSpot w (now file) (now marks) x × Ready w (sizeOf (treeAt (now file) x)) (now spots) self ⌝ }
+        requires { ⌜ AtSpot w (now file) (now marks) x
+            × Ready w (sizeOf (treeAt (now file) x)) (now spots) self ⌝ }
         ensures { λ r. ⌜ Collects w (now (file .entry)) (sizeOf (treeAt (now (file .entry)) x))
-            (collectTerms w (x .coeff) (treeAt (now (file .entry)) x)) (now (spots .entry)) self (now (spots .exit)) r ⌝ }
+            (collectTerms w (x .coeff) (treeAt (now (file .entry)) x))
+            (now (spots .entry)) self (now (spots .exit)) r ⌝ }
     {
         let coeff = x.coeff;
         if coeff == 0 {

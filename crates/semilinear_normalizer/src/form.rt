@@ -6,8 +6,7 @@ use semilinear::compact::Written;
 use semilinear::outcome::Answer;
 use semilinear::outcome::{self};
 ghost use mathlib.Core.Path.{_≡_};
-ghost use mathlib.Core.List.{[]};
-ghost use Prim.Native.Nat.{ℕ, _+_, _*_, _^_, _<_, _≤_};
+ghost use Prim.Native.Nat.{_+_, _*_, _<_, _≤_};
 ghost use lib.ListN.{length};
 ghost use Rattle.semilinear.specs.Answers.{GivesForm};
 ghost use Rattle.semilinear_normalizer.specs.Collect.{linear};
@@ -34,8 +33,8 @@ fn put_row(x: Written, i: u64, c: u64, w: u8, out: &mut [u8]) -> Written
 // The terms of the first n atoms of the index are put into out from `to` on.
 fn put_terms(n: usize, index: &[u64], w: u8, out: &mut [u8], to: usize) -> Written
     requires { ⌜ (11 * n ≤ length (now index)) × (n ≤ 256) × (to + 16 * n ≤ length (now out)) ⌝ }
-    ensures { λ r. ⌜ TermsPut w to (rowsIn (now (index .entry)) (now (out .entry)) n) (now (out .entry))
-        (now (out .exit)) r ⌝ }
+    ensures { λ r. ⌜ TermsPut w to (rowsIn (now (index .entry)) (now (out .entry)) n)
+        (now (out .entry)) (now (out .exit)) r ⌝ }
 {
     let mut x = Written { used: to, terms: 0 };
     let mut i = 0;
@@ -58,11 +57,12 @@ pub fn write_form(
     index: &mut [u64],
     out: &mut [u8],
 ) -> Answer
-    requires { ⌜ SpotsOk w (now file) (now spots) (found .count) × (5 * found .count ≤ length (now spots))
+    requires { ⌜ SpotsOk w (now file) (now spots) (found .count)
+        × (5 * found .count ≤ length (now spots))
         × (length (now file) + 32 ≤ length (now tree)) × (length (now file) ≤ 1048000)
         × (2816 ≤ length (now index)) × (length (now out) ≡ 57360) ⌝ }
-    ensures { λ r. ⌜ GivesForm
-        (collectedOutcome w (linear (found .constant) (spotsIn (now (file .entry)) (now (spots .entry)) (found .count))))
+    ensures { λ r. ⌜ GivesForm (collectedOutcome w (linear (found .constant)
+        (spotsIn (now (file .entry)) (now (spots .entry)) (found .count))))
         57360 r (now (out .exit)) ⌝ }
 {
     record::write::clear(out);

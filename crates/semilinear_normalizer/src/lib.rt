@@ -14,7 +14,7 @@ use crate::side::Spot;
 use semilinear::outcome::Answer;
 use semilinear::outcome::{self};
 ghost use mathlib.Core.Path.{_≡_};
-ghost use Prim.Native.Nat.{ℕ, _+_, _*_, _<_, _≤_};
+ghost use Prim.Native.Nat.{_+_, _*_, _≤_};
 ghost use lib.ListN.{length};
 ghost use Rattle.record.specs.Fields.{size};
 ghost use Rattle.record.specs.Decode.{decode};
@@ -37,7 +37,8 @@ pub fn normalize_tree(
     requires { ⌜ (treeRefusal w (now t) ≡ 0) × (size (now t) ≤ length (now marks))
         × (5 * size (now t) ≤ length (now spots)) × (length (now t) + 32 ≤ length (now tree))
         × (length (now t) ≤ 1048000) × (2816 ≤ length (now index)) × (length (now out) ≡ 57360) ⌝ }
-    ensures { λ r. ⌜ GivesForm (normalizeTree w (decode (now (t .entry)))) 57360 r (now (out .exit)) ⌝ }
+    ensures { λ r. ⌜ GivesForm (normalizeTree w (decode (now (t .entry)))) 57360 r
+        (now (out .exit)) ⌝ }
 {
     let traits = marks::mark_traits(t, marks, 0);
     if traits.refused {

@@ -4,13 +4,14 @@ use expr::utils::Traits;
 ghost use mathlib.Core.Path.{_≡_};
 ghost use mathlib.Core.Bool.{true};
 ghost use mathlib.Core.List.{[], _∷_};
-ghost use Prim.Native.Nat.{ℕ, _+_, _<_, _≤_};
+ghost use Prim.Native.Nat.{_+_, _<_, _≤_};
 ghost use lib.ListN.{length};
 ghost use Rattle.record.specs.Span.{sized};
 ghost use Rattle.record.specs.Decode.{decode};
 ghost use Rattle.record.specs.Fields.{size};
 ghost use Rattle.record.specs.Put.{put};
-ghost use Rattle.semilinear_normalizer.specs.Marks.{markNumber, markVariable, markArith, Marked};
+ghost use Rattle.semilinear_normalizer.specs.Marks.{markNumber, markVariable, markArith};
+ghost use Rattle.semilinear_normalizer.specs.Marks.{Marked};
 
 // 1 where a tree has a variable, and 2 more where it has an Add, a Mul or a Neg.
 fn mark_of(found: Traits) -> u8

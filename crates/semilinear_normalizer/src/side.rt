@@ -2,7 +2,7 @@
 use crate::marks;
 ghost use mathlib.Core.Path.{_≡_};
 ghost use mathlib.Core.Bool.{true, false};
-ghost use Prim.Native.Nat.{ℕ, _-_, _≤_};
+ghost use Prim.Native.Nat.{_-_, _≤_};
 ghost use lib.ListN.{length};
 ghost use lib.Dec.{eqb};
 ghost use Rattle.arith.specs.Width.{modNeg};
@@ -10,7 +10,8 @@ ghost use Rattle.record.specs.Fields.{kind};
 ghost use Rattle.record.specs.Span.{left};
 ghost use Rattle.expr.specs.Utils.{hasVarDep};
 ghost use Rattle.semilinear_normalizer.specs.Spots.{spanOf, treeAt, AtSpot, isBinary, leftOf};
-ghost use Rattle.semilinear_normalizer.specs.Spots.{rightOf, leftSide, rightSide, SideOf, WayOf};
+ghost use Rattle.semilinear_normalizer.specs.Spots.{rightOf, leftSide, rightSide, SideOf};
+ghost use Rattle.semilinear_normalizer.specs.Spots.{WayOf};
 
 // A coefficient, and the bytes of the file that hold a subtree.
 pub struct Spot {

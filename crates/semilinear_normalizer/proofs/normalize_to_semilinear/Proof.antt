@@ -5,8 +5,8 @@ use Rattle.expr.proofs.RefusalLaws.{accepted-big}
 use Rattle.expr.proofs.ExprValueLaws.{accepted-tree}
 use Rattle.semilinear.specs.Outcome.{refused}
 use Rattle.semilinear.proofs.PassLaws.{gives-same}
-use Rattle.semilinear_normalizer.proofs.WholeTreeLaws.{outcome-one, outcome-two, outcome-expr, gives-tree}
-use Rattle.semilinear_normalizer.proofs.WholeTreeLaws.{file-room}
+use Rattle.semilinear_normalizer.proofs.NormalizeLaws.{file-one, file-two, file-refused}
+use Rattle.semilinear_normalizer.proofs.WholeTreeLaws.{gives-tree, file-room}
 use borrow.Author.Needs.{needs}
 use Rattle.semilinear_normalizer.proofs.normalize_to_semilinear.Statement.{statement}
 use Rattle.semilinear_normalizer.proofs.normalize_to_semilinear.Tie as tie
@@ -24,7 +24,7 @@ returns : tie.Need-returns
 returns c =
     let at-refuse = c .before .before in
     let at-if = at-refuse .before .before in
-    gives-same (outcome-one _ _ (sym (at-if .before .expr-refusal .ensures) ∙ at-if .if1 .taken)) _
+    gives-same (file-one _ _ (sym (at-if .before .expr-refusal .ensures) ∙ at-if .if1 .taken)) _
     (at-refuse .refuse .result) _ (at-refuse .refuse .ensures)
 
 refuse-requires-2 : tie.Need-refuse-requires-2
@@ -39,7 +39,7 @@ returns-2 c =
     let at-if = at-refuse .before .before in
     let at-number = at-if .before .before in
     gives-same
-    (outcome-two _ _ (λ e. at-if .before .if1 .left (at-number .expr-refusal .ensures ∙ e)) (at-if .if2 .taken)) _
+    (file-two _ _ (λ e. at-if .before .if1 .left (at-number .expr-refusal .ensures ∙ e)) (at-if .if2 .taken)) _
     (at-refuse .refuse2 .result) _ (at-refuse .refuse2 .ensures)
 
 refuse-requires-3 : tie.Need-refuse-requires-3
@@ -55,8 +55,8 @@ returns-3 c =
     let at-number = at-if .before .before .before in
     let number = at-number .expr-refusal .ensures in
     gives-same
-    (outcome-expr _ _ (λ e. at-if .before .before .if1 .left (number ∙ e)) (at-if .before .if2 .left)
-    (λ e. at-if .if3 .taken (number ∙ e))
+    (file-refused _ _ (λ e. at-if .before .before .if1 .left (number ∙ e)) (λ e. at-if .if3 .taken (number ∙ e))
+    (at-if .before .if2 .left)
     ∙ ap refused (sym number)) _ (at-refuse .refuse3 .result) _ (at-refuse .refuse3 .ensures)
 
 width-requires : tie.Need-width-requires

@@ -1,5 +1,5 @@
 -- `normalize_tree` meets its contract: the marks, the descent from the root, and the form of what it collected.
-use mathlib.Core.Path.{refl, ap, sym, _∙_}
+use mathlib.Core.Path.{refl, sym, _∙_}
 use native.Mathlib.Omega.{arith}
 use borrow.Author.Tests.{not-true, not-false}
 use lib.Seq.{length-take-le}
@@ -59,9 +59,10 @@ collect-terms-requires c κs =
     let at-known = at-marks .before .before .before .before .before .before .before in
     let at-start = at-known .before in
     let at-nothing = c .before .before in (
-      whole-at _ _ (λ i. at-known .shared-slice-known .given i .fits) (at-start .pre .0) (at-marks .mark-traits .ensures) (at-start .pre .1)
-          (at-nothing .before .size .ensures .0) refl,
-      whole-ready _ _ (λ i. at-known .shared-slice-known .given i .fits) (at-start .pre .0) (at-start .pre .2) (at-nothing .start .ensures),
+      whole-at _ _ (λ i. at-known .shared-slice-known .given i .fits) (at-start .pre .0)
+          (at-marks .mark-traits .ensures) (at-start .pre .1) (at-nothing .before .size .ensures .0) refl,
+      whole-ready _ _ (λ i. at-known .shared-slice-known .given i .fits) (at-start .pre .0) (at-start .pre .2)
+          (at-nothing .start .ensures),
     )
 
 refuse-requires-2 : tie.Need-refuse-requires-2
@@ -101,8 +102,10 @@ write-form-requires c κs =
     let at-start = at-known .before in
     let plain = sym (refused-is (at-marks .mark-traits .ensures)) ∙ at-if1 .if1 .left in
     let nothing = at-nothing .start .ensures in (
-      spots-whole _ _ (λ i. at-known .shared-slice-known .given i .fits) (at-start .pre .0) plain nothing (at-all .collect-terms .ensures),
-      count-whole _ _ (λ i. at-known .shared-slice-known .given i .fits) (at-start .pre .0) plain nothing (at-all .collect-terms .ensures) (at-start .pre .2),
+      spots-whole _ _ (λ i. at-known .shared-slice-known .given i .fits) (at-start .pre .0) plain nothing
+          (at-all .collect-terms .ensures),
+      count-whole _ _ (λ i. at-known .shared-slice-known .given i .fits) (at-start .pre .0) plain nothing
+          (at-all .collect-terms .ensures) (at-start .pre .2),
       at-start .pre .3,
       at-start .pre .4,
       at-start .pre .5,

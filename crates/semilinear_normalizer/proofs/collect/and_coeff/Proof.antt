@@ -1,4 +1,4 @@
--- `and_coeff` meets its contract.
+-- `and_coeff` meets its contract: an Xor or an Or.
 use mathlib.Core.Path.{ap, sym, _∙_}
 use Prim.Native.Nat.{ℕ}
 use Rattle.arith.specs.Width.{modNeg}
@@ -16,7 +16,9 @@ mod-neg-requires c κs = search needs
 returns : tie.Need-returns
 returns c =
     let at-if = c .before .before in
-    c .mod-neg .ensures ∙ ap (λ (x : ℕ). modNeg x (at-if .before .args .w)) (c .before .mod-mul .ensures) ∙ sym (and-coeff-xor _ _ _ (at-if .if1 .taken))
+    c .mod-neg .ensures
+    ∙ ap (λ (x : ℕ). modNeg x (at-if .before .args .w)) (c .before .mod-mul .ensures)
+    ∙ sym (and-coeff-xor _ _ _ (at-if .if1 .taken))
 
 mod-neg-requires-2 : tie.Need-mod-neg-requires-2
 mod-neg-requires-2 c κs = search needs

@@ -4,7 +4,7 @@ use Prim.Native.Nat.{_+_, _*_}
 use lib.ListN.{getD}
 use native.Mathlib.Omega.{arith}
 use Rattle.semilinear_normalizer.specs.Spots.{spanOf, spotAt}
-use Rattle.semilinear_normalizer.proofs.SlotLaws.{length-span}
+use Rattle.semilinear_normalizer.proofs.PartLaws.{length-span}
 use borrow.Author.Needs.{needs}
 use Rattle.semilinear_normalizer.proofs.register.build_tree.Statement.{statement}
 use Rattle.semilinear_normalizer.proofs.register.build_tree.Tie as tie

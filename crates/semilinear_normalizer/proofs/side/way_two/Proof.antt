@@ -1,5 +1,4 @@
 -- `way_two` meets its contract: a case for each kind of root with two children.
-use mathlib.Core.Path.{refl, sym, _∙_}
 use native.Mathlib.Omega.{arith}
 use Rattle.semilinear_normalizer.proofs.SideLaws.{spot-some, spot-arith}
 use Rattle.semilinear_normalizer.proofs.WayLaws.{way-mul, way-and, way-arith, way-masked}
@@ -48,7 +47,7 @@ returns-3 c =
     let spot = at-start .pre .0 in
     way-arith spot (at-start .pre .2) (at-start .pre .3) (at-start .pre .4) (at-start .pre .5) (at-start .pre .6)
     (at-if2 .before .if1 .left) (at-if2 .if2 .left)
-    (sym (spot-arith spot refl) ∙ sym (at-if3 .before .has-arith .ensures) ∙ at-if3 .if3 .taken) (c .nowhere2 .ensures)
+    (spot-arith spot (at-if3 .before .has-arith .ensures) (at-if3 .if3 .taken)) (c .nowhere2 .ensures)
 
 side-of-requires-2 : tie.Need-side-of-requires-2
 side-of-requires-2 c κs = search needs
@@ -61,7 +60,7 @@ returns-4 c =
     let spot = at-start .pre .0 in
     way-masked spot (at-start .pre .2) (at-start .pre .3) (at-start .pre .4) (at-start .pre .5) (at-start .pre .6)
     (at-if2 .before .if1 .left) (at-if2 .if2 .left)
-    (sym (spot-arith spot refl) ∙ sym (at-if3 .before .has-arith .ensures) ∙ at-if3 .if3 .left) (c .side-of2 .ensures)
+    (spot-arith spot (at-if3 .before .has-arith .ensures) (at-if3 .if3 .left)) (c .side-of2 .ensures)
 
 pub way-two-spec : {M : Type 1} → statement M
 way-two-spec =

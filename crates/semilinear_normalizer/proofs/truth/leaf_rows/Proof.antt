@@ -1,6 +1,6 @@
 -- `leaf_rows` meets its contract: the rows of a literal, and of a variable.
 use Rattle.semilinear_normalizer.proofs.RowsLaws.{rows-clear, rows-set, rows-variable}
-use Rattle.semilinear_normalizer.proofs.RowsLaws.{leaf-constant, leaf-variable}
+use Rattle.semilinear_normalizer.proofs.LeafLaws.{leaf-constant, leaf-variable}
 use Rattle.arith.specs.Bit.{bitAt}
 use Prim.Native.Nat.{ℕ}
 use mathlib.Core.Path.{ap, sym, _∙_}

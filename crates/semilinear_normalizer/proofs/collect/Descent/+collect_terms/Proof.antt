@@ -1,7 +1,7 @@
 -- `collect_terms` meets its contract: each way on is a smaller spot of the file, and what is collected there makes up
 -- what is collected here.
-use mathlib.Core.Path.{refl, ap, sym, _∙_}
-use Prim.Native.Nat.{_-_}
+use mathlib.Core.Path.{ap, sym, _∙_}
+use Prim.Native.Nat.{_-_, ℕ, _<_}
 use native.Mathlib.Omega.{arith}
 use mathlib.Core.List.{List, []}
 use borrow.Author.Tests.{ne-eqb, not-true, not-false}
@@ -10,14 +10,15 @@ use Rattle.record.specs.Fields.{kind}
 use Rattle.record.specs.Decode.{decode}
 use Rattle.expr.specs.Value.{value}
 use Rattle.semilinear_normalizer.specs.Collect.{linear}
-use Rattle.semilinear_normalizer.proofs.SpanOfLaws.{span-big, span-end, span-sized}
+use Rattle.semilinear_normalizer.proofs.SpanOfLaws.{span-big, span-end, span-sized, kind-read}
 use Rattle.semilinear_normalizer.proofs.SideLaws.{spot-some, spot-marks, spot-variable}
 use Rattle.semilinear_normalizer.proofs.CollectsLaws.{collects-as, collects-none, collects-constant, ready-less}
-use Rattle.semilinear_normalizer.proofs.DescentLaws.{terms-zero, terms-constant, left-big, down-left, down-right}
-use Rattle.semilinear_normalizer.proofs.DescentLaws.{down-spot, down-falls, down-ready, ready-right, sum-then}
-use Rattle.semilinear_normalizer.proofs.DescentLaws.{sum-stop, down-way, way-ends, way-goes, way-literal}
-use Rattle.semilinear_normalizer.proofs.DescentLaws.{ready-masked, way-masked-stop, way-masked-then}
-use Prim.Native.Nat.{ℕ, _<_}
+use Rattle.semilinear_normalizer.proofs.DescentLaws.{terms-zero, terms-constant, down-spot, down-falls}
+use Rattle.semilinear_normalizer.proofs.DescentLaws.{down-ready}
+use Rattle.semilinear_normalizer.proofs.AddLaws.{left-big, down-left, down-right, ready-right, sum-then}
+use Rattle.semilinear_normalizer.proofs.AddLaws.{sum-stop}
+use Rattle.semilinear_normalizer.proofs.WayOnLaws.{down-way, way-ends, way-goes, way-literal, ready-masked}
+use Rattle.semilinear_normalizer.proofs.WayOnLaws.{way-masked-stop, way-masked-then}
 use borrow.Fn.Kinds.{In}
 use borrow.Fn.PlainCycle.{Measures, is, falls, and}
 use Rattle.semilinear_normalizer.proofs.collect.Descent.collect_terms.Reads as collect-terms
@@ -54,14 +55,42 @@ collect-terms-below t =
     collect-terms.Pre
 
 abbrev claims : ℕ → collect-terms-lts.Claims
-claims t = (span-of-reads.Asked, span-of-reads.Learnt, has-variable-reads.Asked, has-variable-reads.Learnt, constant-value-reads.Asked, constant-value-reads.Learnt, add-constant-reads.Asked, add-constant-reads.Learnt, kind-reads.Asked, kind-reads.Learnt, left-side-reads.Asked, left-side-reads.Learnt, side-spot-reads.Asked, side-spot-reads.Learnt, side-marks-reads.Asked, side-marks-reads.Learnt, collect-terms-below t, collect-terms.Post, right-side-reads.Asked, right-side-reads.Learnt, way-on-reads.Asked, way-on-reads.Learnt, collect-whole-reads.Asked, collect-whole-reads.Learnt, collect-masked-reads.Asked, collect-masked-reads.Learnt)
+claims t = (
+  span-of-reads.Asked,
+  span-of-reads.Learnt,
+  has-variable-reads.Asked,
+  has-variable-reads.Learnt,
+  constant-value-reads.Asked,
+  constant-value-reads.Learnt,
+  add-constant-reads.Asked,
+  add-constant-reads.Learnt,
+  kind-reads.Asked,
+  kind-reads.Learnt,
+  left-side-reads.Asked,
+  left-side-reads.Learnt,
+  side-spot-reads.Asked,
+  side-spot-reads.Learnt,
+  side-marks-reads.Asked,
+  side-marks-reads.Learnt,
+  collect-terms-below t,
+  collect-terms.Post,
+  right-side-reads.Asked,
+  right-side-reads.Learnt,
+  way-on-reads.Asked,
+  way-on-reads.Learnt,
+  collect-whole-reads.Asked,
+  collect-whole-reads.Learnt,
+  collect-masked-reads.Asked,
+  collect-masked-reads.Learnt,
+)
 
 collect-terms-returns : (t : ℕ) → collect-terms-lts.Need-returns (claims t) (collect-terms-at t) collect-terms.Post
 collect-terms-returns t c =
     let at-start = c .before .before .before .before in
     collects-as (terms-zero _ _ _ (c .if1 .taken)) (collects-none _ _ _ _ _ (at-start .pre .1 .1))
 
-collect-terms-span-of-requires : (t : ℕ) → collect-terms-lts.Need-span-of-requires (claims t) (collect-terms-at t) collect-terms.Post
+collect-terms-span-of-requires :
+    (t : ℕ) → collect-terms-lts.Need-span-of-requires (claims t) (collect-terms-at t) collect-terms.Post
 collect-terms-span-of-requires t c κs =
     let at-start = c .before .before .before .before in
     (at-start .pre .1 .0 .span .rising, at-start .pre .1 .0 .span .inside)
@@ -72,48 +101,24 @@ collect-terms-sub-last t c =
     spot-some (at-start .pre .1 .0)
 
 collect-terms-shared-slice-read-has-variable :
-    (t : ℕ) → collect-terms-lts.Need-shared-slice-read-has-variable (
-      span-of-reads.Asked,
-      span-of-reads.Learnt,
-      has-variable-reads.Asked,
-      has-variable-reads.Learnt,
-      constant-value-reads.Asked,
-      constant-value-reads.Learnt,
-      add-constant-reads.Asked,
-      add-constant-reads.Learnt,
-      kind-reads.Asked,
-      kind-reads.Learnt,
-      left-side-reads.Asked,
-      left-side-reads.Learnt,
-      side-spot-reads.Asked,
-      side-spot-reads.Learnt,
-      side-marks-reads.Asked,
-      side-marks-reads.Learnt,
-      collect-terms-below t,
-      collect-terms.Post,
-      right-side-reads.Asked,
-      right-side-reads.Learnt,
-      way-on-reads.Asked,
-      way-on-reads.Learnt,
-      collect-whole-reads.Asked,
-      collect-whole-reads.Learnt,
-      collect-masked-reads.Asked,
-      collect-masked-reads.Learnt,
-    ) (collect-terms-at t) collect-terms.Post
+    (t : ℕ) → collect-terms-lts.Need-shared-slice-read-has-variable (claims t) (collect-terms-at t) collect-terms.Post
 collect-terms-shared-slice-read-has-variable t c =
     let at-start = c .before .before .before .before .before .before in
     omega (arith, spot-some (at-start .pre .1 .0))
 
-collect-terms-has-variable-requires : (t : ℕ) → collect-terms-lts.Need-has-variable-requires (claims t) (collect-terms-at t) collect-terms.Post
+collect-terms-has-variable-requires :
+    (t : ℕ) → collect-terms-lts.Need-has-variable-requires (claims t) (collect-terms-at t) collect-terms.Post
 collect-terms-has-variable-requires t c κs = tt
 
-collect-terms-constant-value-requires : (t : ℕ) → collect-terms-lts.Need-constant-value-requires (claims t) (collect-terms-at t) collect-terms.Post
+collect-terms-constant-value-requires :
+    (t : ℕ) → collect-terms-lts.Need-constant-value-requires (claims t) (collect-terms-at t) collect-terms.Post
 collect-terms-constant-value-requires t c κs =
     let at-span = c .before .before .before in
     let at-start = at-span .before .before .before .before .before in
     (rw (at-span .span-of .ensures) (span-sized (at-start .pre .1 .0 .span)), at-start .pre .1 .1 .width)
 
-collect-terms-add-constant-requires : (t : ℕ) → collect-terms-lts.Need-add-constant-requires (claims t) (collect-terms-at t) collect-terms.Post
+collect-terms-add-constant-requires :
+    (t : ℕ) → collect-terms-lts.Need-add-constant-requires (claims t) (collect-terms-at t) collect-terms.Post
 collect-terms-add-constant-requires t c κs = tt
 
 collect-terms-returns-2 : (t : ℕ) → collect-terms-lts.Need-returns-2 (claims t) (collect-terms-at t) collect-terms.Post
@@ -124,42 +129,52 @@ collect-terms-returns-2 t c =
     let at-span = at-variable .before .before in
     let at-if1 = at-span .before in
     let at-start = at-if1 .before .before .before .before in
-    let none = sym (spot-variable (at-start .pre .1 .0) refl) ∙ sym (at-variable .has-variable .ensures) ∙ not-true _ (at-if2 .if2 .taken) in
+    let at = at-start .pre .1 .0 in
+    let none = spot-variable at (at-variable .has-variable .ensures) (not-true _ (at-if2 .if2 .taken)) in
     let w = at-start .args .w in
-    let value-is = at-value .constant-value .ensures ∙ ap (λ (l : List ℕ). value w [] (decode l)) (at-span .span-of .ensures) in
+    let value-is =
+    at-value .constant-value .ensures ∙ ap (λ (l : List ℕ). value w [] (decode l)) (at-span .span-of .ensures) in
     collects-as
     (terms-constant _ _ _ (ne-eqb _ 0 (at-if1 .if1 .left)) none
     ∙ ap (λ (v : ℕ). linear (modMul (at-start .args .x .coeff) v w) []) (sym value-is))
     (collects-constant _ _ _ _ _ (at-start .pre .1 .1) _ _ (c .add-constant .ensures))
 
-collect-terms-kind-requires : (t : ℕ) → collect-terms-lts.Need-kind-requires (claims t) (collect-terms-at t) collect-terms.Post
+collect-terms-kind-requires :
+    (t : ℕ) → collect-terms-lts.Need-kind-requires (claims t) (collect-terms-at t) collect-terms.Post
 collect-terms-kind-requires t c κs =
     let at-span = c .before .before .before in
     let at-start = at-span .before .before .before .before .before in
     rw (at-span .span-of .ensures) (span-big (at-start .pre .1 .0 .span))
 
-collect-terms-left-side-requires : (t : ℕ) → collect-terms-lts.Need-left-side-requires (claims t) (collect-terms-at t) collect-terms.Post
+collect-terms-left-side-requires :
+    (t : ℕ) → collect-terms-lts.Need-left-side-requires (claims t) (collect-terms-at t) collect-terms.Post
 collect-terms-left-side-requires t c κs =
     let at-kind = c .before in
     let at-span = at-kind .before .before .before .before in
     let at-start = at-span .before .before .before .before .before in
     let at = at-start .pre .1 .0 in
-    (at .span .rising, at .span .inside, left-big at (sym (at-kind .kind .ensures ∙ ap kind (at-span .span-of .ensures)) ∙ c .if3 .taken))
+    let two = kind-read (at-span .span-of .ensures) (at-kind .kind .ensures) (c .if3 .taken) in
+    (at .span .rising, at .span .inside, left-big at two)
 
-collect-terms-side-spot-requires : (t : ℕ) → collect-terms-lts.Need-side-spot-requires (claims t) (collect-terms-at t) collect-terms.Post
+collect-terms-side-spot-requires :
+    (t : ℕ) → collect-terms-lts.Need-side-spot-requires (claims t) (collect-terms-at t) collect-terms.Post
 collect-terms-side-spot-requires t c κs = tt
 
-collect-terms-side-marks-requires : (t : ℕ) → collect-terms-lts.Need-side-marks-requires (claims t) (collect-terms-at t) collect-terms.Post
+collect-terms-side-marks-requires :
+    (t : ℕ) → collect-terms-lts.Need-side-marks-requires (claims t) (collect-terms-at t) collect-terms.Post
 collect-terms-side-marks-requires t c κs =
     let at-left = c .before in
     let at-if3 = at-left .before in
     let at-kind = at-if3 .before in
     let at-span = at-kind .before .before .before .before in
     let at-start = at-span .before .before .before .before .before in
-    let down = down-left (at-start .pre .1 .0) (sym (at-kind .kind .ensures ∙ ap kind (at-span .span-of .ensures)) ∙ at-if3 .if3 .taken) (at-left .left-side .ensures) in
+    let at = at-start .pre .1 .0 in
+    let two = kind-read (at-span .span-of .ensures) (at-kind .kind .ensures) (at-if3 .if3 .taken) in
+    let down = down-left at two (at-left .left-side .ensures) in
     (down .side .from-le, down .side .to-le)
 
-collect-terms-collect-terms-requires : (t : ℕ) → collect-terms-lts.Need-collect-terms-requires (claims t) (collect-terms-at t) collect-terms.Post
+collect-terms-collect-terms-requires :
+    (t : ℕ) → collect-terms-lts.Need-collect-terms-requires (claims t) (collect-terms-at t) collect-terms.Post
 collect-terms-collect-terms-requires t c κs =
     let at-marks = c .before in
     let at-spot = at-marks .before in
@@ -169,7 +184,8 @@ collect-terms-collect-terms-requires t c κs =
     let at-span = at-kind .before .before .before .before in
     let at-start = at-span .before .before .before .before .before in
     let at = at-start .pre .1 .0 in
-    let down = down-left at (sym (at-kind .kind .ensures ∙ ap kind (at-span .span-of .ensures)) ∙ at-if3 .if3 .taken) (at-left .left-side .ensures) in
+    let two = kind-read (at-span .span-of .ensures) (at-kind .kind .ensures) (at-if3 .if3 .taken) in
+    let down = down-left at two (at-left .left-side .ensures) in
     let spot = at-spot .side-spot .ensures in (
       omega (arith, down-falls at down spot, at-start .pre .0),
       (
@@ -178,7 +194,8 @@ collect-terms-collect-terms-requires t c κs =
       ),
     )
 
-collect-terms-same-length : (t : ℕ) → collect-terms-lts.Need-same-length (claims t) (collect-terms-at t) collect-terms.Post
+collect-terms-same-length :
+    (t : ℕ) → collect-terms-lts.Need-same-length (claims t) (collect-terms-at t) collect-terms.Post
 collect-terms-same-length t c =
     let at-first = c .before .before .before .before in
     at-first .collect-terms .ensures .same-length
@@ -196,33 +213,41 @@ collect-terms-returns-3 t c =
     let at-if1 = at-span .before in
     let at-start = at-if1 .before .before .before .before in
     let at = at-start .pre .1 .0 in
-    let variable = sym (spot-variable (at-start .pre .1 .0) refl) ∙ sym (at-variable .has-variable .ensures) ∙ not-false _ (at-if2 .if2 .left) in
-    sum-stop at (sym (at-kind .kind .ensures ∙ ap kind (at-span .span-of .ensures)) ∙ at-if3 .if3 .taken) (at-start .pre .1 .1 .width) (at-left .left-side .ensures) (at-spot .side-spot .ensures)
+    let two = kind-read (at-span .span-of .ensures) (at-kind .kind .ensures) (at-if3 .if3 .taken) in
+    let variable = spot-variable at (at-variable .has-variable .ensures) (not-false _ (at-if2 .if2 .left)) in
+    sum-stop at two (at-start .pre .1 .1 .width) (at-left .left-side .ensures) (at-spot .side-spot .ensures)
     (at-first .collect-terms .ensures) (ne-eqb _ 0 (at-if1 .if1 .left)) variable (not-true _ (c .if4 .taken))
 
-collect-terms-right-side-requires : (t : ℕ) → collect-terms-lts.Need-right-side-requires (claims t) (collect-terms-at t) collect-terms.Post
+collect-terms-right-side-requires :
+    (t : ℕ) → collect-terms-lts.Need-right-side-requires (claims t) (collect-terms-at t) collect-terms.Post
 collect-terms-right-side-requires t c κs =
     let at-if3 = c .before .before .before .before .before .before .before .before .before in
     let at-kind = at-if3 .before in
     let at-span = at-kind .before .before .before .before in
     let at-start = at-span .before .before .before .before .before in
     let at = at-start .pre .1 .0 in
-    (at .span .rising, at .span .inside, spot-some at, left-big at (sym (at-kind .kind .ensures ∙ ap kind (at-span .span-of .ensures)) ∙ at-if3 .if3 .taken), omega (arith, span-end (at .span)))
+    let two = kind-read (at-span .span-of .ensures) (at-kind .kind .ensures) (at-if3 .if3 .taken) in
+    (at .span .rising, at .span .inside, spot-some at, left-big at two, omega (arith, span-end (at .span)))
 
-collect-terms-side-spot-requires-2 : (t : ℕ) → collect-terms-lts.Need-side-spot-requires-2 (claims t) (collect-terms-at t) collect-terms.Post
+collect-terms-side-spot-requires-2 :
+    (t : ℕ) → collect-terms-lts.Need-side-spot-requires-2 (claims t) (collect-terms-at t) collect-terms.Post
 collect-terms-side-spot-requires-2 t c κs = tt
 
-collect-terms-side-marks-requires-2 : (t : ℕ) → collect-terms-lts.Need-side-marks-requires-2 (claims t) (collect-terms-at t) collect-terms.Post
+collect-terms-side-marks-requires-2 :
+    (t : ℕ) → collect-terms-lts.Need-side-marks-requires-2 (claims t) (collect-terms-at t) collect-terms.Post
 collect-terms-side-marks-requires-2 t c κs =
     let at-right = c .before in
     let at-if3 = at-right .before .before .before .before .before .before .before .before .before .before in
     let at-kind = at-if3 .before in
     let at-span = at-kind .before .before .before .before in
     let at-start = at-span .before .before .before .before .before in
-    let down = down-right (at-start .pre .1 .0) (sym (at-kind .kind .ensures ∙ ap kind (at-span .span-of .ensures)) ∙ at-if3 .if3 .taken) (at-right .right-side .ensures) in
+    let at = at-start .pre .1 .0 in
+    let two = kind-read (at-span .span-of .ensures) (at-kind .kind .ensures) (at-if3 .if3 .taken) in
+    let down = down-right at two (at-right .right-side .ensures) in
     (down .side .from-le, down .side .to-le)
 
-collect-terms-collect-terms-requires-2 : (t : ℕ) → collect-terms-lts.Need-collect-terms-requires-2 (claims t) (collect-terms-at t) collect-terms.Post
+collect-terms-collect-terms-requires-2 :
+    (t : ℕ) → collect-terms-lts.Need-collect-terms-requires-2 (claims t) (collect-terms-at t) collect-terms.Post
 collect-terms-collect-terms-requires-2 t c κs =
     let at-marks = c .before in
     let at-spot2 = at-marks .before in
@@ -236,7 +261,7 @@ collect-terms-collect-terms-requires-2 t c κs =
     let at-span = at-kind .before .before .before .before in
     let at-start = at-span .before .before .before .before .before in
     let at = at-start .pre .1 .0 in
-    let two = sym (at-kind .kind .ensures ∙ ap kind (at-span .span-of .ensures)) ∙ at-if3 .if3 .taken in
+    let two = kind-read (at-span .span-of .ensures) (at-kind .kind .ensures) (at-if3 .if3 .taken) in
     let down = down-right at two (at-right .right-side .ensures) in
     let spot = at-spot2 .side-spot2 .ensures in (
       omega (arith, down-falls at down spot, at-start .pre .0),
@@ -248,7 +273,8 @@ collect-terms-collect-terms-requires-2 t c κs =
       ),
     )
 
-collect-terms-same-length-2 : (t : ℕ) → collect-terms-lts.Need-same-length-2 (claims t) (collect-terms-at t) collect-terms.Post
+collect-terms-same-length-2 :
+    (t : ℕ) → collect-terms-lts.Need-same-length-2 (claims t) (collect-terms-at t) collect-terms.Post
 collect-terms-same-length-2 t c =
     let at-second = c .before .before in
     let at-first = at-second .before .before .before .before .before .before .before .before .before in
@@ -270,12 +296,14 @@ collect-terms-returns-4 t c =
     let at-if1 = at-span .before in
     let at-start = at-if1 .before .before .before .before in
     let at = at-start .pre .1 .0 in
-    let variable = sym (spot-variable (at-start .pre .1 .0) refl) ∙ sym (at-variable .has-variable .ensures) ∙ not-false _ (at-if2 .if2 .left) in
-    sum-then at (sym (at-kind .kind .ensures ∙ ap kind (at-span .span-of .ensures)) ∙ at-if3 .if3 .taken) (at-start .pre .1 .1 .width) (at-left .left-side .ensures) (at-spot .side-spot .ensures)
+    let two = kind-read (at-span .span-of .ensures) (at-kind .kind .ensures) (at-if3 .if3 .taken) in
+    let variable = spot-variable at (at-variable .has-variable .ensures) (not-false _ (at-if2 .if2 .left)) in
+    sum-then at two (at-start .pre .1 .1 .width) (at-left .left-side .ensures) (at-spot .side-spot .ensures)
     (at-first .collect-terms .ensures) (at-right .right-side .ensures) (at-spot2 .side-spot2 .ensures)
     (ne-eqb _ 0 (at-if1 .if1 .left)) variable (at-second .collect-terms2 .ensures)
 
-collect-terms-way-on-requires : (t : ℕ) → collect-terms-lts.Need-way-on-requires (claims t) (collect-terms-at t) collect-terms.Post
+collect-terms-way-on-requires :
+    (t : ℕ) → collect-terms-lts.Need-way-on-requires (claims t) (collect-terms-at t) collect-terms.Post
 collect-terms-way-on-requires t c κs =
     let at-kind = c .before in
     let at-if2 = at-kind .before in
@@ -283,21 +311,26 @@ collect-terms-way-on-requires t c κs =
     let at-span = at-variable .before .before in
     let at-if1 = at-span .before in
     let at-start = at-if1 .before .before .before .before in
-    let variable = sym (spot-variable (at-start .pre .1 .0) refl) ∙ sym (at-variable .has-variable .ensures) ∙ not-false _ (at-if2 .if2 .left) in
+    let at = at-start .pre .1 .0 in
+    let variable = spot-variable at (at-variable .has-variable .ensures) (not-false _ (at-if2 .if2 .left)) in
     let kinds = at-kind .kind .ensures ∙ ap kind (at-span .span-of .ensures) in
-    (at-start .pre .1 .0, at-start .pre .1 .1 .width, ne-eqb _ 0 (at-if1 .if1 .left), variable, ne-eqb _ 2 (λ e. c .if3 .left (kinds ∙ e)))
+    let some = ne-eqb _ 0 (at-if1 .if1 .left) in
+    (at, at-start .pre .1 .1 .width, some, variable, ne-eqb _ 2 (λ e. c .if3 .left (kinds ∙ e)))
 
-collect-terms-collect-whole-requires : (t : ℕ) → collect-terms-lts.Need-collect-whole-requires (claims t) (collect-terms-at t) collect-terms.Post
+collect-terms-collect-whole-requires :
+    (t : ℕ) → collect-terms-lts.Need-collect-whole-requires (claims t) (collect-terms-at t) collect-terms.Post
 collect-terms-collect-whole-requires t c κs =
     let at-if2 = c .before .before .before .before .before .before in
     let at-variable = at-if2 .before in
     let at-if1 = at-variable .before .before .before in
     let at-start = at-if1 .before .before .before .before in
     let at = at-start .pre .1 .0 in
-    let variable = sym (spot-variable (at-start .pre .1 .0) refl) ∙ sym (at-variable .has-variable .ensures) ∙ not-false _ (at-if2 .if2 .left) in
-    (at, ready-less 1 (omega (arith, spot-some at, spot-marks at)) (at-start .pre .1 .1), ne-eqb _ 0 (at-if1 .if1 .left), variable)
+    let variable = spot-variable at (at-variable .has-variable .ensures) (not-false _ (at-if2 .if2 .left)) in
+    let ready = ready-less 1 (omega (arith, spot-some at, spot-marks at)) (at-start .pre .1 .1) in
+    (at, ready, ne-eqb _ 0 (at-if1 .if1 .left), variable)
 
-collect-terms-same-length-3 : (t : ℕ) → collect-terms-lts.Need-same-length-3 (claims t) (collect-terms-at t) collect-terms.Post
+collect-terms-same-length-3 :
+    (t : ℕ) → collect-terms-lts.Need-same-length-3 (claims t) (collect-terms-at t) collect-terms.Post
 collect-terms-same-length-3 t c =
     let at-whole = c .before .before in
     at-whole .collect-whole .ensures .same-length
@@ -308,12 +341,15 @@ collect-terms-returns-5 t c =
     let at-if5 = at-whole .before .before in
     let at-way = at-if5 .before .before in
     let at-start = at-way .before .before .before .before .before .before .before .before .before .before .before in
-    way-ends (at-start .pre .1 .0) (at-way .way-on .ensures) (not-true _ (at-if5 .if5 .taken)) (at-whole .collect-whole .ensures)
+    let at = at-start .pre .1 .0 in
+    way-ends at (at-way .way-on .ensures) (not-true _ (at-if5 .if5 .taken)) (at-whole .collect-whole .ensures)
 
-collect-terms-side-spot-requires-3 : (t : ℕ) → collect-terms-lts.Need-side-spot-requires-3 (claims t) (collect-terms-at t) collect-terms.Post
+collect-terms-side-spot-requires-3 :
+    (t : ℕ) → collect-terms-lts.Need-side-spot-requires-3 (claims t) (collect-terms-at t) collect-terms.Post
 collect-terms-side-spot-requires-3 t c κs = tt
 
-collect-terms-side-marks-requires-3 : (t : ℕ) → collect-terms-lts.Need-side-marks-requires-3 (claims t) (collect-terms-at t) collect-terms.Post
+collect-terms-side-marks-requires-3 :
+    (t : ℕ) → collect-terms-lts.Need-side-marks-requires-3 (claims t) (collect-terms-at t) collect-terms.Post
 collect-terms-side-marks-requires-3 t c κs =
     let at-if5 = c .before .before in
     let at-way = at-if5 .before .before in
@@ -321,7 +357,8 @@ collect-terms-side-marks-requires-3 t c κs =
     let down = down-way (at-start .pre .1 .0) (at-way .way-on .ensures) (not-false _ (at-if5 .if5 .left)) in
     (down .side .from-le, down .side .to-le)
 
-collect-terms-collect-terms-requires-3 : (t : ℕ) → collect-terms-lts.Need-collect-terms-requires-3 (claims t) (collect-terms-at t) collect-terms.Post
+collect-terms-collect-terms-requires-3 :
+    (t : ℕ) → collect-terms-lts.Need-collect-terms-requires-3 (claims t) (collect-terms-at t) collect-terms.Post
 collect-terms-collect-terms-requires-3 t c κs =
     let at-marks = c .before in
     let at-spot = at-marks .before in
@@ -338,7 +375,8 @@ collect-terms-collect-terms-requires-3 t c κs =
       ),
     )
 
-collect-terms-same-length-4 : (t : ℕ) → collect-terms-lts.Need-same-length-4 (claims t) (collect-terms-at t) collect-terms.Post
+collect-terms-same-length-4 :
+    (t : ℕ) → collect-terms-lts.Need-same-length-4 (claims t) (collect-terms-at t) collect-terms.Post
 collect-terms-same-length-4 t c =
     let at-under = c .before .before .before .before in
     at-under .collect-terms3 .ensures .same-length
@@ -350,10 +388,13 @@ collect-terms-returns-6 t c =
     let at-if5 = at-spot .before .before in
     let at-way = at-if5 .before .before in
     let at-start = at-way .before .before .before .before .before .before .before .before .before .before .before in
-    way-goes (at-start .pre .1 .0) (at-way .way-on .ensures) (not-false _ (at-if5 .if5 .left)) (at-start .pre .1 .1 .width)
+    let at = at-start .pre .1 .0 in
+    let found = not-false _ (at-if5 .if5 .left) in
+    way-goes at (at-way .way-on .ensures) found (at-start .pre .1 .1 .width)
     (at-spot .side-spot3 .ensures) (at-under .collect-terms3 .ensures) (not-true _ (c .if6 .taken))
 
-collect-terms-same-length-5 : (t : ℕ) → collect-terms-lts.Need-same-length-5 (claims t) (collect-terms-at t) collect-terms.Post
+collect-terms-same-length-5 :
+    (t : ℕ) → collect-terms-lts.Need-same-length-5 (claims t) (collect-terms-at t) collect-terms.Post
 collect-terms-same-length-5 t c =
     let at-under = c .before .before .before .before .before .before in
     at-under .collect-terms3 .ensures .same-length
@@ -366,11 +407,14 @@ collect-terms-returns-7 t c =
     let at-if5 = at-spot .before .before in
     let at-way = at-if5 .before .before in
     let at-start = at-way .before .before .before .before .before .before .before .before .before .before .before in
-    way-masked-stop (at-start .pre .1 .0) (at-way .way-on .ensures) (not-false _ (at-if5 .if5 .left)) (at-start .pre .1 .1 .width)
+    let at = at-start .pre .1 .0 in
+    let found = not-false _ (at-if5 .if5 .left) in
+    way-masked-stop at (at-way .way-on .ensures) found (at-start .pre .1 .1 .width)
     (at-spot .side-spot3 .ensures) (at-under .collect-terms3 .ensures)
     (not-false _ (at-if6 .if6 .left)) (not-true _ (c .if7 .taken))
 
-collect-terms-collect-masked-requires : (t : ℕ) → collect-terms-lts.Need-collect-masked-requires (claims t) (collect-terms-at t) collect-terms.Post
+collect-terms-collect-masked-requires :
+    (t : ℕ) → collect-terms-lts.Need-collect-masked-requires (claims t) (collect-terms-at t) collect-terms.Post
 collect-terms-collect-masked-requires t c κs =
     let at-if7 = c .before in
     let at-if6 = at-if7 .before .before in
@@ -379,18 +423,21 @@ collect-terms-collect-masked-requires t c κs =
     let at-if5 = at-spot .before .before in
     let at-way = at-if5 .before .before in
     let at-start = at-way .before .before .before .before .before .before .before .before .before .before .before in
+    let at = at-start .pre .1 .0 in
+    let found = not-false _ (at-if5 .if5 .left) in
     let masked = not-false _ (at-if6 .if6 .left) in
-    let literal = way-literal (at-start .pre .1 .0) (at-way .way-on .ensures) (not-false _ (at-if5 .if5 .left)) (at-start .pre .1 .1 .width)
+    let literal = way-literal at (at-way .way-on .ensures) found (at-start .pre .1 .1 .width)
     (at-spot .side-spot3 .ensures) (at-under .collect-terms3 .ensures) masked in (
       literal .side,
-      ready-masked (at-start .pre .1 .0) (at-way .way-on .ensures) (not-false _ (at-if5 .if5 .left)) (at-start .pre .1 .1 .width)
+      ready-masked at (at-way .way-on .ensures) found (at-start .pre .1 .1 .width)
           (at-spot .side-spot3 .ensures) (at-under .collect-terms3 .ensures) masked
           (at-start .pre .1 .1) (not-false _ (at-if7 .if7 .left)),
       literal .value-lt,
       literal .variable,
     )
 
-collect-terms-same-length-6 : (t : ℕ) → collect-terms-lts.Need-same-length-6 (claims t) (collect-terms-at t) collect-terms.Post
+collect-terms-same-length-6 :
+    (t : ℕ) → collect-terms-lts.Need-same-length-6 (claims t) (collect-terms-at t) collect-terms.Post
 collect-terms-same-length-6 t c =
     let at-masked = c .before .before in
     let at-under = at-masked .before .before .before .before .before .before .before .before in
@@ -407,8 +454,10 @@ collect-terms-returns-8 t c =
     let at-kind = at-way .before .before in
     let at-span = at-kind .before .before .before .before in
     let at-start = at-span .before .before .before .before .before in
+    let at = at-start .pre .1 .0 in
+    let found = not-false _ (at-if5 .if5 .left) in
     let kinds = at-kind .kind .ensures ∙ ap kind (at-span .span-of .ensures) in
-    way-masked-then (at-start .pre .1 .0) (at-way .way-on .ensures) (not-false _ (at-if5 .if5 .left)) (at-start .pre .1 .1 .width)
+    way-masked-then at (at-way .way-on .ensures) found (at-start .pre .1 .1 .width)
     (at-spot .side-spot3 .ensures) (at-under .collect-terms3 .ensures)
     (not-false _ (at-if6 .if6 .left)) (rw kinds at (at-masked .collect-masked .ensures))
 

@@ -6,7 +6,8 @@ use Rattle.record.specs.Tree.{Tree}
 use Rattle.record.specs.Fields.{kind}
 use Rattle.expr.proofs.RefusalLaws.{accepted-big}
 use Rattle.semilinear_normalizer.specs.Collect.{collectAtom, collectNot}
-use Rattle.semilinear_normalizer.proofs.InnerLaws.{span-big, not-inner, not-root, not-operand, other-root}
+use Rattle.semilinear_normalizer.proofs.SpanOfLaws.{span-end, kind-read}
+use Rattle.semilinear_normalizer.proofs.InnerLaws.{not-inner, not-root, not-operand, other-root}
 use Rattle.semilinear_normalizer.proofs.AndSideLaws.{and-variable, side-at, side-value-lt, and-no-side}
 use Rattle.semilinear_normalizer.proofs.AndSideLaws.{and-plain-side, and-not-side, and-binary}
 use Rattle.semilinear_normalizer.proofs.PushLaws.{atom-push, not-push}
@@ -67,7 +68,7 @@ returns-2 c =
     let kinds = at-kind .kind .ensures ∙ ap kind (at-kind .before .span-of .ensures) in
     collects-as
     (and-plain-side _ _ _ _ _ _ _ (at-start .pre .2) of found
-    (other-root _ _ _ _ (side-at _ _ _ _ _ _ of found .span) (λ e. at-if .if2 .taken (kinds ∙ e)))
+    (other-root (side-at _ _ _ _ _ _ of found .span) (λ e. at-if .if2 .taken (kinds ∙ e)))
     ∙ ap (collectAtom (at-start .args .x .coeff)) (sym (at-start .pre .4)))
     (atom-push _ _ _ _ _ _ (at-start .pre .1) _ _ _ (at-start .pre .0 .span) (at-push .push-spot2 .ensures))
 
@@ -75,7 +76,7 @@ sub-collect-not : tie.Need-sub-collect-not
 sub-collect-not c =
     let at-if = c .before .before .before in
     let of = at-if .before .before .side-of .ensures in
-    omega (arith, span-big _ _ _ _ (side-at _ _ _ _ _ _ of (not-false _ (at-if .if1 .left)) .span))
+    omega (arith, span-end (side-at _ _ _ _ _ _ of (not-false _ (at-if .if1 .left)) .span))
 
 collect-not-requires : tie.Need-collect-not-requires
 collect-not-requires c κs = search needs
@@ -93,14 +94,14 @@ returns-3 c =
     let found = not-false _ (at-kind .before .before .if1 .left) in
     let of = at-side .side-of .ensures in
     let span = side-at _ _ _ _ _ _ of found .span in
-    let seven = sym (at-kind .kind .ensures ∙ ap kind (at-kind .before .span-of .ensures)) ∙ at-if .if2 .left in
+    let seven = kind-read (at-kind .before .span-of .ensures) (at-kind .kind .ensures) (at-if .if2 .left) in
     collects-as
-    (and-not-side _ _ _ _ _ _ _ (at-start .pre .2) of found (not-root _ _ _ _ span seven)
+    (and-not-side _ _ _ _ _ _ _ (at-start .pre .2) of found (not-root span seven)
     (and-variable _ (at-start .pre .4) (at-start .pre .3))
     ∙ ap
     (λ (t : Tree). collectNot (at-start .args .w) (at-start .args .x .coeff) t (at-side .side-of .result .value))
-    (not-operand _ _ _ _ span seven))
-    (not-push _ _ _ _ _ _ (at-start .pre .1) _ _ _ (not-inner _ _ _ _ span seven) _ (side-value-lt _ _ _ _ _ _ of found)
+    (not-operand span seven))
+    (not-push _ _ _ _ _ _ (at-start .pre .1) _ _ _ (not-inner span seven) _ (side-value-lt _ _ _ _ _ _ of found)
     (at-not .collect-not .ensures))
 
 pub collect-and-spec : {M : Type 1} → statement M

@@ -4,7 +4,7 @@ use native.Mathlib.Omega.{arith}
 use borrow.Author.Tests.{ne-eqb}
 use Rattle.expr.proofs.RefusalLaws.{accepted-big}
 use Rattle.semilinear_normalizer.specs.Spots.{spanOf}
-use Rattle.semilinear_normalizer.proofs.InnerLaws.{span-big}
+use Rattle.semilinear_normalizer.proofs.SpanOfLaws.{span-end}
 use Rattle.semilinear_normalizer.proofs.PushLaws.{literal-and-zero, literal-and-plain, literal-and-not}
 use borrow.Author.Needs.{needs}
 use Rattle.semilinear_normalizer.proofs.collect.Descent.collect_literal_and.Statement.{
@@ -51,7 +51,7 @@ returns-2 c =
 sub-collect-not : tie.Need-sub-collect-not
 sub-collect-not c =
     let at-start = c .before .before .before .before .before .before in
-    omega (arith, span-big _ _ _ _ (at-start .pre .0))
+    omega (arith, span-end (at-start .pre .0))
 
 collect-not-requires : tie.Need-collect-not-requires
 collect-not-requires c κs = search needs

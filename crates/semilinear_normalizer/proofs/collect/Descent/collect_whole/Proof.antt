@@ -1,10 +1,10 @@
 -- `collect_whole` meets its contract: by the root's mark and kind.
-use mathlib.Core.Path.{ap, sym, _∙_}
+use mathlib.Core.Path.{sym, _∙_}
 use native.Mathlib.Omega.{arith}
 use Rattle.expr.proofs.RefusalLaws.{accepted-big}
 use Rattle.semilinear_normalizer.specs.Spots.{spanOf}
-use Rattle.semilinear_normalizer.proofs.WholeLaws.{marks-pos, last-arith, whole-nonlinear, whole-and, whole-atom}
-use Rattle.semilinear_normalizer.proofs.WholeLaws.{is-and, other-kind}
+use Rattle.semilinear_normalizer.proofs.SideLaws.{spot-some, spot-arith}
+use Rattle.semilinear_normalizer.proofs.WholeLaws.{whole-nonlinear, whole-and, whole-atom, is-and, other-kind}
 use Rattle.semilinear_normalizer.proofs.PushLaws.{atom-push}
 use Rattle.semilinear_normalizer.proofs.CollectsLaws.{collects-as, collects-nonlinear}
 use borrow.Author.Needs.{needs}
@@ -29,12 +29,12 @@ kind-requires c κs =
 sub-last : tie.Need-sub-last
 sub-last c =
     let at-start = c .before .before .before .before .before in
-    marks-pos _ _ (at-start .pre .0 .marks-are)
+    spot-some (at-start .pre .0)
 
 shared-slice-read-has-arith : tie.Need-shared-slice-read-has-arith
 shared-slice-read-has-arith c =
     let at-start = c .before .before .before .before .before .before in
-    omega (arith, marks-pos _ _ (at-start .pre .0 .marks-are))
+    omega (arith, spot-some (at-start .pre .0))
 
 has-arith-requires : tie.Need-has-arith-requires
 has-arith-requires c κs = search needs
@@ -47,8 +47,7 @@ returns c =
     let at-arith = c .before .before in
     let at-start = at-arith .before .before .before .before .before .before .before in
     collects-as
-    (whole-nonlinear _ _ _
-    (sym (last-arith _ _ (at-start .pre .0 .marks-are)) ∙ sym (at-arith .has-arith .ensures) ∙ c .before .if1 .taken))
+    (whole-nonlinear _ _ _ (spot-arith (at-start .pre .0) (at-arith .has-arith .ensures) (c .before .if1 .taken)))
     (collects-nonlinear _ _ _ _ _ (at-start .pre .1) _ (c .not-linear .ensures))
 
 collect-and-requires : tie.Need-collect-and-requires
@@ -71,13 +70,14 @@ returns-2 : tie.Need-returns-2
 unfolding spanOf
 returns-2 c =
     let at-and = c .before .before in
-    let at-arith = at-and .before .before .before .before in
+    let at-if2 = at-and .before .before in
+    let at-if1 = at-if2 .before in
+    let at-arith = at-if1 .before in
     let at-kind = at-arith .before .before in
     let at-start = at-kind .before .before .before .before .before in
-    let plain = sym (last-arith _ _ (at-start .pre .0 .marks-are)) ∙ sym (at-arith .has-arith .ensures) ∙ at-and .before .before .before .if1 .left in
     collects-as
-    (whole-and _ _ _ plain
-    (is-and _ (accepted-big _ _ (at-start .pre .0 .span .tree)) (sym (at-kind .kind .ensures) ∙ at-and .before .before .if2 .taken)))
+    (whole-and _ _ _ (spot-arith (at-start .pre .0) (at-arith .has-arith .ensures) (at-if1 .if1 .left))
+    (is-and _ (accepted-big _ _ (at-start .pre .0 .span .tree)) (sym (at-kind .kind .ensures) ∙ at-if2 .if2 .taken)))
     (at-and .collect-and .ensures)
 
 push-spot-requires : tie.Need-push-spot-requires
@@ -90,13 +90,15 @@ returns-3 : tie.Need-returns-3
 unfolding spanOf
 returns-3 c =
     let at-push = c .before .before in
-    let at-arith = at-push .before .before .before .before in
+    let at-if2 = at-push .before .before in
+    let at-if1 = at-if2 .before in
+    let at-arith = at-if1 .before in
     let at-kind = at-arith .before .before in
     let at-start = at-kind .before .before .before .before .before in
-    let plain = sym (last-arith _ _ (at-start .pre .0 .marks-are)) ∙ sym (at-arith .has-arith .ensures) ∙ at-push .before .before .before .if1 .left in
     collects-as
-    (whole-atom _ _ _ plain
-    (other-kind _ (accepted-big _ _ (at-start .pre .0 .span .tree)) (λ e. at-push .before .before .if2 .left (at-kind .kind .ensures ∙ e))))
+    (whole-atom _ _ _ (spot-arith (at-start .pre .0) (at-arith .has-arith .ensures) (at-if1 .if1 .left))
+    (other-kind _ (accepted-big _ _ (at-start .pre .0 .span .tree))
+    (λ e. at-if2 .if2 .left (at-kind .kind .ensures ∙ e))))
     (atom-push _ _ _ _ _ _ (at-start .pre .1) _ _ _ (at-start .pre .0 .span) (at-push .push-spot .ensures))
 
 pub collect-whole-spec : {M : Type 1} → statement M
