@@ -7,8 +7,10 @@
 #                            compare the static library with the models and the published Rust, or
 #                            normalising alone
 #   run.sh stack             measure the stack and the time of the functions that walk trees
-# compare and stack build target/staticlib/libhogzelt.a with rt. Where HOGZELT_LIB names an archive
-# libhogzelt.a, that one is taken and nothing is built.
+#   run.sh bench [DOC]       time the library beside the published Rust and print one table; with DOC,
+#                            put what is printed between the marks of that document
+# compare, stack and bench build target/staticlib/libhogzelt.a with rt. Where HOGZELT_LIB names an
+# archive libhogzelt.a, that one is taken and nothing is built.
 # Status: 0 done, 1 a difference or a failure, 2 something that the harness needs is missing.
 set -u
 
@@ -25,8 +27,9 @@ case "$command" in
 vectors) [ $# -eq 2 ] || stop "usage: run.sh vectors OUT" ;;
 dump) [ $# -eq 2 ] || [ $# -eq 3 ] || stop "usage: run.sh dump FILE [N]" ;;
 compare) [ $# -eq 1 ] || [ "$*" = "compare normalize" ] || stop "usage: run.sh compare [normalize]" ;;
+bench) [ $# -eq 1 ] || [ $# -eq 2 ] || stop "usage: run.sh bench [DOC]" ;;
 test | stack) [ $# -eq 1 ] || stop "usage: run.sh $command" ;;
-*) stop "usage: run.sh vectors OUT | dump FILE [N] | test | compare [normalize] | stack" ;;
+*) stop "usage: run.sh vectors OUT | dump FILE [N] | test | compare [normalize] | stack | bench [DOC]" ;;
 esac
 
 command -v cargo >/dev/null 2>&1 || stop "cargo is missing"
@@ -40,8 +43,10 @@ export COBRA_SRC
 
 features=()
 case "$command" in
-compare | stack)
+compare | stack | bench)
+    BENCH_BUILT=0
     if [ -z "${HOGZELT_LIB:-}" ]; then
+        BENCH_BUILT=1
         command -v rt >/dev/null 2>&1 || stop "rt is missing, and HOGZELT_LIB is not set"
         (cd "$root" && rt staticlib hogzelt) || exit 1
         HOGZELT_LIB=$root/target/staticlib/libhogzelt.a
@@ -59,4 +64,11 @@ if [ "$command" = test ]; then
     exit 0
 fi
 cargo build "${cargo[@]}" "${features[@]}" || exit 1
+if [ "$command" = bench ]; then
+    # what the benchmark says of itself
+    BENCH_DATE=$(date -u +%Y-%m-%d)
+    BENCH_RUSTC=$(cd "$here" && rustc --version | cut -d' ' -f1,2)
+    BENCH_MACHINE="$(nproc) $(uname -m) cores,$(sed -n 's/^model name[^:]*://p' /proc/cpuinfo | head -n 1)"
+    export BENCH_BUILT BENCH_DATE BENCH_RUSTC BENCH_MACHINE
+fi
 exec "$here/target/release/harness" "$@"

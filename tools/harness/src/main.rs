@@ -6,6 +6,14 @@
 
 include!(concat!(env!("OUT_DIR"), "/published.rs"));
 
+#[cfg(feature = "library")]
+mod bench;
+#[cfg(feature = "library")]
+mod bench_inputs;
+#[cfg(feature = "library")]
+mod bench_rust;
+#[cfg(feature = "library")]
+mod bench_table;
 mod bridge;
 mod cases;
 mod collide;
@@ -62,6 +70,10 @@ fn main() -> ExitCode {
         ["compare", "normalize"] => normal_compare::run(),
         #[cfg(feature = "library")]
         ["stack"] => stack::run(),
+        #[cfg(feature = "library")]
+        ["bench"] => bench::run(None),
+        #[cfg(feature = "library")]
+        ["bench", document] => bench::run(Some(document)),
         _ => Err("no such command; run.sh lists them".to_string()),
     };
     match done {

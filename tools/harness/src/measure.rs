@@ -8,6 +8,10 @@ use std::hint::black_box;
 use std::ptr;
 use std::time::{Duration, Instant};
 
+/// How many times a set of subjects is measured, and how long each one runs at least each time.
+pub const ROUNDS: usize = 9;
+pub const BATCH: Duration = Duration::from_millis(2);
+
 const STACK_BYTES: usize = 64 << 20;
 const PATTERN: u8 = 0xA5;
 const PAGE_BYTES: usize = 4096;
@@ -85,4 +89,35 @@ pub fn time_of(mut work: impl FnMut()) -> f64 {
         calls += 16;
     }
     start.elapsed().as_nanos() as f64 / f64::from(calls)
+}
+
+/// The nanoseconds of one call of each of `N` subjects: the medians of some rounds, in each of which
+/// the subjects take turns, so that what changes on the machine changes for all.
+pub fn medians<const N: usize>(mut call: impl FnMut(usize)) -> [f64; N] {
+    let mut calls = [1u32; N];
+    for (subject, calls) in calls.iter_mut().enumerate() {
+        while batch(*calls, || call(subject)) < BATCH {
+            *calls *= 2;
+        }
+    }
+    let mut rounds = [(); ROUNDS].map(|()| {
+        let mut times = [0.0; N];
+        for (subject, time) in times.iter_mut().enumerate() {
+            let nanoseconds = batch(calls[subject], || call(subject)).as_nanos();
+            *time = nanoseconds as f64 / f64::from(calls[subject]);
+        }
+        times
+    });
+    std::array::from_fn(|subject| {
+        rounds.sort_by(|a, b| a[subject].total_cmp(&b[subject]));
+        rounds[ROUNDS / 2][subject]
+    })
+}
+
+fn batch(calls: u32, mut work: impl FnMut()) -> Duration {
+    let start = Instant::now();
+    for _ in 0..calls {
+        work();
+    }
+    start.elapsed()
 }

@@ -72,7 +72,8 @@ pub fn well_formed(records: &[Record]) -> bool {
     sizes.len() == 1
 }
 
-fn zeros_hold(record: &Record) -> bool {
+/// Bytes that must be 0 in a record of a kind up to 13 are.
+pub fn zeros_hold(record: &Record) -> bool {
     let has_arg = record.kind == VARIABLE || (SHR..=TRUNC).contains(&record.kind);
     (has_arg || record.arg == 0)
         && record.zeros == [0; 3]

@@ -14,17 +14,22 @@ pub use crate::ir::term_refiner::{can_change_coefficient_to, can_change_mask_to,
 pub fn expr(records: &[Record]) -> Arc<Expr> {
     let mut stack: Vec<Arc<Expr>> = Vec::new();
     for record in records {
-        let node = match record::arity(record.kind) {
-            0 => leaf(record),
-            1 => unary(record, stack.pop().expect("a child")),
-            _ => {
-                let right = stack.pop().expect("a right child");
-                binary(record, stack.pop().expect("a left child"), right)
-            }
-        };
-        stack.push(node);
+        push_node(&mut stack, record);
     }
     stack.pop().expect("a root")
+}
+
+/// Puts the node of a record in place of its children, which stand last on the stack.
+pub fn push_node(stack: &mut Vec<Arc<Expr>>, record: &Record) {
+    let node = match record::arity(record.kind) {
+        0 => leaf(record),
+        1 => unary(record, stack.pop().expect("a child")),
+        _ => {
+            let right = stack.pop().expect("a right child");
+            binary(record, stack.pop().expect("a left child"), right)
+        }
+    };
+    stack.push(node);
 }
 
 fn leaf(record: &Record) -> Arc<Expr> {

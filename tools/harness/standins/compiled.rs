@@ -23,7 +23,7 @@ pub fn eval(program: &Program, vars: &[u64], _stack: &mut Vec<u64>) -> u64 {
     value(&program.expr, vars, program.bitwidth)
 }
 
-fn value(expr: &Expr, vars: &[u64], w: u32) -> u64 {
+pub fn value(expr: &Expr, vars: &[u64], w: u32) -> u64 {
     let child = |i: usize| value(&expr.children[i], vars, w);
     match &expr.kind {
         Kind::Constant(v) => v & bitmask(w),
