@@ -148,9 +148,6 @@ module _ (s : List ℕ) (len : ℕ) where
   gives-tree ew el z r {e} g =
       rw el (gives-same (file-tree s 57360 z refl) 57360 r e (rw ew at g))
 
--- the sizes of an accepted file
-pub file-room : (s : List ℕ) → exprRefusal s ≡ 0 → (size s ≤ 1024) × (length s ≤ 16384)
-file-room s z =
-    let n = sized-length s (sized-accepted (width s) s (accepted-tree s z)) in
-    let m = accepted-length s z in
-    (omega arith, omega arith)
+-- the records of an accepted span
+pub size-room : (w n : ℕ) (s : List ℕ) → treeRefusal w s ≡ 0 → length s ≤ 16 * n → size s ≤ n
+size-room w n s z h = omega (arith, sized-length s (sized-accepted w s z))

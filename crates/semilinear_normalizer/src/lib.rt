@@ -57,6 +57,35 @@ pub fn normalize_tree(
     form::write_form(found, t, w, spots, tree, index, out)
 }
 
+// The same for a file of at most 64 records. A short file pays for short arrays: clearing the long
+// ones would take longer than its normalising.
+fn normalize_short(t: &[u8], w: u8, out: &mut [u8]) -> Answer
+    requires { ⌜ (treeRefusal w (now t) ≡ 0) × (length (now t) ≤ 1024)
+        × (length (now out) ≡ 57360) ⌝ }
+    ensures { λ r. ⌜ GivesForm (normalizeTree w (decode (now (t .entry)))) 57360 r
+        (now (out .exit)) ⌝ }
+{
+    let mut marks = [0u8; 64];
+    let mut spots = [0u64; 320];
+    let mut tree = [0u8; 1056];
+    let mut index = [0u64; 2816];
+    normalize_tree(t, w, &mut marks, &mut spots, &mut tree, &mut index, out)
+}
+
+// The same for a file of at most 1,024 records.
+fn normalize_long(t: &[u8], w: u8, out: &mut [u8]) -> Answer
+    requires { ⌜ (treeRefusal w (now t) ≡ 0) × (length (now t) ≤ 16384)
+        × (length (now out) ≡ 57360) ⌝ }
+    ensures { λ r. ⌜ GivesForm (normalizeTree w (decode (now (t .entry)))) 57360 r
+        (now (out .exit)) ⌝ }
+{
+    let mut marks = [0u8; 1024];
+    let mut spots = [0u64; 5120];
+    let mut tree = [0u8; 16416];
+    let mut index = [0u64; 2816];
+    normalize_tree(t, w, &mut marks, &mut spots, &mut tree, &mut index, out)
+}
+
 // The semilinear form of the expression t, written to out; or a refusal: 1 to 9. Corresponds to
 // `normalize_to_semilinear`.
 pub fn normalize_to_semilinear(t: &[u8], out: &mut [u8]) -> Answer
@@ -73,10 +102,9 @@ pub fn normalize_to_semilinear(t: &[u8], out: &mut [u8]) -> Answer
     if number != 0 {
         return outcome::refuse(out, number);
     }
-    let mut marks = [0u8; 1024];
-    let mut spots = [0u64; 5120];
-    let mut tree = [0u8; 16416];
-    let mut index = [0u64; 2816];
     let w = record::width(t);
-    normalize_tree(t, w, &mut marks, &mut spots, &mut tree, &mut index, out)
+    if t.len() <= 1024 {
+        return normalize_short(t, w, out);
+    }
+    normalize_long(t, w, out)
 }

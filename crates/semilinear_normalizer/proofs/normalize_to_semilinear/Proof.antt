@@ -1,12 +1,11 @@
 -- `normalize_to_semilinear` meets its contract: the refusals in order, then the whole tree.
 use mathlib.Core.Path.{ap, sym, _∙_}
-use native.Mathlib.Omega.{arith}
 use Rattle.expr.proofs.RefusalLaws.{accepted-big}
-use Rattle.expr.proofs.ExprValueLaws.{accepted-tree}
+use Rattle.expr.proofs.ExprValueLaws.{accepted-tree, accepted-length}
 use Rattle.semilinear.specs.Outcome.{refused}
 use Rattle.semilinear.proofs.PassLaws.{gives-same}
 use Rattle.semilinear_normalizer.proofs.NormalizeLaws.{file-one, file-two, file-refused}
-use Rattle.semilinear_normalizer.proofs.WholeTreeLaws.{gives-tree, file-room}
+use Rattle.semilinear_normalizer.proofs.WholeTreeLaws.{gives-tree}
 use borrow.Author.Needs.{needs}
 use Rattle.semilinear_normalizer.proofs.normalize_to_semilinear.Statement.{statement}
 use Rattle.semilinear_normalizer.proofs.normalize_to_semilinear.Tie as tie
@@ -64,46 +63,47 @@ width-requires c κs =
     let at-number = c .before .before .before in
     accepted-big _ _ (accepted-tree _ (sym (at-number .expr-refusal .ensures) ∙ c .if3 .left))
 
-slice-aggregate-normalize-tree : tie.Need-slice-aggregate-normalize-tree
-slice-aggregate-normalize-tree c = search needs
-
-slice-aggregate-normalize-tree-2 : tie.Need-slice-aggregate-normalize-tree-2
-slice-aggregate-normalize-tree-2 c = search needs
-
-slice-aggregate-normalize-tree-3 : tie.Need-slice-aggregate-normalize-tree-3
-slice-aggregate-normalize-tree-3 c = search needs
-
-slice-aggregate-normalize-tree-4 : tie.Need-slice-aggregate-normalize-tree-4
-slice-aggregate-normalize-tree-4 c = search needs
-
-normalize-tree-requires : tie.Need-normalize-tree-requires
-normalize-tree-requires c κs =
-    let at-width = c .before .before .before .before .before in
+normalize-short-requires : tie.Need-normalize-short-requires
+normalize-short-requires c κs =
+    let at-width = c .before .before in
     let at-if = at-width .before in
     let at-number = at-if .before .before .before in
     let zero = sym (at-number .expr-refusal .ensures) ∙ at-if .if3 .left in
-    let room = file-room _ zero in (
-      rw (at-width .width .ensures) (accepted-tree _ zero),
-      room .0,
-      omega (arith, room .0),
-      omega (arith, room .1),
-      omega (arith, room .1),
-      omega arith,
-      at-if .before .if2 .left,
-    )
+    (rw (at-width .width .ensures) (accepted-tree _ zero), c .before .if4 .taken, at-if .before .if2 .left)
 
 same-length-4 : tie.Need-same-length-4
 same-length-4 c = search needs
 
 returns-4 : tie.Need-returns-4
 returns-4 c =
-    let at-tree = c .before .before .before .before .before .before in
-    let at-width = at-tree .before .before .before .before .before .before in
+    let at-tree = c .before .before in
+    let at-width = at-tree .before .before .before in
     let at-if = at-width .before in
     let at-number = at-if .before .before .before in
     let zero = sym (at-number .expr-refusal .ensures) ∙ at-if .if3 .left in
-    gives-tree _ _ (at-width .width .ensures) (at-if .before .if2 .left) zero (at-tree .normalize-tree .result)
-    (at-tree .normalize-tree .ensures)
+    gives-tree _ _ (at-width .width .ensures) (at-if .before .if2 .left) zero (at-tree .normalize-short .result)
+    (at-tree .normalize-short .ensures)
+
+normalize-long-requires : tie.Need-normalize-long-requires
+normalize-long-requires c κs =
+    let at-width = c .before .before in
+    let at-if = at-width .before in
+    let at-number = at-if .before .before .before in
+    let zero = sym (at-number .expr-refusal .ensures) ∙ at-if .if3 .left in
+    (rw (at-width .width .ensures) (accepted-tree _ zero), accepted-length _ zero, at-if .before .if2 .left)
+
+same-length-5 : tie.Need-same-length-5
+same-length-5 c = search needs
+
+returns-5 : tie.Need-returns-5
+returns-5 c =
+    let at-tree = c .before .before in
+    let at-width = at-tree .before .before .before in
+    let at-if = at-width .before in
+    let at-number = at-if .before .before .before in
+    let zero = sym (at-number .expr-refusal .ensures) ∙ at-if .if3 .left in
+    gives-tree _ _ (at-width .width .ensures) (at-if .before .if2 .left) zero (at-tree .normalize-long .result)
+    (at-tree .normalize-long .ensures)
 
 pub normalize-to-semilinear-spec : {M : Type 1} → statement M
 normalize-to-semilinear-spec =
@@ -120,10 +120,9 @@ normalize-to-semilinear-spec =
     same-length-3
     returns-3
     width-requires
-    slice-aggregate-normalize-tree
-    slice-aggregate-normalize-tree-2
-    slice-aggregate-normalize-tree-3
-    slice-aggregate-normalize-tree-4
-    normalize-tree-requires
+    normalize-short-requires
     same-length-4
-    returns-4)
+    returns-4
+    normalize-long-requires
+    same-length-5
+    returns-5)

@@ -1,0 +1,49 @@
+-- `normalize_long` meets its contract: its arrays have room for 1,024 records.
+use native.Mathlib.Omega.{arith}
+use Rattle.semilinear_normalizer.proofs.WholeTreeLaws.{size-room}
+use borrow.Author.Needs.{needs}
+use Rattle.semilinear_normalizer.proofs.normalize_long.Statement.{statement}
+use Rattle.semilinear_normalizer.proofs.normalize_long.Tie as tie
+
+slice-aggregate-normalize-tree : tie.Need-slice-aggregate-normalize-tree
+slice-aggregate-normalize-tree c = search needs
+
+slice-aggregate-normalize-tree-2 : tie.Need-slice-aggregate-normalize-tree-2
+slice-aggregate-normalize-tree-2 c = search needs
+
+slice-aggregate-normalize-tree-3 : tie.Need-slice-aggregate-normalize-tree-3
+slice-aggregate-normalize-tree-3 c = search needs
+
+slice-aggregate-normalize-tree-4 : tie.Need-slice-aggregate-normalize-tree-4
+slice-aggregate-normalize-tree-4 c = search needs
+
+normalize-tree-requires : tie.Need-normalize-tree-requires
+normalize-tree-requires c κs =
+    let at-start = c .before .before .before .before .before .before .before in
+    let room = size-room _ 1024 _ (at-start .pre .0) (at-start .pre .1) in (
+      at-start .pre .0,
+      room,
+      omega (arith, room),
+      omega (arith, at-start .pre .1),
+      omega (arith, at-start .pre .1),
+      omega arith,
+      at-start .pre .2,
+    )
+
+same-length : tie.Need-same-length
+same-length c = search needs
+
+returns : tie.Need-returns
+returns c = search needs
+
+pub normalize-long-spec : {M : Type 1} → statement M
+normalize-long-spec =
+    tie.close
+    (tie.spec
+    slice-aggregate-normalize-tree
+    slice-aggregate-normalize-tree-2
+    slice-aggregate-normalize-tree-3
+    slice-aggregate-normalize-tree-4
+    normalize-tree-requires
+    same-length
+    returns)
