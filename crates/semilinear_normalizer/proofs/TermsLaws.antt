@@ -10,13 +10,13 @@ use borrow.Author.Tests.{eq-eqb, ne-eqb}
 use Rattle.arith.specs.Width.{modMul, modNeg}
 use Rattle.record.specs.Tree.{Tree}
 use Rattle.record.specs.Tree.Tree.{Variable, Unary, Binary, Constant}
+use Rattle.record.proofs.SizedLaws.{false-true, or-false}
 use Rattle.expr.specs.Utils.{hasKind, hasVarDep, isArith, hasArith}
 use Rattle.expr.specs.Value.{value}
 use Rattle.semilinear_normalizer.specs.Collect.{Collected, joinCollected, collectConstant, collectMasked}
 use Rattle.semilinear_normalizer.specs.Collect.{collectTerms, linear}
 use Rattle.semilinear_normalizer.specs.Spots.{collectLiteral, collectWhole}
 use Rattle.semilinear_normalizer.proofs.JoinLaws.{join-assoc}
-use Rattle.record.proofs.SizedLaws.{false-true, or-false}
 
 -- ---- what a root has from its children
 
