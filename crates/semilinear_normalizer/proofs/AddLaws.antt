@@ -24,7 +24,8 @@ use Rattle.semilinear_normalizer.proofs.SideLaws.{left-side, right-side
 use Rattle.semilinear_normalizer.proofs.SideLaws.{left-size, left-sized, split, sides-size, spot-marks}
 use Rattle.semilinear_normalizer.proofs.CollectsLaws.{collects-as, collects-more, collects-then, collects-stop}
 use Rattle.semilinear_normalizer.proofs.CollectsLaws.{ready-after, ready-less}
-use Rattle.semilinear_normalizer.proofs.DescentLaws.{Down, terms-add}
+use Rattle.semilinear_normalizer.proofs.TermsLaws.{terms-add}
+use Rattle.semilinear_normalizer.proofs.DescentLaws.{Down}
 
 module _ {w : ℕ} {file marks : List ℕ} {x : Spot} (at : AtSpot w file marks x)
     (hk : kind (spanOf file (x .start) (x .end)) ≡ 2) where

@@ -28,12 +28,11 @@ use Rattle.semilinear.proofs.HoldsLaws.{holds-accepted, holds-bare}
 use Rattle.semilinear_normalizer.specs.Register.{detectProvenance, addRow}
 use Rattle.semilinear_normalizer.specs.Spots.{spanOf}
 use Rattle.semilinear_normalizer.specs.Key.{keyOf}
-use Rattle.semilinear_normalizer.specs.Index.{entryWords, rowAt, rowsIn, EntryOk, Indexed, Registers, emitted}
-use Rattle.semilinear_normalizer.specs.Index.{rowOf}
+use Rattle.semilinear_normalizer.specs.Index.{rowAt, rowsIn, EntryOk, Indexed, Registers, emitted, rowOf}
 use Rattle.semilinear_normalizer.proofs.KeyLaws.{length-key}
 use Rattle.semilinear_normalizer.proofs.IndexLaws.{length-rows-in, rows-in-more, rows-in-same, rows-in-add}
 use Rattle.semilinear_normalizer.proofs.IndexLaws.{entry-kept, entry-later, entry-set-kept}
-use Rattle.semilinear_normalizer.proofs.EntryLaws.{take-entry, entry-row, entry-ok}
+use Rattle.semilinear_normalizer.proofs.EntryLaws.{entryWords, take-entry, entry-row, entry-ok}
 use Rattle.semilinear_normalizer.proofs.RegisteredLaws.{bare-add-row}
 use Rattle.semilinear_normalizer.proofs.PutSpanLaws.{take-put-front, span-put-piece}
 

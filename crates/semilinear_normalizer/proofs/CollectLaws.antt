@@ -36,7 +36,7 @@ unfoldable pub sumEmitted : ℕ → List ℕ → List Emitted → ℕ
 sumEmitted w vars [] = 0
 sumEmitted w vars (e ∷ l) = e .coeff * value w vars (e .tree) + sumEmitted w vars l
 
-pub sum-emitted-append : (w : ℕ) (vars : List ℕ) (l m : List Emitted)
+sum-emitted-append : (w : ℕ) (vars : List ℕ) (l m : List Emitted)
     → sumEmitted w vars (l ++ m) ≡ sumEmitted w vars l + sumEmitted w vars m
 unfolding sumEmitted
 sum-emitted-append w vars [] m = omega arith
@@ -121,7 +121,7 @@ module _ (w : ℕ) (vars : List ℕ) (hw : w ≤ 64) where
   unfolding value binary
   atom-and c l r = has-atom c (Binary 4 l r)
 
-  pub has-and : (c : ℕ) (l r : Tree) → c < 2 ^ 64 → HasValue (collectAnd w c l r) (c * bitAnd (v l) (v r))
+  has-and : (c : ℕ) (l r : Tree) → c < 2 ^ 64 → HasValue (collectAnd w c l r) (c * bitAnd (v l) (v r))
   unfolding collectAnd
   has-and c l r hc =
       none-when c (bitAnd (v l) (v r)) _

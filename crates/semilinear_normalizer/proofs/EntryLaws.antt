@@ -3,7 +3,7 @@
 use mathlib.Core.Path.{_≡_, refl, ap, ap₂, _∙_}
 use Prim.Native.Nat.{ℕ, _+_, _*_, _≤_, _<_}
 use native.Mathlib.Omega.{arith}
-use mathlib.Core.List.{List}
+use mathlib.Core.List.{List, _∷_}
 use lib.ListN.{length, getD, take}
 use lib.Seq.{take-all}
 use Rattle.record.specs.Put.{put}
@@ -14,8 +14,12 @@ use Rattle.expr.specs.Hash.{structuralHash}
 use Rattle.semilinear_normalizer.specs.Register.{detectProvenance}
 use Rattle.semilinear_normalizer.specs.Spots.{spanOf}
 use Rattle.semilinear_normalizer.specs.Key.{keyOf}
-use Rattle.semilinear_normalizer.specs.Index.{entryWords, entrySpan, rowAt, EntryOk}
+use Rattle.semilinear_normalizer.specs.Index.{entrySpan, rowAt, EntryOk}
 use Rattle.semilinear_normalizer.proofs.PutSpanLaws.{take-put-front, span-put-piece}
+
+-- the words of an atom
+unfoldable pub entryWords : ℕ → ℕ → ℕ → ℕ → List ℕ → List ℕ
+entryWords c hash start end key = c ∷ hash ∷ start ∷ end ∷ key
 
 module _ (index : List ℕ) (n c hash start end : ℕ) (key : List ℕ) (seven : length key ≡ 7)
     (room : 11 * n + 11 ≤ length index) where

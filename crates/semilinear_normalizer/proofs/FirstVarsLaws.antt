@@ -111,12 +111,12 @@ module _ (t : Tree) where
   place-first n = place-first-from n 0 ∙ ap (λ (l : List ℕ). min n (length l)) (sym (support-from-zero t))
 
   -- the words before it are the variables
-  pub vars-first : (n : ℕ) → length (support t) ≤ n
+  vars-first : (n : ℕ) → length (support t) ≤ n
       → take (placeOf noVar (firstVars n 0 t)) (firstVars n 0 t) ≡ support t
   vars-first n h = vars-first-from n 0 (rw (support-from-zero t) at h) ∙ sym (support-from-zero t)
 
   -- and the low rows over all the words are those over the variables
-  pub row-bits-first : (n i v : ℕ) → length (support t) ≤ n → i < 2 ^ length (support t)
+  row-bits-first : (n i v : ℕ) → length (support t) ≤ n → i < 2 ^ length (support t)
       → rowBits 0 (firstVars n 0 t) i v ≡ rowBits 0 (support t) i v
   row-bits-first n i v = rw (support-from-zero t) (λ h l. row-bits-first-from n 0 0 i v h (rw zero-add l))
 

@@ -59,7 +59,7 @@ module _ (index out index' out' : List ℕ) where
       ap₂ _∷_ (same a (omega arith) (omega arith))
       (rows-from-ext n (a + 1) (λ j h k. same j (omega arith) (omega arith)))
 
-  pub rows-in-ext : (n : ℕ) → ((j : ℕ) → j < n → rowAt index' out' j ≡ rowAt index out j)
+  rows-in-ext : (n : ℕ) → ((j : ℕ) → j < n → rowAt index' out' j ≡ rowAt index out j)
       → rowsIn index' out' n ≡ rowsIn index out n
   rows-in-ext n same =
       rows-from index' out' n
@@ -77,7 +77,7 @@ pub record SameEntry (index out index' out' : List ℕ) (j : ℕ) : Type 0 where
   pub key : spanOf index' (11 * j + 4) (11 * j + 11) ≡ spanOf index (11 * j + 4) (11 * j + 11)
 
 module _ (index out index' out' : List ℕ) (j : ℕ) (same : SameEntry index out index' out' j) where
-  pub same-entry-ok : (w top : ℕ) → EntryOk w index out top j → EntryOk w index' out' top j
+  same-entry-ok : (w top : ℕ) → EntryOk w index out top j → EntryOk w index' out' top j
   same-entry-ok w top ok =
       record {
         rising = rw (same .start, same .end) (ok .rising);

@@ -8,7 +8,7 @@ use Rattle.arith.specs.Width.{wordBits, modAdd}
 use Rattle.arith.proofs.WidthLaws.{mod-add}
 use Rattle.semilinear_normalizer.specs.Collect.{Emitted, Collected, nonlinear, linear, joinCollected}
 
-pub mod-add-assoc : (a b c w : ℕ) → modAdd (modAdd a b w) c w ≡ modAdd a (modAdd b c w) w
+mod-add-assoc : (a b c w : ℕ) → modAdd (modAdd a b w) c w ≡ modAdd a (modAdd b c w) w
 unfolding modAdd
 mod-add-assoc a b c w =
     let m : ℕ = 2 ^ wordBits w in

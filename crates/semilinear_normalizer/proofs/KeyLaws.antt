@@ -27,11 +27,11 @@ use Rattle.semilinear_normalizer.proofs.FirstVarsLaws.{place-first, tab
 
 -- ---- a key, word by word
 
-pub key-none : (t : Tree) → isPure t ≡ false → notPure ∷ replicate 6 0 ≡ keyOf t
+key-none : (t : Tree) → isPure t ≡ false → notPure ∷ replicate 6 0 ≡ keyOf t
 unfolding keyOf
 key-none t e = simp e
 
-pub key-some : (t : Tree) → isPure t ≡ true → table 0 (support t) (length (support t)) t ∷ firstVars 6 0 t ≡ keyOf t
+key-some : (t : Tree) → isPure t ≡ true → table 0 (support t) (length (support t)) t ∷ firstVars 6 0 t ≡ keyOf t
 unfolding keyOf
 key-some t e = simp e
 
@@ -46,7 +46,7 @@ length-key t = go (isPure t)
     go false = refl
 
 -- the low 2 ^ n rows of a word
-pub mask-rows : (x n : ℕ) → n ≤ 6 → bitAnd x (bitmask (1 * 2 ^ n % 2 ^ 32)) ≡ x % 2 ^ (2 ^ n)
+mask-rows : (x n : ℕ) → n ≤ 6 → bitAnd x (bitmask (1 * 2 ^ n % 2 ^ 32)) ≡ x % 2 ^ (2 ^ n)
 unfolding bitmask
 mask-rows x n h =
     let few : 2 ^ n ≤ 2 ^ 6 = pow-mono h in

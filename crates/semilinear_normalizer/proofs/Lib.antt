@@ -1,33 +1,35 @@
--- The laws of the definitions, for the crates above.
-mod LeafLaws
+-- The laws of the definitions; those that other crates use are public.
 mod PartLaws
-pub mod RootLaws
-pub mod JoinLaws
-pub mod CollectLaws
-pub mod EmittedLaws
+mod LeafLaws
+mod JoinLaws
+mod RootLaws
+mod CollectLaws
+mod EmittedLaws
 pub mod BitOfLaws
 pub mod TruthLaws
-pub mod RowsLaws
-pub mod FirstVarsLaws
-pub mod WordTableLaws
-pub mod KeyLaws
-pub mod RegisterLaws
+mod RowsLaws
+mod FirstVarsLaws
+mod WordTableLaws
+mod KeyLaws
+mod RegisterLaws
 pub mod NormalizeLaws
-pub mod RefusedLaws
+mod RefusedLaws
 pub mod UsedLaws
 mod ExampleLaws
+-- The laws that the proofs of the code cite: the marks, the sides of a root, the descent, the index, registering, the
+-- form.
 mod MarksLaws
-mod SpanOfLaws
 mod MarkedLaws
+mod SpanOfLaws
 mod SideLaws
 mod TermsLaws
 mod WayLaws
 mod SpotsLaws
 mod CollectsLaws
 mod AndLaws
+mod AndSideLaws
 mod InnerLaws
 mod PushLaws
-mod AndSideLaws
 mod WholeLaws
 mod DescentLaws
 mod AddLaws

@@ -25,7 +25,7 @@ drop-take (suc s) m (suc k) [] e = sym (take-nil m)
 drop-take (suc s) m (suc k) (x ∷ l) e = drop-take s m k l (omega arith)
 
 -- a part that starts and ends before n is one of the first n elements
-pub span-take : (l : List ℕ) (s e n : ℕ) → s ≤ e → e ≤ n → spanOf (take n l) s e ≡ spanOf l s e
+span-take : (l : List ℕ) (s e n : ℕ) → s ≤ e → e ≤ n → spanOf (take n l) s e ≡ spanOf l s e
 unfolding spanOf
 span-take l s e n h k =
     sym (drop-take s (e - s) e (take n l) (omega arith))

@@ -23,23 +23,23 @@ use Rattle.semilinear_normalizer.proofs.IndexLaws.{length-rows-in, rows
 -- ---- one term
 
 module _ (w i c : ℕ) where
-  pub row-term-none : c ≡ 0 → rowTerm w i c ≡ []
+  row-term-none : c ≡ 0 → rowTerm w i c ≡ []
   unfolding rowTerm
   row-term-none e = simp (eq-eqb c 0 e)
 
-  pub row-term-some : (c ≡ 0 → ⊥) → rowTerm w i c ≡ termBytes w i c
+  row-term-some : (c ≡ 0 → ⊥) → rowTerm w i c ≡ termBytes w i c
   unfolding rowTerm
   row-term-some e = simp (ne-eqb c 0 e)
 
-pub row-terms-none : (c : ℕ) → c ≡ 0 → rowTerms c ≡ 0
+row-terms-none : (c : ℕ) → c ≡ 0 → rowTerms c ≡ 0
 unfolding rowTerms
 row-terms-none c e = simp (eq-eqb c 0 e)
 
-pub row-terms-some : (c : ℕ) → (c ≡ 0 → ⊥) → rowTerms c ≡ 1
+row-terms-some : (c : ℕ) → (c ≡ 0 → ⊥) → rowTerms c ≡ 1
 unfolding rowTerms
 row-terms-some c e = simp (ne-eqb c 0 e)
 
-pub length-term : (w i c : ℕ) → length (termBytes w i c) ≡ 16
+length-term : (w i c : ℕ) → length (termBytes w i c) ≡ 16
 unfolding termBytes recordBytes
 length-term w i c = refl
 

@@ -35,7 +35,7 @@ family-le f x y h = go ((eqb x f || eqb x 4) && (eqb y f || eqb y 4))
     go true = h
     go false = omega arith
 
-pub provenance-le : (t : Tree) → detectProvenance t ≤ 4
+provenance-le : (t : Tree) → detectProvenance t ≤ 4
 unfolding detectProvenance
 provenance-le (Constant v) = omega arith
 provenance-le (Variable i) = omega arith
@@ -108,7 +108,7 @@ module _ (w : ℕ) (vars : List ℕ) where
         go g below false same (suc m) f = below m (f ∙ omega arith)
 
     -- the row that an atom shares has its value
-    pub shared-row-has : (l : List Row) → rowsOk w l ≡ true → RowHas l (sharedRow w t l) (value w vars t)
+    shared-row-has : (l : List Row) → rowsOk w l ≡ true → RowHas l (sharedRow w t l) (value w vars t)
     unfolding sharedRow
     shared-row-has l ok = go (hasTree w t newest l) refl
       where
@@ -154,14 +154,14 @@ module _ (w : ℕ) (vars : List ℕ) (hw : w ≤ 64) where
 
   -- ---- what is registered
 
-  pub register-sum : (e : Emitted) (l : List Row) → GoodEmitted w hw e → rowsOk w l ≡ true
+  register-sum : (e : Emitted) (l : List Row) → GoodEmitted w hw e → rowsOk w l ≡ true
       → Eqm (2 ^ w) (sumRows w vars (registerAtom w e l)) (sumRows w vars l + e .coeff * value w vars (e .tree))
   unfolding registerAtom
   register-sum e l g ok =
       add-row-sum (record { provenance = detectProvenance (e .tree); tree = e .tree; coeff = e .coeff })
       (sharedRow w (e .tree) l) l (shared-row-has w vars (e .tree) (g .atom) l ok)
 
-  pub register-ok : (e : Emitted) (l : List Row) → GoodEmitted w hw e → rowsOk w l ≡ true
+  register-ok : (e : Emitted) (l : List Row) → GoodEmitted w hw e → rowsOk w l ≡ true
       → rowsOk w (registerAtom w e l) ≡ true
   unfolding registerAtom
   register-ok e l g ok =

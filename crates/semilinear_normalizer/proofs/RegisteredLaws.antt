@@ -79,7 +79,7 @@ module _ (w : ℕ) (new : Row) where
   bare-add-row zero (x ∷ l) h = refl
   bare-add-row (suc j) (x ∷ l) h = rw (bare-add-row j l (omega arith))
 
-  pub add-row-last : (j : ℕ) (l : List Row) → length l ≤ j → addRow w new j l ≡ l ++ (new ∷ [])
+  add-row-last : (j : ℕ) (l : List Row) → length l ≤ j → addRow w new j l ≡ l ++ (new ∷ [])
   unfolding addRow
   add-row-last j [] h = refl
   add-row-last zero (x ∷ l) h = absurd (omega arith)
@@ -111,7 +111,7 @@ past-least l m a r e = go (fitsTable m) refl
         let z : fitsTable l ≡ true = simp (le-leb (length l) 256 n, le-leb (treeRecords l) 3072 k) in
         false-true (sym e ∙ z)
 
-pub past-register : (w : ℕ) (e : Emitted) (l : List Row) → fitsTable l ≡ false → fitsTable (registerAtom w e l) ≡ false
+past-register : (w : ℕ) (e : Emitted) (l : List Row) → fitsTable l ≡ false → fitsTable (registerAtom w e l) ≡ false
 unfolding registerAtom
 past-register w e l =
     let j : ℕ = sharedRow w (e .tree) l in
@@ -119,7 +119,7 @@ past-register w e l =
 
 -- ---- all that was emitted
 
-pub register-all-more : (w : ℕ) (e : Emitted) (m : List Emitted) (l : List Row)
+register-all-more : (w : ℕ) (e : Emitted) (m : List Emitted) (l : List Row)
     → registerAll w (m ++ (e ∷ [])) l ≡ registerAtom w e (registerAll w m l)
 unfolding registerAll
 register-all-more w e [] l = refl

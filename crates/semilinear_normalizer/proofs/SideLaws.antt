@@ -65,11 +65,11 @@ module _ {w : ℕ} {file marks : List ℕ} {x : Spot} (at : AtSpot w file marks 
   tree-is =
       decode-two span (span-sized (at .span)) refl (binary-zero (at .span) two) (binary-one (at .span) two) refl refl
 
-  pub left-tree : decode (left span) ≡ l
+  left-tree : decode (left span) ≡ l
   unfolding leftOf
   left-tree = sym (ap leftOf tree-is)
 
-  pub right-tree : decode (right span) ≡ r
+  right-tree : decode (right span) ≡ r
   unfolding rightOf
   right-tree = sym (ap rightOf tree-is)
 

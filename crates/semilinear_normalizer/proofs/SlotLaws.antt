@@ -40,7 +40,7 @@ module _ (p : ℕ → Bool) (none : ℕ) where
   last-end (suc j) h = absurd (omega arith)
 
   -- it is below the bound or `none`
-  pub last-le : (n : ℕ) → n ≤ none → lastF n p none ≤ none
+  last-le : (n : ℕ) → n ≤ none → lastF n p none ≤ none
   unfolding lastF
   last-le zero h = omega arith
   last-le (suc n) h =

@@ -57,7 +57,7 @@ counted-two s big p q below-l below-r ok =
 
 -- a span with right size fields has 16 bytes for each record, and its root's size field counts them
 module _ (s : List ℕ) (ok : sized s ≡ true) where
-  pub length-sized : sizeOf (decode s) * 16 ≡ length s
+  length-sized : sizeOf (decode s) * 16 ≡ length s
   unfolding Counted
   length-sized = span-ind Counted counted-none counted-leaf counted-one counted-two s ok
 
@@ -82,7 +82,7 @@ module _ (file : List ℕ) (start end : ℕ) (rising : start ≤ end) (inside : 
   len : length here ≡ end - start
   len = length-span file start end inside
 
-  pub body-span : body here ≡ spanOf file start (end - 16)
+  body-span : body here ≡ spanOf file start (end - 16)
   unfolding body
   body-span =
       take-span file start end (length here - 16) (end - 16) (omega (arith, len, big)) (omega (arith, len, big))
@@ -103,7 +103,7 @@ module _ {w : ℕ} {file : List ℕ} {start end : ℕ} (ok : Accepted w file sta
   abbrev span : List ℕ
   span = spanOf file start end
 
-  pub span-length : length span ≡ end - start
+  span-length : length span ≡ end - start
   span-length = length-span file start end (ok .inside)
 
   pub span-big : 16 ≤ length span

@@ -33,7 +33,7 @@ module _ (file words : List ℕ) where
   spot-at i c s e m v hc hs he hm hv = rw (hc, hs, he, hm, hv)
 
 -- atoms whose words are the same
-pub spots-same : (file before after : List ℕ) (n : ℕ) → ((i : ℕ) → i < 5 * n → getD after i 0 ≡ getD before i 0)
+spots-same : (file before after : List ℕ) (n : ℕ) → ((i : ℕ) → i < 5 * n → getD after i 0 ≡ getD before i 0)
     → spotsIn file after n ≡ spotsIn file before n
 unfolding spotsIn
 spots-same file before after zero h = refl
@@ -71,7 +71,7 @@ module _ (file : List ℕ) (n c s e m v : ℕ) (before : List ℕ) (d : Descent)
   fits : 5 * d .count + length (spotWords c s e m v) ≤ length before
   fits = omega (arith, words-length)
 
-  pub length-push : length after ≡ length before
+  length-push : length after ≡ length before
   length-push = ap length (p .written) ∙ length-put before (5 * d .count) (spotWords c s e m v) fits
 
   old : (i : ℕ) → i < 5 * d .count → getD after i 0 ≡ getD before i 0
@@ -91,12 +91,12 @@ module _ (file : List ℕ) (n c s e m v : ℕ) (before : List ℕ) (d : Descent)
       (ap (λ (k : ℕ). getD after k 0) (omega arith) ∙ new 0 (omega arith)) (new 1 (omega arith)) (new 2 (omega arith))
       (new 3 (omega arith)) (new 4 (omega arith))
 
-  pub spots-push : spotsIn file after (d .count + 1)
+  spots-push : spotsIn file after (d .count + 1)
       ≡ spotsIn file before (d .count) ++ (spotOf file c s e m v ∷ [])
   unfolding spotsIn
   spots-push = rw (add-one (d .count), spots-same file before after (d .count) old, new-at)
 
-  pub ok-push : (w : ℕ) → Accepted w file s e → v < 2 ^ w → SpotsOk w file before (d .count)
+  ok-push : (w : ℕ) → Accepted w file s e → v < 2 ^ w → SpotsOk w file before (d .count)
       → SpotsOk w file after (r .count)
   unfolding spotWords
   ok-push w h k ok i l = go (decLt i (d .count))

@@ -1,5 +1,5 @@
--- The equations of `collectTerms` (specs/Collect.antt) at each kind of root with a variable that is no Add, under a
--- coefficient other than 0.
+-- The equations of `collectTerms` (specs/Collect.antt): under the coefficient 0, at a tree without a variable, and at
+-- each kind of root with one.
 use mathlib.Core.Path.{_≡_, sym, _∙_}
 use Prim.Native.Nat.{ℕ, _≤_}
 use native.Mathlib.Omega.{arith}
@@ -9,11 +9,12 @@ use lib.Dec.{eqb}
 use borrow.Author.Tests.{eq-eqb, ne-eqb}
 use Rattle.arith.specs.Width.{modMul, modNeg}
 use Rattle.record.specs.Tree.{Tree}
-use Rattle.record.specs.Tree.Tree.{Variable, Unary, Binary}
+use Rattle.record.specs.Tree.Tree.{Variable, Unary, Binary, Constant}
+use Rattle.record.proofs.SizedLaws.{false-true, or-false}
 use Rattle.expr.specs.Utils.{hasKind, hasVarDep, isArith, hasArith}
 use Rattle.expr.specs.Value.{value}
 use Rattle.semilinear_normalizer.specs.Collect.{Collected, joinCollected, collectConstant, collectMasked}
-use Rattle.semilinear_normalizer.specs.Collect.{collectTerms}
+use Rattle.semilinear_normalizer.specs.Collect.{collectTerms, linear}
 use Rattle.semilinear_normalizer.specs.Spots.{collectLiteral, collectWhole}
 use Rattle.semilinear_normalizer.proofs.JoinLaws.{join-assoc}
 
@@ -31,11 +32,11 @@ pub variable-two : (k : ℕ) (l r : Tree) → 2 ≤ k → hasVarDep (Binary k l 
 unfolding hasKind
 variable-two k l r h = simp (ne-eqb k 1 (omega arith))
 
-pub arith-one : (k a : ℕ) (t : Tree) → isArith k ≡ false → hasArith (Unary k a t) ≡ hasArith t
+arith-one : (k a : ℕ) (t : Tree) → isArith k ≡ false → hasArith (Unary k a t) ≡ hasArith t
 unfolding hasArith
 arith-one k a t h = simp h
 
-pub arith-two : (k : ℕ) (l r : Tree) → isArith k ≡ false → hasArith (Binary k l r) ≡ hasArith l || hasArith r
+arith-two : (k : ℕ) (l r : Tree) → isArith k ≡ false → hasArith (Binary k l r) ≡ hasArith l || hasArith r
 unfolding hasArith
 arith-two k l r h = simp h
 
@@ -49,8 +50,34 @@ other-right {a} {b} h e = simp e at h
 
 -- ---- the descent
 
+pub terms-zero : (w c : ℕ) (t : Tree) → c ≡ 0 → collectTerms w c t ≡ linear 0 []
+unfolding collectTerms
+terms-zero w c (Constant v) e = simp (eq-eqb c 0 e)
+terms-zero w c (Variable i) e = simp (eq-eqb c 0 e)
+terms-zero w c (Unary k a t) e = simp (eq-eqb c 0 e)
+terms-zero w c (Binary k l r) e = simp (eq-eqb c 0 e)
+
+pub terms-constant : (w c : ℕ) (t : Tree) → eqb c 0 ≡ false → hasVarDep t ≡ false
+    → collectTerms w c t ≡ linear (modMul c (value w [] t) w) []
+unfolding collectTerms collectConstant hasKind
+terms-constant w c (Constant v) e h = simp e
+terms-constant w c (Variable i) e h = false-true (sym h)
+terms-constant w c (Unary k a t) e h =
+    let q : hasVarDep t ≡ false = or-false (eqb k 1) (hasVarDep t) h .1 in
+    simp (e, q)
+terms-constant w c (Binary k l r) e h =
+    let q : hasVarDep l || hasVarDep r ≡ false = or-false (eqb k 1) (hasVarDep l || hasVarDep r) h .1 in
+    simp (e, q)
+
+pub terms-add : (w c : ℕ) (l r : Tree) → eqb c 0 ≡ false → hasVarDep (Binary 2 l r) ≡ true
+    → collectTerms w c (Binary 2 l r) ≡ joinCollected w (collectTerms w c l) (collectTerms w c r)
+unfolding collectTerms
+terms-add w c l r e h =
+    let q : hasVarDep l || hasVarDep r ≡ true = sym (variable-two 2 l r (omega arith)) ∙ h in
+    simp (e, q)
+
 -- x | k and x ^ k as x and the rest
-pub masked-literal : (w k c : ℕ) (x : Collected) (t m : Tree)
+masked-literal : (w k c : ℕ) (x : Collected) (t m : Tree)
     → collectMasked w k c x t m ≡ joinCollected w x (collectLiteral w k c t (value w [] m))
 unfolding collectMasked collectLiteral collectConstant
 masked-literal w k c x t m = join-assoc w x (collectConstant w c m) _

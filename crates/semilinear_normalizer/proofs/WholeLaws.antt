@@ -52,7 +52,7 @@ whole-atom w c (Binary j l r) e k = rw (e, ne-eqb j 4 k) refl
 -- ---- the root's kind
 
 module _ (s : List ℕ) (big : 16 ≤ length s) where
-  pub and-root : kind s ≡ 4 → decode s ≡ Binary 4 (decode (left s)) (decode (right s))
+  and-root : kind s ≡ 4 → decode s ≡ Binary 4 (decode (left s)) (decode (right s))
   unfolding arity
   and-root k =
       let a : arity (kind s) ≡ 2 = ap arity k in

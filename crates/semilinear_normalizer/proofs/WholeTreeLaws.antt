@@ -63,11 +63,11 @@ module _ (w : ℕ) (t : List ℕ) (h : IsBytes t) (ok : treeRefusal w t ≡ 0) w
   width-le : w ≤ 64
   width-le = accepted-root w t ok .width-le
 
-  pub whole-span : spanOf t 0 (length t) ≡ t
+  whole-span : spanOf t 0 (length t) ≡ t
   unfolding spanOf
   whole-span = rw sub-zero (take-all (length t) t (omega arith))
 
-  pub whole-size : sizeOf (treeAt t whole) ≡ size t
+  whole-size : sizeOf (treeAt t whole) ≡ size t
   whole-size = ap (λ (s : List ℕ). sizeOf (decode s)) whole-span ∙ sym (size-sized t (sized-accepted w t ok))
 
   pub whole-at : {m before after : List ℕ} {r : Traits} {n : ℕ} → Marked (decode t) 0 before after r

@@ -1,5 +1,6 @@
 -- The atom table as the code keeps it while normalising: the atoms' bytes in the result slice, and beside them lent
--- words, eleven to an atom; a view gives the rows that they stand for.
+-- words, eleven to an atom: its coefficient, its hash, where its tree starts and ends in the result slice, and its key.
+-- A view gives the rows that they stand for.
 use mathlib.Core.Path.{_≡_}
 use Prim.Native.Nat.{ℕ, zero, suc, _+_, _*_, _≤_, _<_}
 use mathlib.Core.List.{List, [], _∷_, _++_}
@@ -24,10 +25,6 @@ use Rattle.semilinear_normalizer.specs.Collect.{Emitted}
 use Rattle.semilinear_normalizer.specs.Register.{familyOf, detectProvenance}
 use Rattle.semilinear_normalizer.specs.Spots.{spanOf}
 use Rattle.semilinear_normalizer.specs.Key.{notPure, keyOf}
-
--- the words of an atom: its coefficient, its hash, where its tree starts and ends in the result slice, and its key
-unfoldable pub entryWords : ℕ → ℕ → ℕ → ℕ → List ℕ → List ℕ
-entryWords c hash start end key = c ∷ hash ∷ start ∷ end ∷ key
 
 -- the bytes of atom j's tree
 unfoldable pub entrySpan : List ℕ → List ℕ → ℕ → List ℕ

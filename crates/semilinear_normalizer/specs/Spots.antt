@@ -6,6 +6,7 @@ use mathlib.Core.List.{List, [], _∷_, _++_}
 use mathlib.Core.Bool.{Bool, true, false}
 use lib.ListN.{length, getD, take, drop}
 use lib.Dec.{eqb}
+use Rattle.arith.specs.Width.{modMul}
 use Rattle.record.specs.Choice.{when}
 use Rattle.record.specs.Tree.{Tree, sizeOf}
 use Rattle.record.specs.Tree.Tree.{Constant, Variable, Unary, Binary}
@@ -13,7 +14,6 @@ use Rattle.record.specs.Fields.{size}
 use Rattle.record.specs.Span.{cut, left}
 use Rattle.record.specs.Decode.{decode}
 use Rattle.record.specs.Put.{put}
-use Rattle.arith.specs.Width.{modMul}
 use Rattle.expr.specs.Refusal.{treeRefusal}
 use Rattle.expr.specs.Utils.{hasVarDep, hasArith}
 use Rattle.expr.specs.Value.{value}

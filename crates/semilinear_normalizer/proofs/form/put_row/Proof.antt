@@ -1,4 +1,4 @@
--- `put_row` meets its contract.
+-- `put_row` meets its contract: no term for the coefficient 0, else one record.
 use Rattle.semilinear_normalizer.proofs.PutTermsLaws.{term-put-none, term-put-some}
 use borrow.Author.Needs.{needs}
 use Rattle.semilinear_normalizer.proofs.form.put_row.Statement.{statement}

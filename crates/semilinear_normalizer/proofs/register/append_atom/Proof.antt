@@ -1,6 +1,6 @@
 -- `append_atom` meets its contract: the atom's bytes and words are appended, or the table would pass a limit.
 use denote.Ref.{now}
-use Rattle.semilinear_normalizer.specs.Index.{entryWords}
+use Rattle.semilinear_normalizer.proofs.EntryLaws.{entryWords}
 use Rattle.expr.proofs.RefusalLaws.{sized-accepted}
 use Rattle.semilinear_normalizer.proofs.AppendedLaws.{registers-past, room-more, registers-more}
 use borrow.Author.Needs.{needs}

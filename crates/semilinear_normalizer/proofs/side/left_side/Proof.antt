@@ -1,4 +1,4 @@
--- `left_side` meets its contract.
+-- `left_side` meets its contract: the record of the definition.
 use mathlib.Core.Path.{refl}
 use Rattle.semilinear_normalizer.specs.Spots.{leftSide}
 use borrow.Author.Needs.{needs}

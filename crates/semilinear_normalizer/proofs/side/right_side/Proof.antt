@@ -1,4 +1,4 @@
--- `right_side` meets its contract.
+-- `right_side` meets its contract: the record of the definition.
 use mathlib.Core.Path.{refl}
 use Rattle.semilinear_normalizer.specs.Spots.{rightSide}
 use borrow.Author.Needs.{needs}

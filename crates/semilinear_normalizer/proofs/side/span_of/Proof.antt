@@ -1,4 +1,4 @@
--- `span_of` meets its contract.
+-- `span_of` meets its contract: the part of the slice.
 use mathlib.Core.Path.{refl}
 use Rattle.semilinear_normalizer.specs.Spots.{spanOf}
 use borrow.Author.Needs.{needs}

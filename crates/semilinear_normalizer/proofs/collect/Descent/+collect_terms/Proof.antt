@@ -13,8 +13,8 @@ use Rattle.semilinear_normalizer.specs.Collect.{linear}
 use Rattle.semilinear_normalizer.proofs.SpanOfLaws.{span-big, span-end, span-sized, kind-read}
 use Rattle.semilinear_normalizer.proofs.SideLaws.{spot-some, spot-marks, spot-variable}
 use Rattle.semilinear_normalizer.proofs.CollectsLaws.{collects-as, collects-none, collects-constant, ready-less}
-use Rattle.semilinear_normalizer.proofs.DescentLaws.{terms-zero, terms-constant, down-spot, down-falls}
-use Rattle.semilinear_normalizer.proofs.DescentLaws.{down-ready}
+use Rattle.semilinear_normalizer.proofs.TermsLaws.{terms-zero, terms-constant}
+use Rattle.semilinear_normalizer.proofs.DescentLaws.{down-spot, down-falls, down-ready}
 use Rattle.semilinear_normalizer.proofs.AddLaws.{left-big, down-left, down-right, ready-right, sum-then}
 use Rattle.semilinear_normalizer.proofs.AddLaws.{sum-stop}
 use Rattle.semilinear_normalizer.proofs.WayOnLaws.{down-way, way-ends, way-goes, way-literal, ready-masked}

@@ -1,4 +1,4 @@
--- `add_constant` meets its contract.
+-- `add_constant` meets its contract: the sum of the definition.
 use mathlib.Core.Path.{refl}
 use borrow.Author.Needs.{needs}
 use Rattle.semilinear_normalizer.proofs.collect.Descent.add_constant.Statement.{statement}

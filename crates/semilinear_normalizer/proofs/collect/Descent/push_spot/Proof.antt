@@ -1,4 +1,4 @@
--- `push_spot` meets its contract.
+-- `push_spot` meets its contract: five words are put behind the others.
 use mathlib.Core.Path.{refl}
 use Rattle.semilinear_normalizer.specs.Spots.{spotWords}
 use borrow.Author.Needs.{needs}
