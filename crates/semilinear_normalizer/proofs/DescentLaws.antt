@@ -1,16 +1,17 @@
 -- A smaller spot of the file (specs/Spots.antt): a side of a spot's tree is a spot again, with its part of the marks,
 -- and what was asked for the one holds for the other.
 use mathlib.Core.Path.{_≡_, ap, sym, _∙_}
-use Prim.Native.Nat.{ℕ, _-_, _<_}
+use Prim.Native.Nat.{ℕ, _<_}
 use native.Mathlib.Omega.{arith}
 use mathlib.Core.List.{List}
+use Rattle.record.specs.Fields.{size}
 use Rattle.record.specs.Tree.{sizeOf}
 use Rattle.semilinear_normalizer.specs.declared.side.Spot.{Spot}
 use Rattle.semilinear_normalizer.specs.declared.collect.Descent.{Descent}
 use Rattle.semilinear_normalizer.specs.declared.side.Side.{Side}
 use Rattle.semilinear_normalizer.specs.Marks.{marksOf}
 use Rattle.semilinear_normalizer.specs.Spots.{spanOf, Ready, treeAt, AtSpot, SideAt, sideTree}
-use Rattle.semilinear_normalizer.proofs.SpanOfLaws.{span-records}
+use Rattle.semilinear_normalizer.proofs.SpanOfLaws.{size-sized, span-sized}
 use Rattle.semilinear_normalizer.proofs.CollectsLaws.{ready-less}
 
 -- a side of the tree of the spot x
@@ -32,10 +33,10 @@ module _ {w : ℕ} {file marks : List ℕ} {x : Spot} (at : AtSpot w file marks 
         marks-are = em ∙ down .side .marks-are ∙ sym (ap (λ (z : Spot). marksOf (treeAt file z)) ey);
       }
 
-  pub down-falls : y .end - y .start < x .end - x .start
+  pub down-falls : size (spanOf file (y .start) (y .end)) < size (spanOf file (x .start) (x .end))
   down-falls =
-      let big = span-records (at .span) in
-      let small = span-records (down .side .span) in
+      let big = size-sized _ (span-sized (at .span)) in
+      let small = size-sized _ (span-sized (down .side .span)) in
       rw ey (omega (arith, big, small, down .smaller))
 
   pub down-ready : {words : List ℕ} {d : Descent} → Ready w (sizeOf (treeAt file x)) words d

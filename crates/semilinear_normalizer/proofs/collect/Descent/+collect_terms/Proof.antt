@@ -1,15 +1,16 @@
 -- `collect_terms` meets its contract: each way on is a smaller spot of the file, and what is collected there makes up
 -- what is collected here.
 use mathlib.Core.Path.{ap, sym, _∙_}
-use Prim.Native.Nat.{_-_, ℕ, _<_}
+use Prim.Native.Nat.{ℕ, _<_}
 use native.Mathlib.Omega.{arith}
 use mathlib.Core.List.{List, []}
 use borrow.Author.Tests.{ne-eqb, not-true, not-false}
 use Rattle.arith.specs.Width.{modMul}
-use Rattle.record.specs.Fields.{kind}
+use Rattle.record.specs.Fields.{kind, size}
 use Rattle.record.specs.Decode.{decode}
 use Rattle.expr.specs.Value.{value}
 use Rattle.semilinear_normalizer.specs.Collect.{linear}
+use Rattle.semilinear_normalizer.specs.Spots.{spanOf}
 use Rattle.semilinear_normalizer.proofs.SpanOfLaws.{span-big, span-end, span-sized, kind-read}
 use Rattle.semilinear_normalizer.proofs.SideLaws.{spot-some, spot-marks, spot-variable}
 use Rattle.semilinear_normalizer.proofs.CollectsLaws.{collects-as, collects-none, collects-constant, ready-less}
@@ -40,7 +41,7 @@ use Rattle.semilinear_normalizer.proofs.collect.Descent.+collect_terms.
 use Rattle.semilinear_normalizer.proofs.collect.Descent.+collect_terms.Tie.{close}
 
 abbrev μ-collect-terms : Measures 3 collect-terms-kinds.ps ℕ
-μ-collect-terms κs a = a .1 .0 .end - a .1 .0 .start
+μ-collect-terms κs a = size (spanOf (a .1 .1 .0 .now) (a .1 .0 .start) (a .1 .0 .end))
 
 abbrev collect-terms-at : ℕ → In 3 collect-terms-kinds.ps
 collect-terms-at t =
