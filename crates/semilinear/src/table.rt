@@ -6,16 +6,19 @@ ghost use Prim.Native.Nat.{_+_, _<_, _≤_};
 ghost use lib.ListN.{length};
 ghost use Rattle.record.specs.Span.{sized};
 ghost use Rattle.record.specs.Put.{put};
+ghost use Rattle.record.specs.Decode.{decode};
+ghost use Rattle.expr.specs.Hash.{structuralHash};
 ghost use Rattle.semilinear.specs.Form.{termBytes, sumBytes};
 ghost use Rattle.semilinear.specs.Table.{Placed, storeOf, emptyTable, atomSpan, createAtom};
 
-// Puts an atom, its head and a copy of its tree t, into out from index `at` on.
-pub fn put_atom(out: &mut [u8], at: usize, t: &[u8], prov: u8, w: u8)
-    requires { ⌜ (at + 16 + length (now t) ≤ length (now out)) × (sized (now t) ≡ true) ⌝ }
+// Puts an atom, its head and a copy of its tree t, into out from index `at` on. The tree's hash is
+// given: who has looked for the tree has it.
+pub fn put_atom(out: &mut [u8], at: usize, t: &[u8], hash: u64, prov: u8, w: u8)
+    requires { ⌜ (at + 16 + length (now t) ≤ length (now out)) × (sized (now t) ≡ true)
+        × (hash ≡ structuralHash (decode (now t))) ⌝ }
     ensures { λ _. ⌜ now (out .exit)
         ≡ put (now (out .entry)) at (atomSpan w prov (now (t .entry))) ⌝ }
 {
-    let hash = expr::hash::structural_hash(t);
     record::write::put_record(out, at, 33, prov, record::size(t), w, hash);
     record::write::put_bytes(out, at + 16, t);
 }
@@ -59,8 +62,9 @@ impl Table {
 
     // Appends an atom with the tree t; its number is the count before. Corresponds to
     // `create_atom`.
-    pub fn create_atom(mut self, out: &mut [u8], t: &[u8], prov: u8, w: u8) -> Self
-        requires { ⌜ Placed self (length (now out)) × (sized (now t) ≡ true) ⌝ }
+    pub fn create_atom(mut self, out: &mut [u8], t: &[u8], hash: u64, prov: u8, w: u8) -> Self
+        requires { ⌜ Placed self (length (now out)) × (sized (now t) ≡ true)
+            × (hash ≡ structuralHash (decode (now t))) ⌝ }
         ensures { λ r. ⌜ storeOf r (now (out .exit))
             ≡ createAtom w prov (now (t .entry)) (storeOf self (now (out .entry))) ⌝ }
     {
@@ -79,7 +83,7 @@ impl Table {
             return self;
         }
         let at = self.at;
-        put_atom(out, at, t, prov, w);
+        put_atom(out, at, t, hash, prov, w);
         self.at = at + 16 + t.len();
         self.count = count + 1;
         self.records = records + size;

@@ -152,7 +152,7 @@ fn append_atom(
 {
     let n = table.count as usize;
     let start = table.at as u64 + 16;
-    let more = table.create_atom(out, t, detect_provenance(t), w);
+    let more = table.create_atom(out, t, hash, detect_provenance(t), w);
     if more.full {
         return more;
     }

@@ -6,11 +6,8 @@ use borrow.Author.Needs.{needs}
 use Rattle.semilinear.proofs.table.put_atom.Statement.{statement}
 use Rattle.semilinear.proofs.table.put_atom.Tie as tie
 
-structural-hash-requires : tie.Need-structural-hash-requires
-structural-hash-requires c κs = search needs
-
 size-requires : tie.Need-size-requires
-size-requires c κs = sized-big _ (c .before .before .before .before .pre .1)
+size-requires c κs = sized-big _ (c .before .before .before .pre .1)
 
 put-record-requires : tie.Need-put-record-requires
 put-record-requires c κs = search needs
@@ -26,15 +23,14 @@ same-length c = search needs
 
 returns : tie.Need-returns
 returns c =
-    let at-start = c .before .before .before .before .before .before .before .before .before .before .before .before in
+    let at-start = c .before .before .before .before .before .before .before .before .before .before .before in
     let a = at-start .args in
-    cc (put-atom-span (now (a .out)) (a .at) (a .w) (a .prov) (now (a .t)) (at-start .pre .0))
+    cc (put-atom-span (now (a .out)) (a .at) (a .w) (a .prov) (now (a .t)) (at-start .pre .0), at-start .pre .2)
 
 pub put-atom-spec : {M : Type 1} → statement M
 put-atom-spec =
     tie.close
     (tie.spec
-    structural-hash-requires
     size-requires
     put-record-requires
     add-put-bytes

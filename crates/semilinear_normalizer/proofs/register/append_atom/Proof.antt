@@ -16,7 +16,7 @@ detect-provenance-requires c κs = sized-accepted _ _ (c .before .before .before
 create-atom-requires : tie.Need-create-atom-requires
 create-atom-requires c κs =
     let at-start = c .before .before .before .before .before .before in
-    (at-start .pre .0 .holds .placed, sized-accepted _ _ (at-start .pre .1))
+    (at-start .pre .0 .holds .placed, sized-accepted _ _ (at-start .pre .1), at-start .pre .2)
 
 same-length : tie.Need-same-length
 same-length c = search needs

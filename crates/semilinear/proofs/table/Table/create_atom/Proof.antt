@@ -47,7 +47,7 @@ put-atom-requires c κs =
     let a = at-start .args in
     let pre = at-start .pre in
     let n = at-size .size in
-    (omega (arith, sized-length (now (a .t)) (pre .1), n .ensures .0, pre .0 .place, pre .0 .room), pre .1)
+    (omega (arith, sized-length (now (a .t)) (pre .1), n .ensures .0, pre .0 .place, pre .0 .room), pre .1, pre .2)
 
 add-self : tie.Need-add-self
 add-self c = search needs
