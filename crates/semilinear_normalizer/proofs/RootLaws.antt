@@ -80,9 +80,14 @@ module _ (w : ℕ) (hw : w ≤ 64) where
           → (when b (λ _. modNeg (modMul c 2 w) w) (λ _. modNeg c w) < 2 ^ 64)
           × Eqm (2 ^ w) (c * x + c * y + when b (λ _. modNeg (modMul c 2 w) w) (λ _. modNeg c w) * bitAnd x y)
           (c * when b (λ _. bitXor x y) (λ _. bitOr x y))
-      go true =
-          (word-lt w _ hw (mod-neg-lt (modMul c 2 w) w hw), eqm-sym (xor-minus (2 ^ w) c x y (modNeg (modMul c 2 w) w) double))
-      go false = (word-lt w _ hw (mod-neg-lt c w hw), eqm-sym (or-minus (2 ^ w) c x y (modNeg c w) (mod-neg-eqm c w hw hc)))
+      go true = (
+        word-lt w _ hw (mod-neg-lt (modMul c 2 w) w hw),
+        eqm-sym (xor-minus (2 ^ w) c x y (modNeg (modMul c 2 w) w) double),
+      )
+      go false = (
+        word-lt w _ hw (mod-neg-lt c w hw),
+        eqm-sym (or-minus (2 ^ w) c x y (modNeg c w) (mod-neg-eqm c w hw hc)),
+      )
 
 -- ---- roots
 

@@ -22,22 +22,27 @@ use Rattle.semilinear_normalizer.proofs.DescentLaws.{Down}
 
 module _ {w : ℕ} {file marks : List ℕ} {x : Spot} (at : AtSpot w file marks x) {k : ℕ} {b : Way}
     (way : WayOf w file marks k (x .coeff) (treeAt file x) b) where
+  abbrev Here : Type 0
+  Here = WayOf w file marks k (x .coeff) (treeAt file x) b
+
+  -- all that is collected at the spot
+  abbrev pub Done : List ℕ → Descent → List ℕ → Descent → Type 0
+  Done a d g r = Collects w file (sizeOf (treeAt file x)) (collectTerms w (x .coeff) (treeAt file x)) a d g r
+
   pub down-way : b .found ≡ true → Down w file marks x (b .child)
   down-way e = go way
     where
-      go : WayOf w file marks k (x .coeff) (treeAt file x) b → Down w file marks x (b .child)
+      go : Here → Down w file marks x (b .child)
       go (ends f q) = false-true (sym f ∙ e)
       go (goes f m s small q) = record { side = s; smaller = small }
       go (masks f m s small c v q l) = record { side = s; smaller = small }
 
   -- the descent ends here
   pub way-ends : b .found ≡ false → {a : List ℕ} {d : Descent} {c : List ℕ} {r : Descent}
-      → Collects w file 1 (collectWhole w (x .coeff) (treeAt file x)) a d c r
-      → Collects w file (sizeOf (treeAt file x)) (collectTerms w (x .coeff) (treeAt file x)) a d c r
+      → Collects w file 1 (collectWhole w (x .coeff) (treeAt file x)) a d c r → Done a d c r
   way-ends e {a} {d} {c} {r} h = go way
     where
-      go : WayOf w file marks k (x .coeff) (treeAt file x) b
-          → Collects w file (sizeOf (treeAt file x)) (collectTerms w (x .coeff) (treeAt file x)) a d c r
+      go : Here → Done a d c r
       go (ends f q) =
           collects-more (sizeOf (treeAt file x)) (omega (arith, spot-marks at, spot-some at)) (collects-as q h)
       go (goes f m s small q) = false-true (sym e ∙ f)
@@ -59,13 +64,10 @@ module _ {w : ℕ} {file marks : List ℕ} {x : Spot} (at : AtSpot w file marks 
         let c : y .coeff ≡ b .coeff = ap (λ (z : Spot). z .coeff) ey in
         rw (same, c) at first
 
-    abbrev pub Done : List ℕ → Descent → Type 0
-    Done g r = Collects w file (sizeOf (treeAt file x)) (collectTerms w (x .coeff) (treeAt file x)) a d g r
-
-    pub way-goes : b .masked ≡ false → Done f e
+    pub way-goes : b .masked ≡ false → Done a d f e
     way-goes plain = go way
       where
-        go : WayOf w file marks k (x .coeff) (treeAt file x) b → Done f e
+        go : Here → Done a d f e
         go (ends f q) = false-true (sym f ∙ found)
         go (goes f m s small q) = collects-more (sizeOf (treeAt file x)) (omega arith) (collects-as q under)
         go (masks f m s small c v q l) = false-true (sym plain ∙ m)
@@ -83,34 +85,31 @@ module _ {w : ℕ} {file marks : List ℕ} {x : Spot} (at : AtSpot w file marks 
       pub way-literal : Literal
       way-literal = go way
         where
-          go : WayOf w file marks k (x .coeff) (treeAt file x) b → Literal
+          go : Here → Literal
           go (ends f q) = false-true (sym f ∙ found)
           go (goes f m s small q) = false-true (sym m ∙ masked)
           go (masks f m s small c v q l) = record { side = s .span; value-lt = l; variable = v }
 
       pub ready-masked : Ready w (sizeOf (treeAt file x)) a d → e .linear ≡ true → Ready w 1 f e
       ready-masked ready lin =
-          ready-after w hw file (sizeOf here) 1 (collectTerms w (b .coeff) here)
-          literal a d f e under
+          ready-after w hw file (sizeOf here) 1 (collectTerms w (b .coeff) here) literal a d f e under
           (ready-less (sizeOf here + 1) (omega (arith, down-way found .smaller)) ready) lin
 
-      pub way-masked-stop : e .linear ≡ false → Done f e
+      pub way-masked-stop : e .linear ≡ false → Done a d f e
       way-masked-stop lin = go way
         where
-          go : WayOf w file marks k (x .coeff) (treeAt file x) b → Done f e
+          go : Here → Done a d f e
           go (ends f q) = false-true (sym f ∙ found)
           go (goes f m s small q) = false-true (sym m ∙ masked)
           go (masks g m s small c v q l) =
               collects-more (sizeOf (treeAt file x)) (omega arith)
               (collects-as (q ∙ ap (λ (z : ℕ). joinCollected w (collectTerms w z here) literal) (sym c))
-              (collects-stop w hw file (sizeOf here) 1 (collectTerms w (b .coeff) here)
-              literal a d f e under lin))
+              (collects-stop w hw file (sizeOf here) 1 (collectTerms w (b .coeff) here) literal a d f e under lin))
 
-      pub way-masked-then : {g : List ℕ} {r : Descent}
-          → Collects w file 1 literal f e g r → Done g r
+      pub way-masked-then : {g : List ℕ} {r : Descent} → Collects w file 1 literal f e g r → Done a d g r
       way-masked-then {g} {r} second = go way
         where
-          go : WayOf w file marks k (x .coeff) (treeAt file x) b → Done g r
+          go : Here → Done a d g r
           go (ends f q) = false-true (sym f ∙ found)
           go (goes f m s small q) = false-true (sym m ∙ masked)
           go (masks h m s small c v q l) =

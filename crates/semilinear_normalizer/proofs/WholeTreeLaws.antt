@@ -119,20 +119,20 @@ module _ (w : ℕ) (t : List ℕ) (h : IsBytes t) (ok : treeRefusal w t ≡ 0) w
         ∙ ap₂ (joinCollected w) nil (ap (λ (s : List ℕ). collectTerms w 1 (decode s)) whole-span)
         ∙ from-nothing w hw (collectTerms w 1 (decode t)) (collect-good w hw (decode t) (accept-expr w t h ok) 1 one)
 
+    outcome-of : {x : Collected} → collectedIn t after r ≡ x → normalizeTree w (decode t) ≡ collectedOutcome w x
+    outcome-of e = tree-collected w (decode t) plain ∙ ap (collectedOutcome w) (sym collected-whole ∙ e)
+
     pub gives-eight : r .linear ≡ false → {n : ℕ} → n ≡ 57360 → (a : Answer) {e : List ℕ}
         → GivesForm (refused 8) n a e → GivesForm (normalizeTree w (decode t)) 57360 a e
     unfolding collectedOutcome
     gives-eight lin en a {e} g =
-        gives-same
-        (tree-collected w (decode t) plain ∙ ap (collectedOutcome w) (sym collected-whole ∙ collected-nonlinear t after r lin)) 57360 a e
-        (rw en at g)
+        gives-same (outcome-of (collected-nonlinear t after r lin)) 57360 a e (rw en at g)
 
     pub gives-collected : r .linear ≡ true → (a : Answer) {e : List ℕ}
         → GivesForm (collectedOutcome w (linear (r .constant) (spotsIn t after (r .count)))) 57360 a e
         → GivesForm (normalizeTree w (decode t)) 57360 a e
     gives-collected lin a {e} g =
-        gives-same (tree-collected w (decode t) plain ∙ ap (collectedOutcome w) (sym collected-whole ∙ collected-linear t after r lin)) 57360 a
-        e g
+        gives-same (outcome-of (collected-linear t after r lin)) 57360 a e g
 
     pub spots-whole : SpotsOk w t after (r .count)
     spots-whole = all .spots (λ i l. absurd (omega (arith, ap (λ (x : Descent). x .count) start)))
