@@ -17,8 +17,9 @@ use Rattle.semilinear_normalizer.specs.declared.side.Spot.{Spot}
 use Rattle.semilinear_normalizer.specs.declared.collect.Descent.{Descent}
 use Rattle.semilinear_normalizer.specs.declared.side.Side.{Side}
 use Rattle.semilinear_normalizer.specs.Collect.{Collected, linear, joinCollected, collectTerms}
-use Rattle.semilinear_normalizer.specs.Spots.{spanOf, Collects, Ready, treeAt, AtSpot, sideTree, isBinary, leftOf}
-use Rattle.semilinear_normalizer.specs.Spots.{rightOf, leftSide, rightSide}
+use Rattle.semilinear_normalizer.specs.Spots.{spanOf, Collects, Ready}
+use Rattle.semilinear_normalizer.specs.Sides.{treeAt, AtSpot, sideTree, isBinary, leftOf, rightOf, leftSide}
+use Rattle.semilinear_normalizer.specs.Sides.{rightSide}
 use Rattle.semilinear_normalizer.proofs.SpanOfLaws.{binary-two}
 use Rattle.semilinear_normalizer.proofs.SideLaws.{left-side, right-side, left-side-tree, right-side-tree}
 use Rattle.semilinear_normalizer.proofs.SideLaws.{left-size, left-sized, split, sides-size, spot-marks}

@@ -13,8 +13,8 @@ use Rattle.expr.specs.Value.{value}
 use Rattle.expr.proofs.ValueLaws.{value-lt}
 use Rattle.semilinear_normalizer.specs.declared.side.Side.{Side}
 use Rattle.semilinear_normalizer.specs.Collect.{collectAtom, isNot, operand, collectNot, collectAnd}
-use Rattle.semilinear_normalizer.specs.Spots.{SideAt, sideTree, SideOf, neither, at-right, at-left, isBinary}
-use Rattle.semilinear_normalizer.specs.Spots.{leftOf, rightOf, IsAnd}
+use Rattle.semilinear_normalizer.specs.Sides.{SideAt, sideTree, SideOf, neither, at-right, at-left, isBinary}
+use Rattle.semilinear_normalizer.specs.Sides.{leftOf, rightOf, IsAnd}
 use Rattle.semilinear_normalizer.proofs.AndLaws.{and-not-left, and-not-right, and-plain-left, and-plain-right}
 use Rattle.semilinear_normalizer.proofs.AndLaws.{and-both}
 

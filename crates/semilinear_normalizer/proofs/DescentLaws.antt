@@ -10,7 +10,8 @@ use Rattle.semilinear_normalizer.specs.declared.side.Spot.{Spot}
 use Rattle.semilinear_normalizer.specs.declared.collect.Descent.{Descent}
 use Rattle.semilinear_normalizer.specs.declared.side.Side.{Side}
 use Rattle.semilinear_normalizer.specs.Marks.{marksOf}
-use Rattle.semilinear_normalizer.specs.Spots.{spanOf, Ready, treeAt, AtSpot, SideAt, sideTree}
+use Rattle.semilinear_normalizer.specs.Spots.{spanOf, Ready}
+use Rattle.semilinear_normalizer.specs.Sides.{treeAt, AtSpot, SideAt, sideTree}
 use Rattle.semilinear_normalizer.proofs.SpanOfLaws.{size-sized, span-sized}
 use Rattle.semilinear_normalizer.proofs.CollectsLaws.{ready-less}
 

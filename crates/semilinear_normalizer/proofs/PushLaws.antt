@@ -16,7 +16,8 @@ use Rattle.record.specs.Decode.{decode}
 use Rattle.expr.specs.Utils.{hasVarDep}
 use Rattle.semilinear_normalizer.specs.declared.collect.Descent.{Descent}
 use Rattle.semilinear_normalizer.specs.Collect.{linear, collectAtom, collectNot, collectAnd, andCoeff}
-use Rattle.semilinear_normalizer.specs.Spots.{spanOf, spotTree, Accepted, Collects, Pushed, Ready, collectLiteral}
+use Rattle.semilinear_normalizer.specs.Spots.{spanOf, spotTree, Accepted, Collects, Pushed, Ready}
+use Rattle.semilinear_normalizer.specs.Sides.{collectLiteral}
 use Rattle.semilinear_normalizer.proofs.JoinLaws.{mod-add-zero}
 use Rattle.semilinear_normalizer.proofs.AndLaws.{literal-not, literal-atom, and-zero}
 use Rattle.semilinear_normalizer.proofs.InnerLaws.{not-inner, not-root, not-operand, other-root}

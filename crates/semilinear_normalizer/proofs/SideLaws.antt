@@ -19,8 +19,8 @@ use Rattle.expr.specs.Value.{value}
 use Rattle.semilinear_normalizer.specs.declared.side.Spot.{Spot}
 use Rattle.semilinear_normalizer.specs.declared.side.Side.{Side}
 use Rattle.semilinear_normalizer.specs.Marks.{marksOf, markOf, markVariable, markArith}
-use Rattle.semilinear_normalizer.specs.Spots.{spanOf, treeAt, AtSpot, SideAt, sideTree, SideOf, isBinary, leftOf}
-use Rattle.semilinear_normalizer.specs.Spots.{rightOf}
+use Rattle.semilinear_normalizer.specs.Spots.{spanOf}
+use Rattle.semilinear_normalizer.specs.Sides.{treeAt, AtSpot, SideAt, sideTree, SideOf, isBinary, leftOf, rightOf}
 use Rattle.semilinear_normalizer.proofs.MarksLaws.{length-marks, left-mark, right-mark, left-marks, right-marks}
 use Rattle.semilinear_normalizer.proofs.MarksLaws.{root-mark, mark-variable, mark-arith}
 use Rattle.semilinear_normalizer.proofs.SpanOfLaws.{size-sized, span-sized, binary-zero, binary-one}

@@ -19,7 +19,8 @@ use Rattle.record.proofs.SizedLaws.{sized-right}
 use Rattle.expr.specs.Refusal.{treeRefusal}
 use Rattle.expr.proofs.RefusalLaws.{accepted-big, accepted-root, accepted-body, accepted-left, accepted-right}
 use Rattle.expr.proofs.RefusalLaws.{sized-accepted}
-use Rattle.semilinear_normalizer.specs.Spots.{spanOf, Accepted, isBinary}
+use Rattle.semilinear_normalizer.specs.Spots.{spanOf, Accepted}
+use Rattle.semilinear_normalizer.specs.Sides.{isBinary}
 use Rattle.semilinear_normalizer.proofs.LeafLaws.{leaf-both}
 use Rattle.semilinear_normalizer.proofs.PartLaws.{length-span, span-span, take-span}
 

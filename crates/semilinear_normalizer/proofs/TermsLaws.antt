@@ -15,7 +15,7 @@ use Rattle.expr.specs.Utils.{hasKind, hasVarDep, isArith, hasArith}
 use Rattle.expr.specs.Value.{value}
 use Rattle.semilinear_normalizer.specs.Collect.{Collected, joinCollected, collectConstant, collectMasked}
 use Rattle.semilinear_normalizer.specs.Collect.{collectTerms, linear}
-use Rattle.semilinear_normalizer.specs.Spots.{collectLiteral, collectWhole}
+use Rattle.semilinear_normalizer.specs.Sides.{collectLiteral, collectWhole}
 use Rattle.semilinear_normalizer.proofs.JoinLaws.{join-assoc}
 
 -- ---- what a root has from its children

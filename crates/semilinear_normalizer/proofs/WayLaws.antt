@@ -24,8 +24,9 @@ use Rattle.semilinear_normalizer.specs.declared.side.Side.{Side}
 use Rattle.semilinear_normalizer.specs.declared.side.Way.{Way}
 use Rattle.semilinear_normalizer.specs.Collect.{joinCollected, collectTerms}
 use Rattle.semilinear_normalizer.specs.Marks.{marksOf}
-use Rattle.semilinear_normalizer.specs.Spots.{spanOf, treeAt, AtSpot, SideAt, SideOf, isBinary, leftOf, rightOf}
-use Rattle.semilinear_normalizer.specs.Spots.{collectLiteral, collectWhole, WayOf}
+use Rattle.semilinear_normalizer.specs.Spots.{spanOf}
+use Rattle.semilinear_normalizer.specs.Sides.{treeAt, AtSpot, SideAt, SideOf, isBinary, leftOf, rightOf}
+use Rattle.semilinear_normalizer.specs.Sides.{collectLiteral, collectWhole, WayOf}
 use Rattle.semilinear_normalizer.proofs.LeafLaws.{leaf-both}
 use Rattle.semilinear_normalizer.proofs.MarksLaws.{body-marks}
 use Rattle.semilinear_normalizer.proofs.SpanOfLaws.{span-kind, body-accepted, tree-leaf, tree-one, binary-zero}

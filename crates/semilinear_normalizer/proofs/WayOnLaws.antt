@@ -13,8 +13,9 @@ use Rattle.semilinear_normalizer.specs.declared.side.Spot.{Spot}
 use Rattle.semilinear_normalizer.specs.declared.collect.Descent.{Descent}
 use Rattle.semilinear_normalizer.specs.declared.side.Way.{Way}
 use Rattle.semilinear_normalizer.specs.Collect.{Collected, linear, joinCollected, collectTerms}
-use Rattle.semilinear_normalizer.specs.Spots.{Accepted, Collects, Ready, treeAt, AtSpot, sideTree, WayOf, ends}
-use Rattle.semilinear_normalizer.specs.Spots.{goes, masks, collectWhole, collectLiteral}
+use Rattle.semilinear_normalizer.specs.Spots.{Accepted, Collects, Ready}
+use Rattle.semilinear_normalizer.specs.Sides.{treeAt, AtSpot, sideTree, WayOf, ends, goes, masks, collectWhole}
+use Rattle.semilinear_normalizer.specs.Sides.{collectLiteral}
 use Rattle.semilinear_normalizer.proofs.SideLaws.{spot-marks, spot-some}
 use Rattle.semilinear_normalizer.proofs.CollectsLaws.{collects-as, collects-more, collects-then, collects-stop}
 use Rattle.semilinear_normalizer.proofs.CollectsLaws.{ready-after, ready-less}

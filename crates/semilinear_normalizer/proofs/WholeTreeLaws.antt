@@ -30,8 +30,8 @@ use Rattle.semilinear_normalizer.specs.declared.side.Spot.{Spot}
 use Rattle.semilinear_normalizer.specs.declared.collect.Descent.{Descent}
 use Rattle.semilinear_normalizer.specs.Collect.{Collected, nonlinear, linear, joinCollected, collectTerms}
 use Rattle.semilinear_normalizer.specs.Marks.{marksOf, Marked}
-use Rattle.semilinear_normalizer.specs.Spots.{spanOf, spotsIn, collectedIn, SpotsOk, Collects, Ready, treeAt}
-use Rattle.semilinear_normalizer.specs.Spots.{AtSpot}
+use Rattle.semilinear_normalizer.specs.Spots.{spanOf, spotsIn, collectedIn, SpotsOk, Collects, Ready}
+use Rattle.semilinear_normalizer.specs.Sides.{treeAt, AtSpot}
 use Rattle.semilinear_normalizer.specs.Normalize.{collectedOutcome, normalizeTree, normalizeToSemilinear}
 use Rattle.semilinear_normalizer.proofs.EmittedLaws.{GoodCollected, collect-good}
 use Rattle.semilinear_normalizer.proofs.NormalizeLaws.{tree-collected, tree-seven, file-tree}

@@ -2,6 +2,7 @@
 pub mod Collect
 pub mod Marks
 pub mod Spots
+pub mod Sides
 pub mod Truth
 pub mod Register
 pub mod Key

@@ -15,9 +15,10 @@ ghost use Rattle.record.specs.Tree.{sizeOf};
 ghost use Rattle.record.specs.Tree.Tree.{Constant};
 ghost use Rattle.expr.specs.Utils.{hasVarDep};
 ghost use Rattle.semilinear_normalizer.specs.Collect.{collectAnd, andCoeff, collectTerms};
-ghost use Rattle.semilinear_normalizer.specs.Spots.{Accepted, Collects, Ready, treeAt};
-ghost use Rattle.semilinear_normalizer.specs.Spots.{AtSpot, sideTree, leftOf, rightOf, IsAnd};
-ghost use Rattle.semilinear_normalizer.specs.Spots.{Pushed, collectWhole, collectLiteral};
+ghost use Rattle.semilinear_normalizer.specs.Spots.{Accepted, Collects, Ready, Pushed};
+ghost use Rattle.semilinear_normalizer.specs.Sides.{treeAt, AtSpot, sideTree, leftOf};
+ghost use Rattle.semilinear_normalizer.specs.Sides.{rightOf, IsAnd, collectWhole};
+ghost use Rattle.semilinear_normalizer.specs.Sides.{collectLiteral};
 
 // A descent on its way: whether all was linear so far, the constant, and how many atoms there are.
 pub struct Descent {

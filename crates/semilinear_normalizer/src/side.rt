@@ -9,9 +9,10 @@ ghost use Rattle.arith.specs.Width.{modNeg};
 ghost use Rattle.record.specs.Fields.{kind};
 ghost use Rattle.record.specs.Span.{left};
 ghost use Rattle.expr.specs.Utils.{hasVarDep};
-ghost use Rattle.semilinear_normalizer.specs.Spots.{spanOf, treeAt, AtSpot, isBinary, leftOf};
-ghost use Rattle.semilinear_normalizer.specs.Spots.{rightOf, leftSide, rightSide, SideOf};
-ghost use Rattle.semilinear_normalizer.specs.Spots.{WayOf};
+ghost use Rattle.semilinear_normalizer.specs.Spots.{spanOf};
+ghost use Rattle.semilinear_normalizer.specs.Sides.{treeAt, AtSpot, isBinary, leftOf};
+ghost use Rattle.semilinear_normalizer.specs.Sides.{rightOf, leftSide, rightSide, SideOf};
+ghost use Rattle.semilinear_normalizer.specs.Sides.{WayOf};
 
 // A coefficient, and the bytes of the file that hold a subtree.
 pub struct Spot {

@@ -1,6 +1,6 @@
 -- `left_side` meets its contract: the record of the definition.
 use mathlib.Core.Path.{refl}
-use Rattle.semilinear_normalizer.specs.Spots.{leftSide}
+use Rattle.semilinear_normalizer.specs.Sides.{leftSide}
 use borrow.Author.Needs.{needs}
 use Rattle.semilinear_normalizer.proofs.side.left_side.Statement.{statement}
 use Rattle.semilinear_normalizer.proofs.side.left_side.Tie as tie

@@ -1,6 +1,6 @@
 -- `right_side` meets its contract: the record of the definition.
 use mathlib.Core.Path.{refl}
-use Rattle.semilinear_normalizer.specs.Spots.{rightSide}
+use Rattle.semilinear_normalizer.specs.Sides.{rightSide}
 use borrow.Author.Needs.{needs}
 use Rattle.semilinear_normalizer.proofs.side.right_side.Statement.{statement}
 use Rattle.semilinear_normalizer.proofs.side.right_side.Tie as tie

@@ -4,7 +4,8 @@ use native.Mathlib.Omega.{arith}
 use borrow.Author.Needs.{needs}
 use borrow.Author.Tests.{not-true, not-false}
 use Rattle.record.proofs.SizedLaws.{sized-big}
-use Rattle.semilinear_normalizer.specs.Spots.{spanOf, SideOf}
+use Rattle.semilinear_normalizer.specs.Spots.{spanOf}
+use Rattle.semilinear_normalizer.specs.Sides.{SideOf}
 use Rattle.semilinear_normalizer.proofs.SpanOfLaws.{span-end}
 use Rattle.semilinear_normalizer.proofs.SideLaws.{left-sized, right-sized, left-size, sides-size, sides-pos}
 use Rattle.semilinear_normalizer.proofs.SideLaws.{left-value, right-value, left-variable, right-variable}
