@@ -124,7 +124,7 @@ valid-compact f e =
       rows-ok = u .rows-ok (v .rows-ok);
     })
 
-length-sum : (w c : ℕ) → length (sumBytes w c) ≡ 16
+pub length-sum : (w c : ℕ) → length (sumBytes w c) ≡ 16
 unfolding sumBytes recordBytes
 length-sum w c = refl
 

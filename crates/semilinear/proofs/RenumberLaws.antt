@@ -60,7 +60,7 @@ pub renumber-end : (w j : ℕ) (q : List ℕ) → isTerm q ≡ false → renumbe
 unfolding renumber renumberF
 renumber-end w j q e = renumberF-enough (length q) (suc (length q)) w j q (le-refl _) (omega arith) ∙ simp e
 
-length-term : (w j c : ℕ) → length (termBytes w j c) ≡ 16
+pub length-term : (w j c : ℕ) → length (termBytes w j c) ≡ 16
 unfolding termBytes recordBytes
 length-term w j c = refl
 

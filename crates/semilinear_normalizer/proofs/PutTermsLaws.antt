@@ -10,13 +10,12 @@ use lib.ListN.{length, getD, length-append}
 use lib.Dec.{eqb}
 use borrow.Author.Tests.{eq-eqb, ne-eqb}
 use Rattle.record.specs.Choice.{when}
-use Rattle.record.specs.Tree.{recordBytes}
 use Rattle.record.specs.Put.{put}
 use Rattle.record.proofs.PutLaws.{length-put, put-then}
 use Rattle.semilinear.specs.declared.compact.Written.{Written}
 use Rattle.semilinear.specs.Form.{Row, termCount, termBytes, termsBytes}
 use Rattle.semilinear.proofs.FormLaws.{length-terms, term-count-le}
-use Rattle.semilinear.proofs.RenumberLaws.{put-none}
+use Rattle.semilinear.proofs.RenumberLaws.{length-term, put-none}
 use Rattle.semilinear_normalizer.specs.Index.{rowAt, rowsIn, rowTerm, rowTerms, TermPut, TermsPut}
 use Rattle.semilinear_normalizer.proofs.IndexLaws.{length-rows-in, rows-in-more}
 
@@ -38,10 +37,6 @@ row-terms-none c e = simp (eq-eqb c 0 e)
 row-terms-some : (c : ℕ) → (c ≡ 0 → ⊥) → rowTerms c ≡ 1
 unfolding rowTerms
 row-terms-some c e = simp (ne-eqb c 0 e)
-
-length-term : (w i c : ℕ) → length (termBytes w i c) ≡ 16
-unfolding termBytes recordBytes
-length-term w i c = refl
 
 module _ (w i c : ℕ) (x : Written) where
   pub term-put-none : c ≡ 0 → (d : List ℕ) → TermPut w i c x d d x

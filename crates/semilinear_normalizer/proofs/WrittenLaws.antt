@@ -6,7 +6,6 @@ use native.Mathlib.Omega.{arith}
 use mathlib.Core.List.{List, [], _++_}
 use mathlib.Core.Bool.{true, false}
 use lib.ListN.{length, length-append}
-use Rattle.record.specs.Tree.{recordBytes}
 use Rattle.record.specs.Put.{put, padded}
 use Rattle.record.proofs.PutLaws.{length-put, put-padded-at}
 use Rattle.semilinear.specs.declared.compact.Written.{Written}
@@ -18,17 +17,13 @@ use Rattle.semilinear.specs.Answers.{GivesForm}
 use Rattle.semilinear.proofs.FormLaws.{length-terms, term-count-le}
 use Rattle.semilinear.proofs.HoldsLaws.{padded-holds, at-holds}
 use Rattle.semilinear.proofs.OutcomeLaws.{gives-form}
-use Rattle.semilinear.proofs.PassLaws.{gives-same}
+use Rattle.semilinear.proofs.PassLaws.{length-sum, gives-same}
 use Rattle.semilinear_normalizer.specs.Collect.{Emitted, linear}
 use Rattle.semilinear_normalizer.specs.Register.{registerAll}
 use Rattle.semilinear_normalizer.specs.Index.{rowsIn, Indexed, Registers, TermsPut}
 use Rattle.semilinear_normalizer.specs.Normalize.{collectedForm, collectedOutcome}
 use Rattle.semilinear_normalizer.proofs.NormalizeLaws.{collected-nine, collected-form}
 use Rattle.semilinear_normalizer.proofs.IndexLaws.{length-rows-in}
-
-length-sum : (w c : ℕ) → length (sumBytes w c) ≡ 16
-unfolding sumBytes recordBytes
-length-sum w c = refl
 
 module _ (w c : ℕ) (l : List Emitted) where
   module _ {index out : List ℕ} {tab : Table} (reg : Registers w (registerAll w l []) index out tab) where
