@@ -28,7 +28,8 @@ use Rattle.semilinear.proofs.HoldsLaws.{holds-accepted, holds-bare}
 use Rattle.semilinear_normalizer.specs.Register.{detectProvenance, addRow}
 use Rattle.semilinear_normalizer.specs.Spots.{spanOf}
 use Rattle.semilinear_normalizer.specs.Key.{keyOf}
-use Rattle.semilinear_normalizer.specs.Index.{rowAt, rowsIn, EntryOk, Indexed, Registers, emitted, rowOf}
+use Rattle.semilinear_normalizer.specs.Index.{rowAt, rowsIn, EntryOk, Indexed, RoomMore, Registers, emitted}
+use Rattle.semilinear_normalizer.specs.Index.{rowOf}
 use Rattle.semilinear_normalizer.proofs.KeyLaws.{length-key}
 use Rattle.semilinear_normalizer.proofs.IndexLaws.{length-rows-in, rows-in-more, rows-in-same, rows-in-add}
 use Rattle.semilinear_normalizer.proofs.IndexLaws.{entry-kept, entry-later, entry-set-kept}
@@ -60,9 +61,9 @@ made-of w p t tab out h ok f =
     (λ _ g _. record { table-is = refl; bytes-are = refl; within = g })
 
 module _ (w : ℕ) (tab : Table) (index out : List ℕ) (h : Indexed w tab index out) where
-  -- the words of all atoms, and of one more below the limit
+  -- the words of all atoms
   pub index-room : 11 * tab .count ≤ length index
-  index-room = omega (arith, h .holds .placed .atoms-le, h .room)
+  index-room = h .room
 
   pub at-inside : tab .at ≤ length out
   at-inside =
@@ -95,7 +96,7 @@ module _ (w : ℕ) (tab : Table) (index out : List ℕ) (h : Indexed w tab index
 
   -- ---- an atom more
 
-  module _ (c : ℕ) (t : List ℕ) (bytes : IsBytes t) (ok : treeRefusal w t ≡ 0) {p : ℕ}
+  module _ (space : RoomMore tab index) (c : ℕ) (t : List ℕ) (bytes : IsBytes t) (ok : treeRefusal w t ≡ 0) {p : ℕ}
       (hp : p ≡ detectProvenance (decode t)) {r : Table} {wrote : List ℕ}
       (made : storeOf r wrote ≡ createAtom w p t (storeOf tab out)) where
     abbrev rows : List Row
@@ -123,7 +124,7 @@ module _ (w : ℕ) (tab : Table) (index out : List ℕ) (h : Indexed w tab index
         → 11 * tab .count + 4 + length key ≤ length index
     room-more left hk =
         let few = fits-more-parts tab t (made-here left .within) .0 in
-        omega (arith, few, h .room, ap length hk ∙ length-key (decode t))
+        omega (arith, space few, ap length hk ∙ length-key (decode t))
 
     -- the words of an atom more
     module _ (left : r .full ≡ false) {hash : ℕ} (hh : hash ≡ structuralHash (decode t)) {key : List ℕ}
@@ -197,13 +198,14 @@ module _ (w : ℕ) (tab : Table) (index out : List ℕ) (h : Indexed w tab index
               (entry-kept index out after wrote n (tab .at) words-before bytes-before w j k (h .entries j k))
           go (no k) = let e : j ≡ n = omega (arith, count-is) in rw e entry-last
 
-      room-after : 2816 ≤ length after
+      room-after : 11 * r .count ≤ length after
       unfolding entryWords
       room-after =
           omega (
             arith,
             length-put index (11 * n) (entryWords c hash (tab .at + 16) (r .at) key) (omega (arith, seven, room-words)),
-            h .room,
+            count-is,
+            room-words,
           )
 
       pub registers-more : {words : List ℕ} → words ≡ after → Registers w longer words wrote r

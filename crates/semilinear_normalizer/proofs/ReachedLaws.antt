@@ -1,7 +1,7 @@
 -- All atoms registered one by one (specs/Register.antt, specs/Index.antt): what holds after the first i spots, and that
 -- a table that is full before the end is so with all spots too.
 use mathlib.Core.Path.{_≡_, refl, ap, sym, _∙_}
-use Prim.Native.Nat.{ℕ, _+_, _*_, _≤_, _<_}
+use Prim.Native.Nat.{ℕ, _+_, _*_, _≤_, _<_, min}
 use native.Mathlib.Omega.{arith}
 use mathlib.Core.List.{List, []}
 use mathlib.Core.Bool.{true, false}
@@ -15,21 +15,22 @@ use Rattle.semilinear.proofs.HoldsLaws.{holds-empty}
 use Rattle.semilinear_normalizer.specs.Collect.{Emitted}
 use Rattle.semilinear_normalizer.specs.Register.{registerAtom, registerAll}
 use Rattle.semilinear_normalizer.specs.Spots.{spotAt, spotsIn}
-use Rattle.semilinear_normalizer.specs.Index.{rowsIn, Indexed, Registers, Built, emitted}
-use Rattle.semilinear_normalizer.proofs.RegisteredLaws.{spotRows, spot-rows-more, past-spots}
+use Rattle.semilinear_normalizer.specs.Index.{rowsIn, Indexed, RoomMore, Registers, Built, emitted}
+use Rattle.semilinear_normalizer.proofs.RegisteredLaws.{spotRows, spot-rows-more, spot-rows-le, past-spots}
+use Rattle.semilinear_normalizer.proofs.IndexLaws.{length-rows-in}
 
 -- the table without atoms, beside a slice of zeros
-indexed-empty : (w : ℕ) (index out : List ℕ) → 2816 ≤ length index → out ≡ padded 57360 []
+indexed-empty : (w : ℕ) (index out : List ℕ) → out ≡ padded 57360 []
     → Indexed w emptyTable index out
 unfolding emptyTable rowsIn
-indexed-empty w index out room e =
+indexed-empty w index out e =
     let len : length out ≡ 57360 = ap length e ∙ length-padded 57360 [] (omega arith) in
     record {
       more = refl;
       holds = holds-empty w out (omega (arith, len));
       clean = e ∙ ap (λ (k : ℕ). padded k []) (sym len);
       entries = λ j l. absurd (omega arith);
-      room = room;
+      room = omega arith;
     }
 
 -- the tree that was built for a spot, with the spot's coefficient
@@ -46,13 +47,20 @@ pub record Reached (w : ℕ) (file spots : List ℕ) (n i : ℕ) (tab : Table) (
   pub rows-are : rowsIn index out (tab .count) ≡ spotRows w file spots i
 
 module _ (w : ℕ) (file spots : List ℕ) (n : ℕ) where
-  pub reached-start : (index out : List ℕ) → 2816 ≤ length index → out ≡ padded 57360 [] → {tab : Table}
+  pub reached-start : (index out : List ℕ) → out ≡ padded 57360 [] → {tab : Table}
       → tab ≡ emptyTable → Reached w file spots n 0 tab index out
   unfolding emptyTable rowsIn spotsIn registerAll
-  reached-start index out room e f =
-      rw f (record { inside = omega arith; indexed = indexed-empty w index out room e; rows-are = refl })
+  reached-start index out e f =
+      rw f (record { inside = omega arith; indexed = indexed-empty w index out e; rows-are = refl })
 
   module _ (i : ℕ) {tab : Table} {index out : List ℕ} (h : Reached w file spots n i tab index out) where
+    -- an index for n atoms, or for the most, has room for one more
+    pub reached-room : i < n → {len : ℕ} → min 2816 (11 * n) ≤ len → length index ≡ len → RoomMore tab index
+    reached-room l room e few =
+        let le = spot-rows-le w file spots i in
+        let count = length-rows-in index out (tab .count) in
+        omega (arith, le, count, ap length (h .rows-are))
+
     pub registers-end : n ≤ i → Registers w (spotRows w file spots n) index out tab
     registers-end l =
         let e : i ≡ n = omega (arith, h .inside) in

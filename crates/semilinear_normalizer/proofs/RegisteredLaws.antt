@@ -72,6 +72,13 @@ module _ (w : ℕ) (new : Row) where
   length-add-row zero (x ∷ l) = omega arith
   length-add-row (suc j) (x ∷ l) = omega (arith, length-add-row j l)
 
+  -- one row more at most
+  add-row-le : (j : ℕ) (l : List Row) → length (addRow w new j l) ≤ length l + 1
+  unfolding addRow
+  add-row-le j [] = omega arith
+  add-row-le zero (x ∷ l) = omega arith
+  add-row-le (suc j) (x ∷ l) = omega (arith, add-row-le j l)
+
   -- only the coefficient changes
   pub bare-add-row : (j : ℕ) (l : List Row) → j < length l → bareRows l ≡ bareRows (addRow w new j l)
   unfolding addRow bareRows
@@ -84,6 +91,10 @@ module _ (w : ℕ) (new : Row) where
   add-row-last j [] h = refl
   add-row-last zero (x ∷ l) h = absurd (omega arith)
   add-row-last (suc j) (x ∷ l) h = rw (add-row-last j l (omega arith))
+
+register-le : (w : ℕ) (e : Emitted) (l : List Row) → length (registerAtom w e l) ≤ length l + 1
+unfolding registerAtom
+register-le w e l = add-row-le w (rowOf e) (sharedRow w (e .tree) l) l
 
 -- a tree that shares row j, or none
 module _ (w : ℕ) (e : Emitted) (l : List Row) {j : ℕ} (shared : sharedRow w (e .tree) l ≡ j) where
@@ -133,6 +144,15 @@ module _ (w : ℕ) (file spots : List ℕ) where
   pub spot-rows-more : (n : ℕ) → spotRows (n + 1) ≡ registerAtom w (spotAt file spots n) (spotRows n)
   unfolding spotsIn
   spot-rows-more n = rw (add-one n) (register-all-more w (spotAt file spots n) (spotsIn file spots n) [])
+
+  -- at most a row for each spot
+  pub spot-rows-le : (n : ℕ) → length (spotRows n) ≤ n
+  unfolding spotsIn registerAll
+  spot-rows-le zero = omega arith
+  spot-rows-le (suc n) =
+      let more : length (spotRows (suc n)) ≡ length (registerAtom w (spotAt file spots n) (spotRows n)) =
+      ap (λ (k : ℕ). length (spotRows k)) (sym (add-one n)) ∙ ap length (spot-rows-more n) in
+      omega (arith, more, register-le w (spotAt file spots n) (spotRows n), spot-rows-le n)
 
   pub past-spots : (m n : ℕ) → m ≤ n → fitsTable (spotRows m) ≡ false → fitsTable (spotRows n) ≡ false
   past-spots m zero h e = let z : m ≡ 0 = omega arith in rw z at e

@@ -1,7 +1,7 @@
 -- Normalising a whole accepted file (specs/Normalize.antt): the descent from its root with the coefficient 1 collects
 -- what the definition says, and the refusals 7 and 8 are found where they are defined.
 use mathlib.Core.Path.{_≡_, refl, ap, ap₂, sym, _∙_}
-use Prim.Native.Nat.{ℕ, _+_, _*_, _^_, _≤_, _<_}
+use Prim.Native.Nat.{ℕ, _+_, _*_, _^_, _≤_, _<_, min}
 use native.Mathlib.Omega.{arith}
 use native.Mathlib.Nat.{mod-eq-of-lt, zero-add, sub-zero}
 use mathlib.Core.List.{List, []}
@@ -139,6 +139,10 @@ module _ (w : ℕ) (t : List ℕ) (h : IsBytes t) (ok : treeRefusal w t ≡ 0) w
 
     pub count-whole : 5 * size t ≤ length before → 5 * r .count ≤ length after
     count-whole room = omega (arith, all .few, whole-size, all .same-length, ap (λ (x : Descent). x .count) start)
+
+    -- eleven words for each record are as many for each spot
+    pub index-whole : {n : ℕ} → min 2816 (11 * size t) ≤ n → min 2816 (11 * r .count) ≤ n
+    index-whole room = omega (arith, all .few, whole-size, ap (λ (x : Descent). x .count) start)
 
 -- ---- the entry point
 

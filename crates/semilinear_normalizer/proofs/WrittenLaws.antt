@@ -44,7 +44,7 @@ module _ (w c : ℕ) (l : List Emitted) where
           × (tab .at + 16 * tab .count ≤ length out)
       terms-ready =
           let p = indexed .holds .placed in (
-            omega (arith, p .atoms-le, indexed .room),
+            indexed .room,
             p .atoms-le,
             omega (arith, p .atoms-le, p .records-le, p .place, len),
           )

@@ -62,7 +62,11 @@ pub record Indexed (w : ℕ) (tab : Table) (index out : List ℕ) : Type 0 where
   pub holds : Holds w tab out (rowsIn index out (tab .count))
   pub clean : Clean tab out
   pub entries : (j : ℕ) → j < tab .count → EntryOk w index out (tab .at) j
-  pub room : 2816 ≤ length index
+  pub room : 11 * tab .count ≤ length index
+
+-- the index has room for the words of an atom more, unless the table has the most atoms
+abbrev pub RoomMore : Table → List ℕ → Type 0
+RoomMore tab index = tab .count < 256 → 11 * tab .count + 11 ≤ length index
 
 -- a step from one table to another makes the rows of it; where it is full, they pass a limit
 pub record Registers (w : ℕ) (rows : List Row) (index out : List ℕ) (r : Table) : Type 0 where

@@ -6,7 +6,7 @@ use semilinear::compact::Written;
 use semilinear::outcome::Answer;
 use semilinear::outcome::{self};
 ghost use mathlib.Core.Path.{_≡_};
-ghost use Prim.Native.Nat.{_+_, _*_, _<_, _≤_};
+ghost use Prim.Native.Nat.{_+_, _*_, _<_, _≤_, min};
 ghost use lib.ListN.{length};
 ghost use Rattle.semilinear.specs.Answers.{GivesForm};
 ghost use Rattle.semilinear_normalizer.specs.Collect.{linear};
@@ -60,7 +60,7 @@ pub fn write_form(
     requires { ⌜ SpotsOk w (now file) (now spots) (found .count)
         × (5 * found .count ≤ length (now spots))
         × (length (now file) + 32 ≤ length (now tree)) × (length (now file) ≤ 1048000)
-        × (2816 ≤ length (now index)) × (length (now out) ≡ 57360) ⌝ }
+        × (min 2816 (11 * found .count) ≤ length (now index)) × (length (now out) ≡ 57360) ⌝ }
     ensures { λ r. ⌜ GivesForm (collectedOutcome w (linear (found .constant)
         (spotsIn (now (file .entry)) (now (spots .entry)) (found .count))))
         57360 r (now (out .exit)) ⌝ }

@@ -14,7 +14,7 @@ use crate::side::Spot;
 use semilinear::outcome::Answer;
 use semilinear::outcome::{self};
 ghost use mathlib.Core.Path.{_≡_};
-ghost use Prim.Native.Nat.{_+_, _*_, _≤_};
+ghost use Prim.Native.Nat.{_+_, _*_, _≤_, min};
 ghost use lib.ListN.{length};
 ghost use Rattle.record.specs.Fields.{size};
 ghost use Rattle.record.specs.Decode.{decode};
@@ -24,7 +24,7 @@ ghost use Rattle.semilinear_normalizer.specs.Normalize.{normalizeTree, n
 
 // The form of the accepted expression t, written to a slice of 57,360 bytes; or 7, 8 or 9. All
 // room to work in is lent: a mark and five words for each record, a tree's bytes, and eleven words
-// for each atom.
+// for each atom, of which there are at most 256 and at most one for each record.
 pub fn normalize_tree(
     t: &[u8],
     w: u8,
@@ -36,7 +36,8 @@ pub fn normalize_tree(
 ) -> Answer
     requires { ⌜ (treeRefusal w (now t) ≡ 0) × (size (now t) ≤ length (now marks))
         × (5 * size (now t) ≤ length (now spots)) × (length (now t) + 32 ≤ length (now tree))
-        × (length (now t) ≤ 1048000) × (2816 ≤ length (now index)) × (length (now out) ≡ 57360) ⌝ }
+        × (length (now t) ≤ 1048000) × (min 2816 (11 * size (now t)) ≤ length (now index))
+        × (length (now out) ≡ 57360) ⌝ }
     ensures { λ r. ⌜ GivesForm (normalizeTree w (decode (now (t .entry)))) 57360 r
         (now (out .exit)) ⌝ }
 {
@@ -68,7 +69,7 @@ fn normalize_short(t: &[u8], w: u8, out: &mut [u8]) -> Answer
     let mut marks = [0u8; 64];
     let mut spots = [0u64; 320];
     let mut tree = [0u8; 1056];
-    let mut index = [0u64; 2816];
+    let mut index = [0u64; 704];
     normalize_tree(t, w, &mut marks, &mut spots, &mut tree, &mut index, out)
 }
 

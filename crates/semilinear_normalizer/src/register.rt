@@ -7,7 +7,7 @@ use semilinear::table::Table;
 ghost use mathlib.Core.Path.{_≡_};
 ghost use mathlib.Core.Bool.{true, _||_};
 ghost use mathlib.Core.List.{[], _∷_, _++_};
-ghost use Prim.Native.Nat.{_+_, _*_, _^_, _<_, _≤_};
+ghost use Prim.Native.Nat.{_+_, _*_, _^_, _<_, _≤_, min};
 ghost use lib.ListN.{length, getD, set};
 ghost use lib.Dec.{eqb};
 ghost use Rattle.arith.specs.Width.{modAdd};
@@ -21,8 +21,8 @@ ghost use Rattle.semilinear_normalizer.specs.Register.{registerAtom, reg
 ghost use Rattle.semilinear_normalizer.specs.Spots.{Accepted, SpotsOk, spotTree, spotAt};
 ghost use Rattle.semilinear_normalizer.specs.Spots.{spotsIn};
 ghost use Rattle.semilinear_normalizer.specs.Key.{keyOf};
-ghost use Rattle.semilinear_normalizer.specs.Index.{Indexed, Registers, Built, rowsIn};
-ghost use Rattle.semilinear_normalizer.specs.Index.{emitted, rowOf, joinProvenance};
+ghost use Rattle.semilinear_normalizer.specs.Index.{Indexed, RoomMore, Registers, Built};
+ghost use Rattle.semilinear_normalizer.specs.Index.{rowsIn, emitted, rowOf, joinProvenance};
 
 // Whether a child of family x belongs to the family f or is Mixed.
 fn in_family(f: u8, x: u8) -> bool
@@ -146,7 +146,8 @@ fn append_atom(
     out: &mut [u8],
 ) -> Table
     requires { ⌜ Indexed w table (now index) (now out) × (treeRefusal w (now t) ≡ 0)
-        × (hash ≡ structuralHash (decode (now t))) × (now key ≡ keyOf (decode (now t))) ⌝ }
+        × (hash ≡ structuralHash (decode (now t))) × (now key ≡ keyOf (decode (now t)))
+        × RoomMore table (now index) ⌝ }
     ensures { λ r. ⌜ Registers w (rowsIn (now (index .entry)) (now (out .entry)) (table .count)
         ++ (rowOf (emitted c (now (t .entry))) ∷ [])) (now (index .exit)) (now (out .exit)) r ⌝ }
 {
@@ -163,7 +164,8 @@ fn append_atom(
 
 // One atom: the tree t with the coefficient c. Corresponds to `register_atom`.
 fn register_atom(table: Table, c: u64, t: &[u8], w: u8, index: &mut [u64], out: &mut [u8]) -> Table
-    requires { ⌜ Indexed w table (now index) (now out) × (treeRefusal w (now t) ≡ 0) ⌝ }
+    requires { ⌜ Indexed w table (now index) (now out) × (treeRefusal w (now t) ≡ 0)
+        × RoomMore table (now index) ⌝ }
     ensures { λ r. ⌜ Registers w (registerAtom w (emitted c (now (t .entry)))
         (rowsIn (now (index .entry)) (now (out .entry)) (table .count)))
         (now (index .exit)) (now (out .exit)) r ⌝ }
@@ -196,7 +198,7 @@ pub fn register_all(
 ) -> Table
     requires { ⌜ SpotsOk w (now file) (now spots) n × (5 * n ≤ length (now spots))
         × (length (now file) + 32 ≤ length (now tree)) × (length (now file) ≤ 1048000)
-        × (2816 ≤ length (now index)) × (now out ≡ padded 57360 []) ⌝ }
+        × (min 2816 (11 * n) ≤ length (now index)) × (now out ≡ padded 57360 []) ⌝ }
     ensures { λ r. ⌜ Registers w
         (registerAll w (spotsIn (now (file .entry)) (now (spots .entry)) n) [])
         (now (index .exit)) (now (out .exit)) r ⌝ }

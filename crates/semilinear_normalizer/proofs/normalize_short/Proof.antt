@@ -26,7 +26,7 @@ normalize-tree-requires c κs =
       omega (arith, room),
       omega (arith, at-start .pre .1),
       omega (arith, at-start .pre .1),
-      omega arith,
+      omega (arith, room),
       at-start .pre .2,
     )
 

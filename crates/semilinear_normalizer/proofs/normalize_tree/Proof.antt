@@ -6,6 +6,7 @@ use lib.Seq.{length-take-le}
 use Rattle.expr.proofs.RefusalLaws.{accepted-big, sized-accepted}
 use Rattle.semilinear_normalizer.proofs.WholeTreeLaws.{refused-is, whole-at, whole-ready, gives-seven}
 use Rattle.semilinear_normalizer.proofs.WholeTreeLaws.{gives-eight, gives-collected, spots-whole, count-whole}
+use Rattle.semilinear_normalizer.proofs.WholeTreeLaws.{index-whole}
 use borrow.Author.Needs.{needs}
 use Rattle.semilinear_normalizer.proofs.normalize_tree.Statement.{statement}
 use Rattle.semilinear_normalizer.proofs.normalize_tree.Tie as tie
@@ -108,7 +109,8 @@ write-form-requires c κs =
           (at-all .collect-terms .ensures) (at-start .pre .2),
       at-start .pre .3,
       at-start .pre .4,
-      at-start .pre .5,
+      index-whole _ _ (λ i. at-known .shared-slice-known .given i .fits) (at-start .pre .0) plain nothing
+          (at-all .collect-terms .ensures) (at-start .pre .5),
       at-start .pre .6,
     )
 

@@ -29,7 +29,7 @@ returns c =
     let at-start = at-shared-slice-known .before in
     let a = at-start .args in
     let p = at-start .pre in
-    registers-past (a .w) (a .table) (now (a .index)) (now (a .out)) (p .0) (a .c) (now (a .t))
+    registers-past (a .w) (a .table) (now (a .index)) (now (a .out)) (p .0) (p .4) (a .c) (now (a .t))
     (λ i. at-shared-slice-known .shared-slice-known .given i .fits) (p .1)
     (at-detect-provenance .detect-provenance .ensures) (at-create-atom .create-atom .ensures)
     (c .if1 .taken)
@@ -46,7 +46,7 @@ put-entry-requires c κs =
     let at-start = at-shared-slice-known .before in
     let a = at-start .args in
     let p = at-start .pre in
-    room-more (a .w) (a .table) (now (a .index)) (now (a .out)) (p .0) (a .c) (now (a .t))
+    room-more (a .w) (a .table) (now (a .index)) (now (a .out)) (p .0) (p .4) (a .c) (now (a .t))
     (λ i. at-shared-slice-known .shared-slice-known .given i .fits) (p .1)
     (at-detect-provenance .detect-provenance .ensures) (at-create-atom .create-atom .ensures)
     (at-if1 .if1 .left) (p .3)
@@ -68,7 +68,7 @@ returns-2 c =
     let at-start = at-shared-slice-known .before in
     let a = at-start .args in
     let p = at-start .pre in
-    registers-more (a .w) (a .table) (now (a .index)) (now (a .out)) (p .0) (a .c) (now (a .t))
+    registers-more (a .w) (a .table) (now (a .index)) (now (a .out)) (p .0) (p .4) (a .c) (now (a .t))
     (λ i. at-shared-slice-known .shared-slice-known .given i .fits) (p .1)
     (at-detect-provenance .detect-provenance .ensures) (at-create-atom .create-atom .ensures)
     (at-if1 .if1 .left) (p .2) (p .3) (at-put-entry .put-entry .ensures)

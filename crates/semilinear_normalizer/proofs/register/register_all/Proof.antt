@@ -7,7 +7,7 @@ use mathlib.Core.Path.{_≡_, refl, sym}
 use lib.ListN.{length}
 use lib.Seq.{length-take-le}
 use Rattle.semilinear_normalizer.proofs.ReachedLaws.{Reached, reached-start, emitted-spot, reached-next}
-use Rattle.semilinear_normalizer.proofs.ReachedLaws.{registers-full, registers-end}
+use Rattle.semilinear_normalizer.proofs.ReachedLaws.{reached-room, registers-full, registers-end}
 use Rattle.semilinear_normalizer.proofs.register.register_all.Statement.{statement}
 use Rattle.semilinear_normalizer.proofs.register.register_all.Tie as tie
 
@@ -27,7 +27,7 @@ loop-holds c =
     let at-start = c .before .before .before .before .before .before in
     let a = at-start .args in
     let p = at-start .pre in (
-      reached-start (a .w) (now (a .file)) (now (a .spots)) (a .n) (now (a .index)) (now (a .out)) (p .4) (p .5)
+      reached-start (a .w) (now (a .file)) (now (a .spots)) (a .n) (now (a .index)) (now (a .out)) (p .5)
           (c .empty .ensures),
       refl,
       refl,
@@ -69,7 +69,12 @@ register-atom-requires : tie.Need-register-atom-requires Inv-loop μ-loop
 register-atom-requires c κs =
     let at-build-tree = c .before .before .before .before .before .before in
     let at-loop = at-build-tree .before .before .before in
-    (at-loop .loop .inv .0 .indexed, at-build-tree .build-tree .ensures .accepted)
+    let at-start = at-loop .before .before .before .before .before .before .before in (
+      at-loop .loop .inv .0 .indexed,
+      at-build-tree .build-tree .ensures .accepted,
+      reached-room _ _ _ _ _ (at-loop .loop .inv .0) (at-build-tree .before .before .loop-test .taken)
+          (at-start .pre .4) (at-loop .loop .inv .2),
+    )
 
 same-length : tie.Need-same-length Inv-loop μ-loop
 same-length c =

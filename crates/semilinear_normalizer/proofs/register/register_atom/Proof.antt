@@ -99,7 +99,8 @@ append-atom-requires c κs =
     let at-key-of = c .before .before .before .before .before .before .before in
     let at-structural-hash = at-key-of .before .before .before .before .before in
     let at-start = at-structural-hash .before .before .before .before in
-    (at-start .pre .0, at-start .pre .1, at-structural-hash .structural-hash .ensures, at-key-of .key-of .ensures)
+    let p = at-start .pre in
+    (p .0, p .1, at-structural-hash .structural-hash .ensures, at-key-of .key-of .ensures, p .2)
 
 same-length-5 : tie.Need-same-length-5
 same-length-5 c = search needs
