@@ -59,7 +59,7 @@ pub fn normalize_tree(
 }
 
 // The same for a file of at most 64 records. A short file pays for short arrays: clearing the long
-// ones would take longer than its normalising.
+// ones would add about as much again.
 fn normalize_short(t: &[u8], w: u8, out: &mut [u8]) -> Answer
     requires { ⌜ (treeRefusal w (now t) ≡ 0) × (length (now t) ≤ 1024)
         × (length (now out) ≡ 57360) ⌝ }
