@@ -66,7 +66,8 @@ fn leaf_value(t: &[u8], vars: &[u64], from: u64, w: u32) -> u64
 // `from + i` is word i.
 pub fn value_from(t: &[u8], vars: &[u64], from: u64, w: u32) -> u64
     requires { ⌜ (sized (now t) ≡ true) × (w ≤ 64) ⌝ }
-    ensures { λ r. ⌜ r ≡ value w (replicate from 0 ++ now (vars .entry)) (decode (now (t .entry))) ⌝ }
+    ensures { λ r. ⌜ r
+        ≡ value w (replicate from 0 ++ now (vars .entry)) (decode (now (t .entry))) ⌝ }
 {
     let children = record::root_arity(t);
     if children == 0 {

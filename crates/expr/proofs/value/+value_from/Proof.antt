@@ -59,10 +59,12 @@ claims t = (
   binary-reads.Learnt,
 )
 
-value-from-root-arity-requires : (t : ℕ) → value-from-lts.Need-root-arity-requires (claims t) (value-from-at t) value-from.Post
+value-from-root-arity-requires : (t : ℕ)
+    → value-from-lts.Need-root-arity-requires (claims t) (value-from-at t) value-from.Post
 value-from-root-arity-requires t c κs = sized-big _ (c .before .before .pre .1 .0)
 
-value-from-leaf-value-requires : (t : ℕ) → value-from-lts.Need-leaf-value-requires (claims t) (value-from-at t) value-from.Post
+value-from-leaf-value-requires : (t : ℕ)
+    → value-from-lts.Need-leaf-value-requires (claims t) (value-from-at t) value-from.Post
 value-from-leaf-value-requires t c κs =
     let at-start = c .before .before .before .before in
     (sized-big _ (at-start .pre .1 .0), at-start .pre .1 .1)
@@ -80,7 +82,8 @@ value-from-kind-requires t c κs = sized-big _ (c .before .before .before .befor
 value-from-body-requires : (t : ℕ) → value-from-lts.Need-body-requires (claims t) (value-from-at t) value-from.Post
 value-from-body-requires t c κs = search needs
 
-value-from-value-from-requires : (t : ℕ) → value-from-lts.Need-value-from-requires (claims t) (value-from-at t) value-from.Post
+value-from-value-from-requires : (t : ℕ)
+    → value-from-lts.Need-value-from-requires (claims t) (value-from-at t) value-from.Post
 value-from-value-from-requires t c κs =
     let at-root-arity = c .before .before .before .before in
     let at-start = at-root-arity .before .before .before in
@@ -112,7 +115,8 @@ value-from-returns-2 t c =
 value-from-left-requires : (t : ℕ) → value-from-lts.Need-left-requires (claims t) (value-from-at t) value-from.Post
 value-from-left-requires t c κs = search needs
 
-value-from-value-from-requires-2 : (t : ℕ) → value-from-lts.Need-value-from-requires-2 (claims t) (value-from-at t) value-from.Post
+value-from-value-from-requires-2 : (t : ℕ)
+    → value-from-lts.Need-value-from-requires-2 (claims t) (value-from-at t) value-from.Post
 value-from-value-from-requires-2 t c κs =
     let at-if1 = c .before .before .before in
     let at-start = at-if1 .before .before .before .before in
@@ -124,7 +128,8 @@ value-from-value-from-requires-2 t c κs =
 value-from-right-requires : (t : ℕ) → value-from-lts.Need-right-requires (claims t) (value-from-at t) value-from.Post
 value-from-right-requires t c κs = search needs
 
-value-from-value-from-requires-3 : (t : ℕ) → value-from-lts.Need-value-from-requires-3 (claims t) (value-from-at t) value-from.Post
+value-from-value-from-requires-3 : (t : ℕ)
+    → value-from-lts.Need-value-from-requires-3 (claims t) (value-from-at t) value-from.Post
 value-from-value-from-requires-3 t c κs =
     let at-if2 = c .before .before .before in
     let at-root-arity = at-if2 .before .before .before in
