@@ -10,7 +10,5 @@ pub mod Value
 pub mod Compact
 pub mod Decompose
 pub mod Basis
-pub mod Loop
-pub mod Group
 pub mod Scan
 pub mod Running

@@ -8,7 +8,7 @@ use Rattle.record.specs.Fields.{kind, varIndex, literal}
 use Rattle.record.specs.Tree.{Tree}
 use Rattle.record.specs.Tree.Tree.{Constant, Variable}
 use Rattle.record.specs.Decode.{leaf}
-use Rattle.semilinear.proofs.SearchLaws.{when-both}
+use Rattle.record.proofs.LoopLaws.{when-both}
 
 -- what holds of a literal and of a variable holds of it
 pub leaf-both : (P : Tree → Type 0) (s : List ℕ) → P (Constant (literal s)) → P (Variable (varIndex s)) → P (leaf s)

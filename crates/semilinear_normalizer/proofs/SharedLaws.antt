@@ -19,7 +19,7 @@ use Rattle.expr.specs.Vars.{sameVars}
 use Rattle.expr.specs.Hash.{structuralHash}
 use Rattle.expr.proofs.AcceptLaws.{accept-encode}
 use Rattle.semilinear.specs.Form.{Row, eqTree}
-use Rattle.semilinear.specs.Loop.{firstF, firstIn}
+use Rattle.record.specs.Loop.{firstF, firstIn}
 use Rattle.semilinear_normalizer.specs.Register.{isPure, sameTable, sameSlot, newestRow, firstRow, hasTree}
 use Rattle.semilinear_normalizer.specs.Register.{sharedRow}
 use Rattle.semilinear_normalizer.specs.Spots.{spanOf}

@@ -18,16 +18,16 @@ use Rattle.arith.proofs.WidthLaws.{mod-add-eqm}
 use Rattle.record.specs.Tree.{Tree}
 use Rattle.record.proofs.SizedLaws.{and-true}
 use Rattle.expr.specs.Value.{value}
-use Rattle.semilinear.specs.declared.group.Group.{Group}
+use Rattle.group.specs.declared.Group.{Group}
 use Rattle.semilinear.specs.Form.{Row, isAtomTree}
-use Rattle.semilinear.specs.Group.{Entry, at, isLive, consumed, Work, createMasked}
-use Rattle.semilinear.proofs.TotalLaws.{worth, worth-live, worth-consumed, live-mark}
-use Rattle.semilinear.proofs.WorkLaws.{grown-trans, length-masked}
-use Rattle.semilinear.proofs.SearchLaws.{first-from, first-true}
-use Rattle.semilinear.proofs.SearchLaws.{when-both}
-use Rattle.term_refiner.specs.Steps.{remasked}
-use Rattle.term_refiner.specs.Collapse.{thirdFits, findThird, secondFits, findSecond, firstFits, findFirst}
-use Rattle.term_refiner.specs.Collapse.{collapseAt, threeTermCollapse}
+use Rattle.group.specs.Group.{Entry, at, isLive, consumed, Work, createMasked}
+use Rattle.group.proofs.TotalLaws.{worth, worth-live, worth-consumed, live-mark}
+use Rattle.group.proofs.WorkLaws.{grown-trans, length-masked}
+use Rattle.record.proofs.LoopLaws.{first-from, first-true}
+use Rattle.record.proofs.LoopLaws.{when-both}
+use Rattle.group.specs.Steps.{remasked}
+use Rattle.group.specs.Collapse.{thirdFits, findThird, secondFits, findSecond, firstFits, findFirst}
+use Rattle.group.specs.Collapse.{collapseAt, threeTermCollapse}
 use Rattle.term_refiner.proofs.KeptLaws.{Fits, Kept, fits-grown, fits-fresh, kept-three}
 use Rattle.term_refiner.proofs.StepsLaws.{consumed-any, grown-mask, live-fits}
 
