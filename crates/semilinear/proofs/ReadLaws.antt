@@ -5,7 +5,7 @@ use Prim.Native.Nat.{ℕ, _≤_}
 use native.Mathlib.Omega.{arith}
 use mathlib.Core.List.{List, []}
 use mathlib.Core.Bool.{Bool, true, false, not}
-use lib.ListN.{length, replicate}
+use lib.ListN.{length, replicate, length-replicate}
 use lib.Dec.{eqb}
 use borrow.Author.Tests.{eq-eqb, ne-eqb, eqb-true, not-false}
 use Rattle.record.specs.Choice.{when}
@@ -23,21 +23,21 @@ use Rattle.semilinear.proofs.PassLaws.{length-le}
 
 module _ (whole : ℕ) (s : List ℕ) (len : ℕ) where
   pub open-length : lengthRefused s ≡ true → 1 ≡ refusalOf (openOutcome whole s len)
-  unfolding refusalOf
+  unfolding openOutcome refusalOf
   open-length e = simp e
 
   pub open-slice : lengthRefused s ≡ false → (len ≡ whole → ⊥) → 2 ≡ refusalOf (openOutcome whole s len)
-  unfolding refusalOf
+  unfolding openOutcome refusalOf
   open-slice e n = simp (e, ne-eqb len whole n)
 
   pub open-form : lengthRefused s ≡ false → len ≡ whole → isSemilinear s ≡ false
       → 10 ≡ refusalOf (openOutcome whole s len)
-  unfolding refusalOf
+  unfolding openOutcome refusalOf
   open-form e n z = simp (e, eq-eqb len whole n, z)
 
   pub open-none : lengthRefused s ≡ false → len ≡ whole → isSemilinear s ≡ true
       → 0 ≡ refusalOf (openOutcome whole s len)
-  unfolding refusalOf
+  unfolding openOutcome refusalOf
   open-none e n z = simp (e, eq-eqb len whole n, z)
 
 -- ---- what a call gives behind it
@@ -57,7 +57,7 @@ module _ (given : Form → Outcome) (whole : ℕ) (s : List ℕ) (len : ℕ) whe
         → refusalOf (openOutcome whole s len) ≡ n → Read
 
   pub read-cases : Read
-  unfolding refusalOf
+  unfolding openOutcome refusalOf
   read-cases = by-length (lengthRefused s) refl
     where
       by-form : lengthRefused s ≡ false → eqb len whole ≡ true → (c : Bool) → isSemilinear s ≡ c → Read
@@ -94,7 +94,7 @@ module _ (given : Form → Outcome) (whole : ℕ) (s : List ℕ) (len : ℕ) whe
 
 -- both ways the slice is all zeros
 written-open : (whole : ℕ) (s : List ℕ) (len n : ℕ) → writtenOf n (openOutcome whole s len) ≡ replicate n 0
-unfolding writtenOf
+unfolding openOutcome writtenOf
 written-open whole s len n = go (lengthRefused s) (eqb len whole) (isSemilinear s)
   where
     none : Outcome
@@ -108,9 +108,16 @@ written-open whole s len n = go (lengthRefused s) (eqb len whole) (isSemilinear 
     go false true false = refl
     go false true true = sym (padded-nil n)
 
-pub gives-open : (whole : ℕ) (s : List ℕ) (len r : ℕ) (out : List ℕ) → r ≡ refusalOf (openOutcome whole s len)
-    → out ≡ replicate len 0 → Gives (openOutcome whole s len) len r [] out
-gives-open whole s len r out e z = record { number = e; beside = refl; written = z ∙ sym (written-open whole s len len) }
+pub gives-open : (whole : ℕ) (s : List ℕ) (len r : ℕ) (out : List ℕ)
+    → r ≡ refusalOf (openOutcome whole s (length out)) → out ≡ replicate len 0
+    → Gives (openOutcome whole s len) len r [] out
+gives-open whole s len r out e z =
+    let n : length out ≡ len = ap length z ∙ length-replicate len 0 in
+    record {
+      number = e ∙ ap (λ (k : ℕ). refusalOf (openOutcome whole s k)) n;
+      beside = refl;
+      written = z ∙ sym (written-open whole s len len);
+    }
 
 pub open-zeros : (whole : ℕ) (s : List ℕ) (len r : ℕ) (out : List ℕ) → Gives (openOutcome whole s len) len r [] out
     → out ≡ replicate len 0

@@ -31,7 +31,7 @@ readOutcome whole given s len =
     (λ _. when (isSemilinear s) (λ _. given (readForm s)) (λ _. refused 10)))
 
 -- its refusals alone: an accepted call has written nothing yet
-abbrev pub openOutcome : ℕ → List ℕ → ℕ → Outcome
+unfoldable pub openOutcome : ℕ → List ℕ → ℕ → Outcome
 openOutcome whole = readOutcome whole (λ f. accepted [] [])
 
 -- a pass: the result slice has 57,360 bytes

@@ -1,10 +1,8 @@
+-- `open_bytes` meets its contract: the bytes are cleared, and the refusal is that of the front door.
 use borrow.Author.Needs.{needs}
+use Rattle.semilinear.proofs.ReadLaws.{gives-open}
 use Rattle.semilinear.proofs.read.open_bytes.Statement.{statement}
 use Rattle.semilinear.proofs.read.open_bytes.Tie as tie
-use Rattle.semilinear.proofs.read.open_bytes.Reads as reads
-use Rattle.semilinear.proofs.read.open_bytes.Lts as lts
-use Rattle.record.proofs.write.clear.Reads as clear-reads
-use Rattle.semilinear.proofs.read.read_refusal.Reads as read-refusal-reads
 
 clear-requires : tie.Need-clear-requires
 clear-requires c κs = search needs
@@ -16,7 +14,7 @@ same-length : tie.Need-same-length
 same-length c = search needs
 
 returns : tie.Need-returns
-returns c = ?
+returns c = gives-open _ _ _ _ _ (c .read-refusal .ensures) (c .before .before .before .clear .ensures)
 
 pub open-bytes-spec : {M : Type 1} → statement M
 open-bytes-spec = tie.close (tie.spec clear-requires read-refusal-requires same-length returns)
