@@ -1,5 +1,5 @@
 -- The Rust's truth tables have a word of w bits for each row (semilinear.rs 109-161). For trees without literal and Shr
--- they are equal exactly when the tables of specs/Truth.antt at place 0 are.
+-- they are equal exactly when the tables of specs/Truth.antt at width 1 and place 0 are.
 use mathlib.Core.Path.{_≡_, refl, ap, sym, _∙_}
 use Prim.Native.Nat.{ℕ, zero, suc, _^_, _≤_, _<_}
 use native.Mathlib.Omega.{arith}
@@ -17,11 +17,12 @@ use Rattle.expr.specs.Utils.{hasArith}
 use Rattle.expr.specs.Value.{value}
 use Rattle.expr.specs.Vars.{occurs, support, sameVars}
 use Rattle.expr.proofs.IsExprLaws.{occurs-lt}
-use Rattle.semilinear_normalizer.specs.Truth.{bitOf, rowBits, table}
-use Rattle.semilinear_normalizer.specs.Register.{isPure}
-use Rattle.semilinear_normalizer.proofs.BitOfLaws.{Bitwise, bit-value, bit-of-agree}
-use Rattle.semilinear_normalizer.proofs.TruthLaws.{row-bits-lt, table-lt, table-bit, Pure, pure-parts}
-use Rattle.semilinear_normalizer.proofs.TruthLaws.{pure-bitwise, SameTable, same-value}
+use Rattle.truth.specs.Truth.{bitOf, rowBits, table}
+use Rattle.truth.specs.Key.{isPure}
+use Rattle.truth.proofs.BitwiseLaws.{Bitwise}
+use Rattle.truth.proofs.BitOfLaws.{bit-value, bit-of-agree}
+use Rattle.truth.proofs.TruthLaws.{row-bits-lt, table-lt, table-bit, table-place, Pure, pure-parts}
+use Rattle.truth.proofs.TruthLaws.{pure-bitwise, SameTable, same-value}
 
 -- the assignment that gives the n low variables the words b
 unfoldable pub wordsOf : ℕ → (ℕ → ℕ) → List ℕ
@@ -39,11 +40,11 @@ unfoldable pub rowWord : ℕ → List ℕ → ℕ → Tree → ℕ
 rowWord w vs i t = value w (wordsOf 256 (rowBits 0 vs i)) t
 
 module _ (w : ℕ) (vs : List ℕ) (hw : 1 ≤ w) where
-  row-word-bit : (t : Tree) → Bitwise t → (i : ℕ) → bitAt (rowWord w vs i t) 0 ≡ bitOf 0 (rowBits 0 vs i) t
+  row-word-bit : (t : Tree) → Bitwise t → (i : ℕ) → bitAt (rowWord w vs i t) 0 ≡ bitOf w 0 (rowBits 0 vs i) t
   unfolding rowWord
   row-word-bit t b i =
       bit-value w 0 (omega arith) (wordsOf 256 (rowBits 0 vs i)) t b
-      ∙ bit-of-agree 0 (λ v. bitAt (getD (wordsOf 256 (rowBits 0 vs i)) v 0) 0) (rowBits 0 vs i) t same
+      ∙ bit-of-agree w 0 (λ v. bitAt (getD (wordsOf 256 (rowBits 0 vs i)) v 0) 0) (rowBits 0 vs i) t same
     where
       same : (v : ℕ) → occurs v t ≡ true → bitAt (getD (wordsOf 256 (rowBits 0 vs i)) v 0) 0 ≡ rowBits 0 vs i v
       same v o =
@@ -53,21 +54,21 @@ module _ (w : ℕ) (vs : List ℕ) (hw : 1 ≤ w) where
 
   -- equal rows of w-bit words make equal tables at place 0
   word-rows : (t u : Tree) → Bitwise t → Bitwise u → (n : ℕ)
-      → ((i : ℕ) → i < 2 ^ n → rowWord w vs i t ≡ rowWord w vs i u) → table 0 vs n t ≡ table 0 vs n u
+      → ((i : ℕ) → i < 2 ^ n → rowWord w vs i t ≡ rowWord w vs i u) → table w 0 vs n t ≡ table w 0 vs n u
   word-rows t u bt bu n e =
-      bits-below (2 ^ n) (table 0 vs n t) (table 0 vs n u) (table-lt 0 vs t n) (table-lt 0 vs u n)
+      bits-below (2 ^ n) (table w 0 vs n t) (table w 0 vs n u) (table-lt w 0 vs t n) (table-lt w 0 vs u n)
       (λ i h.
-      table-bit 0 vs t n i h
+      table-bit w 0 vs t n i h
       ∙ sym (row-word-bit t bt i)
       ∙ ap (λ (x : ℕ). bitAt x 0) (e i h)
       ∙ row-word-bit u bu i
-      ∙ sym (table-bit 0 vs u n i h))
+      ∙ sym (table-bit w 0 vs u n i h))
 
--- the Rust's tables are equal exactly when those at place 0 are
+-- the Rust's tables are equal exactly when those at width 1 and place 0 are
 pub word-tables : (w : ℕ) → 1 ≤ w → (t u : Tree) → isPure t ≡ true → isPure u ≡ true → sameVars t u ≡ true
     → isExpr t ≡ true → isExpr u ≡ true → hasArith t ≡ false → hasArith u ≡ false
     → ((i : ℕ) → i < 2 ^ length (support t) → rowWord w (support t) i t ≡ rowWord w (support t) i u)
-    ↔ (table 0 (support t) (length (support t)) t ≡ table 0 (support t) (length (support t)) u)
+    ↔ (table 1 0 (support t) (length (support t)) t ≡ table 1 0 (support t) (length (support t)) u)
 unfolding rowWord sameVars
 word-tables w hw t u pt pu s et eu at au = (there, back)
   where
@@ -77,12 +78,21 @@ word-tables w hw t u pt pu s et eu at au = (there, back)
     pure-r : Pure u
     pure-r = pure-parts u pu
 
-    there : ((i : ℕ) → i < 2 ^ length (support t) → rowWord w (support t) i t ≡ rowWord w (support t) i u)
-        → table 0 (support t) (length (support t)) t ≡ table 0 (support t) (length (support t)) u
-    there =
-        word-rows w (support t) hw t u (pure-bitwise t pure-l et at) (pure-bitwise u pure-r eu au) (length (support t))
+    bits-l : Bitwise t
+    bits-l = pure-bitwise t pure-l et at
 
-    back : table 0 (support t) (length (support t)) t ≡ table 0 (support t) (length (support t)) u
+    bits-r : Bitwise u
+    bits-r = pure-bitwise u pure-r eu au
+
+    there : ((i : ℕ) → i < 2 ^ length (support t) → rowWord w (support t) i t ≡ rowWord w (support t) i u)
+        → table 1 0 (support t) (length (support t)) t ≡ table 1 0 (support t) (length (support t)) u
+    there e =
+        let n : ℕ = length (support t) in
+        table-place 1 w 0 0 (omega arith) (omega arith) (support t) n t bits-l (pure-l .no-literal)
+        ∙ word-rows w (support t) hw t u bits-l bits-r n e
+        ∙ table-place w 1 0 0 (omega arith) (omega arith) (support t) n u bits-r (pure-r .no-literal)
+
+    back : table 1 0 (support t) (length (support t)) t ≡ table 1 0 (support t) (length (support t)) u
         → (i : ℕ) → i < 2 ^ length (support t) → rowWord w (support t) i t ≡ rowWord w (support t) i u
     back e i h =
         let same : SameTable t u =
