@@ -12,5 +12,6 @@ pub mod WordsLaws
 pub mod SteppedLaws
 pub mod CutLaws
 pub mod DropLaws
+pub mod NegateLaws
 pub mod PairLaws
 pub mod BucketLaws
