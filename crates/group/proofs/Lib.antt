@@ -15,3 +15,7 @@ pub mod DropLaws
 pub mod NegateLaws
 pub mod PairLaws
 pub mod BucketLaws
+pub mod SearchLaws
+pub mod LinksLaws
+pub mod FindLaws
+pub mod CollapseLaws
