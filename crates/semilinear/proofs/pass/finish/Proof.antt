@@ -32,17 +32,17 @@ put-terms-requires c κs =
 
 put-sum-requires : tie.Need-put-sum-requires
 put-sum-requires c κs =
-    let at-start = c^8 in
-    let more = c^5 .if1 .left in
-    sum-fits _ 0 _ _ false _ _ more (at-start .pre .0 more) (at-start .pre .1) (c^3 .put-terms .ensures)
+    let at-start = c .before .before .before .before .before .before .before .before in
+    let more = c .before .before .before .before .before .if1 .left in
+    sum-fits _ 0 _ _ false _ _ more (at-start .pre .0 more) (at-start .pre .1) (c .before .before .before .put-terms .ensures)
 
 add-t20 : tie.Need-add-t20
 add-t20 c =
-    let at-start = c^11 in
-    let more = c^8 .if1 .left in
+    let at-start = c .before .before .before .before .before .before .before .before .before .before .before in
+    let more = c .before .before .before .before .before .before .before .before .if1 .left in
     omega (
       arith,
-      sum-end _ 0 _ _ false _ _ more (at-start .pre .0 more) (at-start .pre .1) (c^6 .put-terms .ensures),
+      sum-end _ 0 _ _ false _ _ more (at-start .pre .0 more) (at-start .pre .1) (c .before .before .before .before .before .before .put-terms .ensures),
     )
 
 same-length-2 : tie.Need-same-length-2
@@ -50,9 +50,9 @@ same-length-2 c = search needs
 
 returns-2 : tie.Need-returns-2
 returns-2 c =
-    let at-start = c^11 in
-    let more = c^8 .if1 .left in
-    finished-form _ _ _ _ _ _ _ more (at-start .pre .0 more) (at-start .pre .1) (c^6 .put-terms .ensures)
+    let at-start = c .before .before .before .before .before .before .before .before .before .before .before in
+    let more = c .before .before .before .before .before .before .before .before .if1 .left in
+    finished-form _ _ _ _ _ _ _ more (at-start .pre .0 more) (at-start .pre .1) (c .before .before .before .before .before .before .put-terms .ensures)
     (c .before .before .put-sum .ensures)
 
 pub finish-spec : {M : Type 1} → statement M
