@@ -1,0 +1,60 @@
+-- `write_form` meets its contract: the table, then its terms and the sum record, or 9 where it is full.
+use mathlib.Core.Path.{ap, _∙_}
+use Prim.Native.Nat.{ℕ}
+use native.Mathlib.Omega.{arith}
+use lib.ListN.{replicate}
+use Rattle.record.proofs.PutLaws.{padded-nil}
+use Rattle.semilinear_normalizer.proofs.WrittenLaws.{table-placed, index-room, gives-collected}
+use borrow.Author.Needs.{needs}
+use Rattle.semilinear_normalizer.proofs.form.write_form.Statement.{statement}
+use Rattle.semilinear_normalizer.proofs.form.write_form.Tie as tie
+
+clear-requires : tie.Need-clear-requires
+clear-requires c κs = search needs
+
+register-all-requires : tie.Need-register-all-requires
+register-all-requires c κs =
+    let at-clear = c .before .before .before .before .before in
+    let at-start = at-clear .before .before .before .before .before .before .before in (
+      at-start .pre .0,
+      at-start .pre .1,
+      at-start .pre .2,
+      at-start .pre .3,
+      at-start .pre .4,
+      at-clear .clear .ensures ∙ ap (λ (n : ℕ). replicate n 0) (at-start .pre .5) ∙ padded-nil 57360,
+    )
+
+finish-requires : tie.Need-finish-requires
+finish-requires c κs =
+    let reg = c .before .before .before .before .before .before .before .before .register-all .ensures in (
+      table-placed _ _ reg,
+      c .before .before .before .out2 .given ∙ c .before .before .before .before .before .before .before .before .before .before .before .before .before .out .given ∙ c .before .before .before .before .before .before .before .before .before .before .before .before .before .before .before .before .before .before .before .before .before .pre .5,
+      index-room _ _ reg,
+      omega arith,
+      omega arith,
+    )
+
+same-length : tie.Need-same-length
+same-length c = search needs
+
+same-length-2 : tie.Need-same-length-2
+same-length-2 c = search needs
+
+same-length-3 : tie.Need-same-length-3
+same-length-3 c = search needs
+
+returns : tie.Need-returns
+returns c =
+    gives-collected _ _ (c .before .before .before .before .before .before .before .before .before .before .before .register-all .ensures) _ (c .before .before .finish .result) (c .before .before .finish .ensures)
+
+pub write-form-spec : {M : Type 1} → statement M
+write-form-spec =
+    tie.close
+    (tie.spec
+    clear-requires
+    register-all-requires
+    finish-requires
+    same-length
+    same-length-2
+    same-length-3
+    returns)
