@@ -17,5 +17,6 @@ pub mod PairLaws
 pub mod BucketLaws
 pub mod SearchLaws
 pub mod LinksLaws
+pub mod ThirdLaws
 pub mod FindLaws
 pub mod CollapseLaws
