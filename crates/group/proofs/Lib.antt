@@ -14,3 +14,7 @@ pub mod CutLaws
 pub mod DropLaws
 pub mod PairLaws
 pub mod BucketLaws
+pub mod ViewsLaws
+pub mod SplitLaws
+pub mod ReadLaws
+pub mod HasBasisLaws

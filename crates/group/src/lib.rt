@@ -3,6 +3,7 @@
 pub mod made;
 pub mod merge;
 pub mod steps;
+pub mod views;
 
 // At most 256 entries: coefficients, masks, atom numbers, and marks (0 live, 1 consumed, 2 widened to
 // the full mask by recovering, 3 rewritten as Xor).
