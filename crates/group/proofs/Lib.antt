@@ -18,3 +18,5 @@ pub mod ViewsLaws
 pub mod SplitLaws
 pub mod ReadLaws
 pub mod HasBasisLaws
+pub mod InsertLaws
+pub mod FirstRowsLaws

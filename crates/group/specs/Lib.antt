@@ -7,3 +7,4 @@ pub mod Made
 pub mod Pair
 pub mod Bucket
 pub mod Views
+pub mod Bases
