@@ -20,3 +20,4 @@ pub mod ReadLaws
 pub mod HasBasisLaws
 pub mod InsertLaws
 pub mod FirstRowsLaws
+pub mod GatherLaws

@@ -8,3 +8,4 @@ pub mod Pair
 pub mod Bucket
 pub mod Views
 pub mod Bases
+pub mod Gathered

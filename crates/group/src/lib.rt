@@ -1,6 +1,7 @@
 // The group of a pass: the terms of one basis, the steps of refining on them, and the atom table
 // beside it.
 pub mod bases;
+pub mod gather;
 pub mod made;
 pub mod merge;
 pub mod steps;
