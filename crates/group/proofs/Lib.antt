@@ -21,3 +21,4 @@ pub mod HasBasisLaws
 pub mod InsertLaws
 pub mod FirstRowsLaws
 pub mod GatherLaws
+pub mod SettleWordsLaws

@@ -4,6 +4,7 @@ pub mod bases;
 pub mod gather;
 pub mod made;
 pub mod merge;
+pub mod settle;
 pub mod steps;
 pub mod views;
 
