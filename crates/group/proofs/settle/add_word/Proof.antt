@@ -32,7 +32,9 @@ same-length c = search needs
 
 returns : tie.Need-returns
 unfolding addWord
-returns c = ap (λ (x : ℕ). set (now (c .before .before .before .before .args .coeffs)) (c .before .before .before .before .args .a) x) (c .mod-add .ensures)
+returns c =
+    let at-start = c .before .before .before .before in
+    ap (λ (x : ℕ). set (now (at-start .args .coeffs)) (at-start .args .a) x) (c .mod-add .ensures)
 
 returns-2 : tie.Need-returns-2
 unfolding addWord
