@@ -22,3 +22,4 @@ pub mod InsertLaws
 pub mod FirstRowsLaws
 pub mod GatherLaws
 pub mod SettleWordsLaws
+pub mod NextBasisLaws

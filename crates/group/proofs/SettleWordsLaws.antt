@@ -1,12 +1,12 @@
 -- Laws of the end of a pass in words (specs/Gathered.antt): a turn of the loop, and that the coefficients of rows
 -- become those of the settled rows (specs/Group.antt).
 use mathlib.Core.Path.{_≡_, refl, ap, sym, _∙_}
-use Prim.Native.Nat.{ℕ, zero, suc, _+_, _-_, _≤_, _<_}
+use Prim.Native.Nat.{ℕ, zero, suc, _-_, _≤_, _<_}
 use native.Mathlib.Omega.{arith}
 use native.Mathlib.Decide.{ℕ-discrete}
 use mathlib.Core.List.{List, [], _∷_, _++_}
-use mathlib.Core.Bool.{Bool, true, false, not}
-use lib.ListN.{length, getD, set, replicate, length-set, length-map, length-append}
+use mathlib.Core.Bool.{true, not}
+use lib.ListN.{length, getD, replicate, length-set, length-map, length-append}
 use lib.Seq.{append-snoc}
 use lib.Dec.{eqb}
 use borrow.Author.Tests.{eq-eqb, ne-eqb}

@@ -12,7 +12,7 @@ use borrow.Author.Tests.{eq-eqb, ne-eqb}
 use Rattle.record.specs.Choice.{when}
 use Rattle.record.specs.Fields.{kind, arity}
 use Rattle.record.specs.Span.{sized}
-use Rattle.record.specs.Tree.{Tree, IsBytes}
+use Rattle.record.specs.Tree.{IsBytes}
 use Rattle.record.specs.Decode.{leaf, decode}
 use Rattle.record.proofs.FieldsLaws.{arity-zero-of-lt, kind-of-arity-zero}
 use Rattle.record.proofs.SizedLaws.{sized-big}
@@ -29,7 +29,7 @@ use Rattle.semilinear.specs.Basis.{basisSpan, viewOf, IsDecomposed}
 use Rattle.semilinear.specs.Decompose.{opaque, masked, decomposeAtom}
 use Rattle.group.specs.declared.views.View.{View}
 use Rattle.group.specs.Group.{viewRow, anyBasis, variableBasis}
-use Rattle.group.specs.Views.{basisBytes, onlyOf, InGroup, Viewed}
+use Rattle.group.specs.Views.{basisBytes, onlyOf, Viewed}
 use Rattle.group.proofs.ViewLaws.{view-opaque, view-only}
 use Rattle.group.proofs.ViewsLaws.{viewed-none, viewed-some}
 

@@ -34,6 +34,7 @@ viewAt views i =
       mask = getD views (5 * i + 4) 0;
     }
 
+-- its words
 unfoldable pub viewWords : View → List ℕ
 viewWords v = v .coeff ∷ v .hash ∷ v .start ∷ v .end ∷ v .mask ∷ []
 
@@ -81,6 +82,7 @@ pub record Views (only : Tree → Bool) (w : ℕ) (f views : List ℕ) (rows : L
   pub room : 5 * length rows ≤ length views
   pub each : (i : ℕ) → i < length rows → Viewed only w f (viewAt views i) (getD rows i blankRow)
 
+-- the coefficients of rows
 unfoldable pub rowCoeffs : List Row → List ℕ
 rowCoeffs = map (λ (x : Row). x .coeff)
 

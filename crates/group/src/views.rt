@@ -5,8 +5,8 @@ use semilinear::decompose;
 use semilinear::items;
 ghost use mathlib.Core.Path.{_≡_};
 ghost use mathlib.Core.Bool.{true};
-ghost use Prim.Native.Nat.{ℕ, _+_, _-_, _*_, _<_, _≤_};
-ghost use lib.ListN.{length, take, drop, set};
+ghost use Prim.Native.Nat.{_+_, _-_, _*_, _<_, _≤_};
+ghost use lib.ListN.{length, take, drop};
 ghost use Rattle.record.specs.Put.{put};
 ghost use Rattle.record.specs.Decode.{decode};
 ghost use Rattle.expr.specs.Refusal.{treeRefusal};
@@ -35,6 +35,7 @@ pub struct Reading {
     pub number: usize,
 }
 
+// The view of a row in no group.
 fn no_view() -> View
     ensures { λ r. ⌜ r .end ≡ 0 ⌝ }
 {
@@ -79,6 +80,7 @@ fn view_of(f: &[u8], from: usize, to: usize, c: u64, w: u8, only: bool) -> View
     }
 }
 
+// The coefficient that stays with the row.
 fn kept_of(v: View, c: u64) -> u64
     ensures { λ r. ⌜ r ≡ keptOf v c ⌝ }
 {

@@ -1,7 +1,7 @@
 -- `Group::gather` meets its contract: the loop keeps the entries of the rows before i.
 use mathlib.Core.Path.{_≡_, sym, _∙_}
 use mathlib.Core.Logic.{⊎-elim}
-use Prim.Native.Nat.{ℕ, _+_, _-_, _≤_}
+use Prim.Native.Nat.{_-_, _≤_}
 use native.Mathlib.Omega.{arith}
 use denote.Ref.{now}
 use Rattle.record.specs.Loop.{forIn}
@@ -13,10 +13,6 @@ use Rattle.group.proofs.HasBasisLaws.{readable-fewer}
 use Rattle.group.proofs.GatherLaws.{gather-same, gather-push, few-entries}
 use Rattle.group.proofs.Group.gather.Statement.{statement}
 use Rattle.group.proofs.Group.gather.Tie as tie
-use Rattle.group.proofs.Group.gather.Reads as reads
-use Rattle.group.proofs.Group.gather.Lts as lts
-use Rattle.group.proofs.Group.empty.Reads as empty-reads
-use Rattle.group.proofs.views.has_basis.Reads as has-basis-reads
 
 abbrev Inv-loop : tie.InvT-loop
 Inv-loop n hash b views f g₀ i₀ g i = (i ≤ n) × (g ≡ forIn (gatherAt f views hash b) 0 i emptyGroup)

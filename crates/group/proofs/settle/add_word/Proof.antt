@@ -8,9 +8,6 @@ use Rattle.group.specs.Gathered.{addWord}
 use borrow.Author.Needs.{needs}
 use Rattle.group.proofs.settle.add_word.Statement.{statement}
 use Rattle.group.proofs.settle.add_word.Tie as tie
-use Rattle.group.proofs.settle.add_word.Reads as reads
-use Rattle.group.proofs.settle.add_word.Lts as lts
-use Rattle.arith.proofs.mod_add.Reads as mod-add-reads
 
 mul-mod-add : tie.Need-mul-mod-add
 mul-mod-add c = search needs

@@ -1,7 +1,7 @@
 -- `settle` meets its contract: the loop keeps what the entries before i add.
 use mathlib.Core.Path.{_≡_, ap, sym, _∙_}
 use mathlib.Core.Logic.{⊎-elim}
-use Prim.Native.Nat.{ℕ, _+_, _-_, _≤_}
+use Prim.Native.Nat.{_-_, _≤_}
 use native.Mathlib.Omega.{arith}
 use denote.Ref.{now}
 use lib.ListN.{length}
@@ -11,9 +11,6 @@ use Rattle.group.specs.Gathered.{settleWordAt, settleWords}
 use Rattle.group.proofs.SettleWordsLaws.{word-consumed, word-live, length-settle}
 use Rattle.group.proofs.settle.settle.Statement.{statement}
 use Rattle.group.proofs.settle.settle.Tie as tie
-use Rattle.group.proofs.settle.settle.Reads as reads
-use Rattle.group.proofs.settle.settle.Lts as lts
-use Rattle.group.proofs.settle.add_word.Reads as add-word-reads
 
 abbrev Inv-loop : tie.InvT-loop
 Inv-loop from atoms marks n coeffs₀ w i₀ coeffs i =

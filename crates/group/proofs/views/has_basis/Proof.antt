@@ -6,9 +6,6 @@ use Rattle.group.proofs.HasBasisLaws.{basis-other, basis-none, basis-sa
 use borrow.Author.Needs.{needs}
 use Rattle.group.proofs.views.has_basis.Statement.{statement}
 use Rattle.group.proofs.views.has_basis.Tie as tie
-use Rattle.group.proofs.views.has_basis.Reads as reads
-use Rattle.group.proofs.views.has_basis.Lts as lts
-use Rattle.record.proofs.same_bytes.Reads as same-bytes-reads
 
 mul-v : tie.Need-mul-v
 mul-v c = search needs

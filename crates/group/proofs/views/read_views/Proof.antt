@@ -2,7 +2,6 @@
 use mathlib.Core.Path.{ap, sym, _∙_}
 use Prim.Native.Nat.{_-_}
 use native.Mathlib.Omega.{arith}
-use denote.Ref.{now}
 use borrow.Author.Tests.{not-true, not-false}
 use lib.ListN.{length}
 use Rattle.semilinear.specs.Items.{isAtom, afterAtoms}
@@ -11,11 +10,6 @@ use Rattle.group.specs.Views.{onlyOf}
 use Rattle.group.proofs.ReadLaws.{Reads, reads-start, reads-row, reads-end, number-lt, coeffs-long}
 use Rattle.group.proofs.views.read_views.Statement.{statement}
 use Rattle.group.proofs.views.read_views.Tie as tie
-use Rattle.group.proofs.views.read_views.Reads as reads
-use Rattle.group.proofs.views.read_views.Lts as lts
-use Rattle.group.proofs.views.Reading.read_row.Reads as read-row-reads
-use Rattle.semilinear.proofs.items.is_atom.Reads as is-atom-reads
-use Rattle.semilinear.proofs.items.rest_from.Reads as rest-from-reads
 
 abbrev Inv-loop : tie.InvT-loop
 Inv-loop f terms w only views₀ coeffs₀ x₀ views coeffs x =

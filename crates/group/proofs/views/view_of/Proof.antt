@@ -11,12 +11,6 @@ use Rattle.group.proofs.SplitLaws.{basis-sized, basis-big, counts-varia
 use borrow.Author.Needs.{needs}
 use Rattle.group.proofs.views.view_of.Statement.{statement}
 use Rattle.group.proofs.views.view_of.Tie as tie
-use Rattle.group.proofs.views.view_of.Reads as reads
-use Rattle.group.proofs.views.view_of.Lts as lts
-use Rattle.expr.proofs.hash.structural_hash.Reads as structural-hash-reads
-use Rattle.group.proofs.views.no_view.Reads as no-view-reads
-use Rattle.record.proofs.kind.Reads as kind-reads
-use Rattle.semilinear.proofs.decompose.decompose_atom.Reads as decompose-atom-reads
 
 no-view-requires : tie.Need-no-view-requires
 no-view-requires c κs = search needs

@@ -1,6 +1,5 @@
 -- `Reading::read_row` meets its contract: a row without a term has no view, one with a term that of its tree.
 use mathlib.Core.Path.{ap, sym, _∙_}
-use Prim.Native.Nat.{ℕ, _+_}
 use native.Mathlib.Omega.{arith}
 use denote.Ref.{now}
 use borrow.Author.Tests.{not-true, not-false}
@@ -14,16 +13,6 @@ use Rattle.group.proofs.ReadLaws.{tree-accepted, row-tree, row-coeff-no
 use borrow.Author.Needs.{needs}
 use Rattle.group.proofs.views.Reading.read_row.Statement.{statement}
 use Rattle.group.proofs.views.Reading.read_row.Tie as tie
-use Rattle.group.proofs.views.Reading.read_row.Reads as reads
-use Rattle.group.proofs.views.Reading.read_row.Lts as lts
-use Rattle.group.proofs.views.kept_of.Reads as kept-of-reads
-use Rattle.group.proofs.views.no_view.Reads as no-view-reads
-use Rattle.group.proofs.views.put_view.Reads as put-view-reads
-use Rattle.group.proofs.views.view_of.Reads as view-of-reads
-use Rattle.semilinear.proofs.items.atom_length.Reads as atom-length-reads
-use Rattle.semilinear.proofs.items.front_word.Reads as front-word-reads
-use Rattle.semilinear.proofs.items.has_term.Reads as has-term-reads
-use Rattle.semilinear.proofs.items.rest_from.Reads as rest-from-reads
 
 rest-from-requires : tie.Need-rest-from-requires
 rest-from-requires c κs = search needs
