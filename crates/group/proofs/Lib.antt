@@ -29,3 +29,4 @@ pub mod InsertLaws
 pub mod FirstRowsLaws
 pub mod GatherLaws
 pub mod SettleWordsLaws
+pub mod NextBasisLaws

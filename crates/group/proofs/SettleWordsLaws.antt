@@ -1,20 +1,22 @@
--- Laws of the end of a pass in words (specs/Gathered.antt): a turn of the loop, and that the coefficients of rows become
--- those of the settled rows (specs/Group.antt).
+-- Laws of the end of a pass in words (specs/Gathered.antt): a turn of the loop, and that the coefficients of rows
+-- become those of the settled rows (specs/Group.antt).
 use mathlib.Core.Path.{_≡_, refl, ap, sym, _∙_}
-use Prim.Native.Nat.{ℕ, zero, suc, _+_, _-_, _≤_, _<_}
+use Prim.Native.Nat.{ℕ, zero, suc, _-_, _≤_, _<_}
 use native.Mathlib.Omega.{arith}
 use native.Mathlib.Decide.{ℕ-discrete}
 use mathlib.Core.List.{List, [], _∷_, _++_}
-use mathlib.Core.Bool.{Bool, true, false, not}
-use lib.ListN.{length, getD, set, replicate, length-set, length-map}
+use mathlib.Core.Bool.{true, not}
+use lib.ListN.{length, getD, replicate, length-set, length-map, length-append}
+use lib.Seq.{append-snoc}
 use lib.Dec.{eqb}
 use borrow.Author.Tests.{eq-eqb, ne-eqb}
 use Rattle.record.specs.Loop.{forIn}
 use Rattle.record.specs.Put.{padded}
 use Rattle.record.proofs.LoopLaws.{for-ind, for-keeps, for-none, for-more}
+use Rattle.record.specs.Tree.{Tree}
 use Rattle.semilinear.specs.Form.{Row}
 use Rattle.group.specs.declared.Group.{Group}
-use Rattle.group.specs.Group.{at, isLive, addCoeff, settleAt, settle}
+use Rattle.group.specs.Group.{at, isLive, createRow, addCoeff, settleAt, settle}
 use Rattle.group.specs.Views.{rowCoeffs}
 use Rattle.group.specs.Gathered.{addWord, settleWordAt, settleWords}
 use Rattle.group.proofs.SettleLaws.{add-length}
@@ -53,9 +55,25 @@ add-word w c z [] j h = absurd (omega (arith, h))
 add-word w c z (x ∷ l) zero h = refl
 add-word w c z (x ∷ l) (suc j) h = ap (λ (m : List ℕ). x .coeff ∷ m) (add-word w c z l j (omega (arith, h)))
 
-length-coeffs : (l : List Row) → length (rowCoeffs l) ≡ length l
+coeffs-append : (l : List Row) (x : Row) → rowCoeffs (l ++ (x ∷ [])) ≡ rowCoeffs l ++ (x .coeff ∷ [])
+unfolding rowCoeffs
+coeffs-append [] x = refl
+coeffs-append (y ∷ l) x = ap (λ (m : List ℕ). y .coeff ∷ m) (coeffs-append l x)
+
+pub length-coeffs : (l : List Row) → length (rowCoeffs l) ≡ length l
 unfolding rowCoeffs
 length-coeffs l = length-map l (λ (x : Row). x .coeff)
+
+-- a row more, without a term, where there is a word for it
+pub coeffs-create : (m p : ℕ) (t : Tree) (l : List Row) → length l < m
+    → padded m (rowCoeffs (createRow p t l)) ≡ padded m (rowCoeffs l)
+unfolding padded createRow
+coeffs-create m p t l h =
+    let x : Row = record { provenance = p; tree = t; coeff = 0 } in
+    let e : rowCoeffs (l ++ (x ∷ [])) ≡ rowCoeffs l ++ (0 ∷ []) = coeffs-append l x in
+    let n : m - length (rowCoeffs l) ≡ suc (m - length (rowCoeffs l ++ (0 ∷ []))) =
+    omega (arith, length-append (rowCoeffs l) (0 ∷ []), length-coeffs l) in
+    rw (e, n) (append-snoc (rowCoeffs l) 0 (replicate (m - length (rowCoeffs l ++ (0 ∷ []))) 0))
 
 module _ (w : ℕ) (hw : w ≤ 64) (g : Group) (m : ℕ) (l : List Row) where
   -- as many rows as before, and the words are their coefficients
@@ -100,5 +118,6 @@ module _ (w : ℕ) (hw : w ≤ 64) (g : Group) (m : ℕ) (l : List Row) where
         for-ind
         (λ (k : ℕ) (t : List ℕ). Words (forIn (settleAt w g) 0 k l) t)
         (settleWordAt w (g .coeffs) (g .atoms) (g .marks)) 0 s (g .len) (omega arith)
-        (λ i t a u h. rw (for-more (settleAt w g) 0 i l (omega arith)) (words-turn i (forIn (settleAt w g) 0 i l) t u h))
+        (λ i t a u h. rw (for-more (settleAt w g) 0 i l (omega arith))
+        (words-turn i (forIn (settleAt w g) 0 i l) t u h))
         (rw (for-none (settleAt w g) 0 0 l (omega arith)) (record { count = refl; words = e })) .words

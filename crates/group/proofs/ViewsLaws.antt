@@ -1,5 +1,5 @@
--- Laws of the views of rows in lent words (specs/Views.antt): what the words are after a view is put, when a view is that
--- of a row, and which coefficient stays with the row.
+-- Laws of the views of rows in lent words (specs/Views.antt): what the words are after a view is put, when a view is
+-- that of a row, and which coefficient stays with the row.
 use mathlib.Core.Path.{_≡_, ap, sym, _∙_}
 use Prim.Native.Nat.{ℕ, suc, _+_, _*_, _≤_, _<_}
 use native.Mathlib.Omega.{arith}
@@ -49,7 +49,9 @@ module _ (views : List ℕ) (i : ℕ) (v : View) (room : 5 * i + 5 ≤ length vi
 -- one word stored is a piece of one word put
 pub set-put : (l : List ℕ) (i a : ℕ) → i < length l → set l i a ≡ put l i (a ∷ [])
 unfolding put
-set-put l i a h = let e : suc i ≡ i + 1 = omega arith in rw (← e) (set-split l i a h ∙ sym (append-snoc (take i l) a (drop (suc i) l)))
+set-put l i a h =
+    let e : suc i ≡ i + 1 = omega arith in
+    rw (← e) (set-split l i a h ∙ sym (append-snoc (take i l) a (drop (suc i) l)))
 
 -- ---- the view of a row
 
