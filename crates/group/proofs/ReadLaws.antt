@@ -20,10 +20,11 @@ use Rattle.semilinear.specs.Scan.{AtomsEnd}
 use Rattle.semilinear.proofs.ItemsLaws.{fold-atom, fold-done, atoms-ind, rows-atom, rows-end}
 use Rattle.semilinear.proofs.SumLaws.{first-atom-ok, later-atoms-ok}
 use Rattle.semilinear.proofs.ValidLaws.{atom-parts}
+use Rattle.semilinear.specs.Terms.{coeffsOf}
 use Rattle.group.specs.declared.views.View.{View}
 use Rattle.group.specs.declared.views.Reading.{Reading}
 use Rattle.group.specs.Group.{ungrouped}
-use Rattle.group.specs.Views.{viewAt, viewWords, keptOf, Viewed, blankRow, Views, rowCoeffs, RowRead, ViewsRead}
+use Rattle.group.specs.Views.{viewAt, viewWords, keptOf, Viewed, blankRow, Views, RowRead, ViewsRead}
 use Rattle.group.proofs.ViewsLaws.{view-put, view-put-other, set-put, kept-row, kept-here}
 
 -- as many rows as atoms
@@ -80,7 +81,7 @@ pub record Reads (only : Tree → Bool) (w : ℕ) (f : List ℕ) (rows : List Ro
   pub done : List ℕ
   pub counted : length done ≡ x .number
   pub kept : coeffs ≡ put coeffs₀ 0 done
-  pub all : done ++ rowCoeffs (ungrouped only w (drop (x .number) rows)) ≡ rowCoeffs (ungrouped only w rows)
+  pub all : done ++ coeffsOf (ungrouped only w (drop (x .number) rows)) ≡ coeffsOf (ungrouped only w rows)
 
 -- the first of what is left
 front-row : (rows : List Row) (k : ℕ) {x : Row} {l : List Row} → drop k rows ≡ x ∷ l
@@ -97,11 +98,11 @@ front-row rows k e =
 -- zeros before: the coefficients, with zeros behind
 pub kept-padded : {only : Tree → Bool} {w : ℕ} {f : List ℕ} {rows : List Row} {coeffs views′ coeffs′ : List ℕ} {r : ℕ}
     → ViewsRead only w f rows coeffs views′ coeffs′ r → (m : ℕ) → coeffs ≡ padded m []
-    → coeffs′ ≡ padded m (rowCoeffs (ungrouped only w rows))
+    → coeffs′ ≡ padded m (coeffsOf (ungrouped only w rows))
 kept-padded {only} {w} {f} {rows} h m e =
     h .kept
-    ∙ ap (λ (d : List ℕ). put d 0 (rowCoeffs (ungrouped only w rows))) e
-    ∙ put-padded-at m [] (rowCoeffs (ungrouped only w rows)) 0 refl
+    ∙ ap (λ (d : List ℕ). put d 0 (coeffsOf (ungrouped only w rows))) e
+    ∙ put-padded-at m [] (coeffsOf (ungrouped only w rows)) 0 refl
 
 module _ (only : Tree → Bool) (w : ℕ) (f views₀ coeffs₀ : List ℕ) where
   pub reads-start : (terms : ℕ) → atomsOk w f ≡ true → AtomsEnd f terms → 5 * atomCount f ≤ length views₀
@@ -196,17 +197,17 @@ module _ (only : Tree → Bool) (w : ℕ) (f views₀ coeffs₀ : List ℕ) wher
               ∙ put-then coeffs₀ 0 (h .done) (k ∷ []) (x .number)
               (omega (arith, h .counted, h .number-le, h .coeffs-room)) (omega (arith, h .counted))
 
-          rest : (h .done ++ (k ∷ [])) ++ rowCoeffs (ungrouped only w (drop (y .number) rows))
-              ≡ rowCoeffs (ungrouped only w rows)
+          rest : (h .done ++ (k ∷ [])) ++ coeffsOf (ungrouped only w (drop (y .number) rows))
+              ≡ coeffsOf (ungrouped only w rows)
           rest =
               rw (a .passed .next-number, front-row rows (x .number) first .2)
-              (append-snoc (h .done) k (rowCoeffs (ungrouped only w later))
+              (append-snoc (h .done) k (coeffsOf (ungrouped only w later))
               ∙ ap (λ (l : List ℕ). h .done ++ l) (sym (kept-row only w f (a .view) row (a .viewed) later))
-              ∙ ap (λ (l : List Row). h .done ++ rowCoeffs (ungrouped only w l)) (sym first)
+              ∙ ap (λ (l : List Row). h .done ++ coeffsOf (ungrouped only w l)) (sym first)
               ∙ h .all)
 
     pub reads-end : isAtom (drop (x .at) f) ≡ false → ViewsRead only w f rows coeffs₀ views coeffs (x .number)
-    unfolding ungrouped rowCoeffs
+    unfolding ungrouped coeffsOf
     reads-end e =
         let none : drop (x .number) rows ≡ [] = h .left ∙ rows-end (x .number) (drop (x .at) f) (drop (x .next) f)
         e in
@@ -219,6 +220,6 @@ module _ (only : Tree → Bool) (w : ℕ) (f views₀ coeffs₀ : List ℕ) wher
               h .kept
               ∙ ap (put coeffs₀ 0)
               (sym (append-nil (h .done))
-              ∙ ap (λ (l : List Row). h .done ++ rowCoeffs (ungrouped only w l)) (sym none)
+              ∙ ap (λ (l : List Row). h .done ++ coeffsOf (ungrouped only w l)) (sym none)
               ∙ h .all);
         }

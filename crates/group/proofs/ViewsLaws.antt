@@ -15,9 +15,10 @@ use Rattle.record.specs.Decode.{decode}
 use Rattle.record.proofs.PutLaws.{getD-put-before, getD-put-in}
 use Rattle.semilinear.specs.Form.{Row}
 use Rattle.semilinear.specs.Decompose.{opaque, masked}
+use Rattle.semilinear.specs.Terms.{coeffsOf}
 use Rattle.group.specs.declared.views.View.{View}
 use Rattle.group.specs.Group.{viewRow, ungrouped}
-use Rattle.group.specs.Views.{viewAt, viewWords, basisBytes, splitOf, keptOf, InGroup, Viewed, rowCoeffs}
+use Rattle.group.specs.Views.{viewAt, viewWords, basisBytes, splitOf, keptOf, InGroup, Viewed}
 
 -- ---- the words
 
@@ -83,20 +84,20 @@ module _ (only : Tree → Bool) (w : ℕ) (f : List ℕ) (v : View) (x : Row) wh
 
     -- what stays with the row
     pub kept-row : (l : List Row)
-        → rowCoeffs (ungrouped only w (x ∷ l)) ≡ keptOf v (x .coeff) ∷ rowCoeffs (ungrouped only w l)
-    unfolding ungrouped rowCoeffs keptOf
+        → coeffsOf (ungrouped only w (x ∷ l)) ≡ keptOf v (x .coeff) ∷ coeffsOf (ungrouped only w l)
+    unfolding ungrouped coeffsOf keptOf
     kept-row l = go (ℕ-discrete (v .end) 0)
       where
         none : v .end ≡ 0 → viewRow only w x ≡ opaque
-            → rowCoeffs (ungrouped only w (x ∷ l)) ≡ keptOf v (x .coeff) ∷ rowCoeffs (ungrouped only w l)
+            → coeffsOf (ungrouped only w (x ∷ l)) ≡ keptOf v (x .coeff) ∷ coeffsOf (ungrouped only w l)
         none z e = simp (e, eq-eqb (v .end) 0 z)
 
         some : (v .end ≡ 0 → ⊥) → {b : Tree} {m : ℕ} → viewRow only w x ≡ masked b m
-            → rowCoeffs (ungrouped only w (x ∷ l)) ≡ keptOf v (x .coeff) ∷ rowCoeffs (ungrouped only w l)
+            → coeffsOf (ungrouped only w (x ∷ l)) ≡ keptOf v (x .coeff) ∷ coeffsOf (ungrouped only w l)
         some n e = simp (e, ne-eqb (v .end) 0 n)
 
         go : Dec (v .end ≡ 0)
-            → rowCoeffs (ungrouped only w (x ∷ l)) ≡ keptOf v (x .coeff) ∷ rowCoeffs (ungrouped only w l)
+            → coeffsOf (ungrouped only w (x ∷ l)) ≡ keptOf v (x .coeff) ∷ coeffsOf (ungrouped only w l)
         go (yes z) = none z (row-opaque z)
         go (no n) = some n (row-masked n)
 
