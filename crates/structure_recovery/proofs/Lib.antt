@@ -13,3 +13,7 @@ pub mod AddedLaws
 pub mod FreshLaws
 pub mod CoalesceLaws
 pub mod OppositeLaws
+mod ComplexLaws
+mod ShownLaws
+mod FlatTurnLaws
+mod FlatWalkLaws
