@@ -17,6 +17,17 @@ pub fn clear(out: &mut [u8])
     }
 }
 
+// Fills the words of out with zeros.
+pub fn clear_words(out: &mut [u64])
+    ensures { λ _. ⌜ now (out .exit) ≡ replicate (length (now (out .entry))) 0 ⌝ }
+{
+    let mut i = 0;
+    while i < out.len() {
+        out[i] = 0;
+        i += 1;
+    }
+}
+
 // Puts s into d from index `at` on.
 pub fn put_bytes(d: &mut [u8], at: usize, s: &[u8])
     requires { ⌜ at + length (now s) ≤ length (now d) ⌝ }

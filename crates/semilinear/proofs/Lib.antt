@@ -18,4 +18,5 @@ pub mod RenumberLaws
 pub mod CompactLaws
 pub mod CopyLaws
 pub mod PassLaws
+pub mod ReadLaws
 pub mod MadeLaws
