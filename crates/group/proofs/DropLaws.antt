@@ -108,10 +108,11 @@ joinGroup g c i j n =
       len = g .len;
     }
 
-abbrev mk : List ℕ → List ℕ → List ℕ → List ℕ → ℕ → Group
+-- a group by its fields
+abbrev pub mk : List ℕ → List ℕ → List ℕ → List ℕ → ℕ → Group
 mk cs ms xs us n = record { coeffs = cs; masks = ms; atoms = xs; marks = us; len = n }
 
-mk-eq : {cs cs′ ms ms′ xs xs′ us us′ : List ℕ} {n : ℕ} → cs ≡ cs′ → ms ≡ ms′ → xs ≡ xs′ → us ≡ us′
+pub mk-eq : {cs cs′ ms ms′ xs xs′ us us′ : List ℕ} {n : ℕ} → cs ≡ cs′ → ms ≡ ms′ → xs ≡ xs′ → us ≡ us′
     → mk cs ms xs us n ≡ mk cs′ ms′ xs′ us′ n
 mk-eq p q r t = cc
 

@@ -12,5 +12,10 @@ pub mod WordsLaws
 pub mod SteppedLaws
 pub mod CutLaws
 pub mod DropLaws
+pub mod NegateLaws
 pub mod PairLaws
 pub mod BucketLaws
+pub mod SearchLaws
+pub mod LinksLaws
+pub mod FindLaws
+pub mod CollapseLaws

@@ -6,3 +6,4 @@ pub mod Collapse
 pub mod Made
 pub mod Pair
 pub mod Bucket
+pub mod Links

@@ -1,7 +1,7 @@
 -- The atom table of a pass in lent words, beside the lent bytes that hold its atoms, and what a step makes of a group,
 -- the words and the bytes. The rows of the table without limits stand in no word: a step is said for every group and
 -- rows that the words and bytes stand for.
-use Prim.Native.Nat.{ℕ, _+_, _≤_}
+use Prim.Native.Nat.{ℕ, _+_, _-_, _^_, _≤_}
 use mathlib.Core.Path.{_≡_}
 use mathlib.Core.List.{List, [], _∷_}
 use mathlib.Core.Bool.{Bool, true, false}
@@ -86,6 +86,12 @@ cutOf u c m w = when (eqb u 1) (λ _. m) (λ _. reduceMask c m w)
 -- whether a live entry's coefficient may as well be 0
 unfoldable pub dropsOf : ℕ → ℕ → ℕ → ℕ → Bool
 dropsOf u c m w = when (eqb u 1) (λ _. false) (λ _. canChangeCoefficientTo c 0 m w)
+
+-- whether a live entry's coefficient is not 2 ^ w - 1 and may become it
+unfoldable pub negatesOf : ℕ → ℕ → ℕ → ℕ → Bool
+negatesOf u c m w =
+    when (eqb u 1) (λ _. false)
+    (λ _. when (eqb c (2 ^ w - 1)) (λ _. false) (λ _. canChangeCoefficientTo c (2 ^ w - 1) m w))
 
 -- a step that leaves the table
 unfoldable pub onGroup : (Group → Group) → Work → Work

@@ -1,5 +1,7 @@
 // The group of a pass: the terms of one basis, the steps of refining on them, and the atom table
 // beside it.
+pub mod collapse;
+pub mod links;
 pub mod made;
 pub mod merge;
 pub mod steps;

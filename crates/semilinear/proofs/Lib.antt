@@ -19,4 +19,6 @@ pub mod CompactLaws
 pub mod CopyLaws
 pub mod PassLaws
 pub mod ReadLaws
+pub mod TermsLaws
+pub mod FinishLaws
 pub mod MadeLaws

@@ -12,12 +12,15 @@ use Rattle.record.specs.Choice.{when}
 use Rattle.record.specs.Put.{padded}
 use Rattle.record.proofs.SizedLaws.{false-true}
 use Rattle.record.proofs.PutLaws.{padded-nil}
+use Rattle.semilinear.specs.declared.outcome.Answer.{Answer}
 use Rattle.semilinear.specs.Form.{Form}
 use Rattle.semilinear.specs.Valid.{lengthRefused, isSemilinear}
 use Rattle.semilinear.specs.DecodeForm.{readForm}
 use Rattle.semilinear.specs.Outcome.{Outcome, accepted, refused, refusalOf, numbersOf, writtenOf, Gives}
-use Rattle.semilinear.specs.Compact.{readOutcome, openOutcome}
-use Rattle.semilinear.proofs.PassLaws.{length-le}
+use Rattle.semilinear.specs.Answers.{refusedAnswer, GivesForm}
+use Rattle.semilinear.specs.Compact.{readOutcome, openOutcome, passOutcome}
+use Rattle.semilinear.proofs.OutcomeLaws.{gives-refused}
+use Rattle.semilinear.proofs.PassLaws.{length-le, gives-same}
 
 -- ---- the refusals, by the first test that decides
 
@@ -122,3 +125,30 @@ gives-open whole s len r out e z =
 pub open-zeros : (whole : ℕ) (s : List ℕ) (len r : ℕ) (out : List ℕ) → Gives (openOutcome whole s len) len r [] out
     → out ≡ replicate len 0
 open-zeros whole s len r out g = g .written ∙ written-open whole s len len
+
+-- ---- the entry point of a pass
+
+-- let in: the bytes are a form, and the slice has its length and is all zeros
+module _ (s : List ℕ) (len : ℕ) {n : ℕ} {out : List ℕ} (door : Gives (openOutcome 57360 s len) len n [] out)
+    (z : n ≡ 0) where
+  pub pass-open : Opened 57360 s len
+  pass-open = opened (λ f. refused 0) 57360 s len n (door .number) z .0
+
+  pub pass-zeros : out ≡ padded 57360 []
+  pass-zeros = open-zeros 57360 s len n out door ∙ ap (λ (k : ℕ). replicate k 0) (pass-open .sliced) ∙ padded-nil 57360
+
+module _ (given : Form → Outcome) (s : List ℕ) (len : ℕ) {n : ℕ} {out : List ℕ}
+    (door : Gives (openOutcome 57360 s len) len n [] out) where
+  -- refused at the door
+  pub pass-shut : (n ≡ 0 → ⊥) → (r : Answer) → r ≡ refusedAnswer n → GivesForm (passOutcome given s len) len r out
+  unfolding passOutcome
+  pass-shut ne r e =
+      gives-same (shut given 57360 s len n (door .number) ne) len r out
+      (gives-refused n len r out e (open-zeros 57360 s len n out door))
+
+  -- let in: what is given is given
+  pub pass-given : n ≡ 0 → (r : Answer) {out′ : List ℕ} → GivesForm (given (readForm s)) 57360 r out′
+      → GivesForm (passOutcome given s len) len r out′
+  unfolding passOutcome
+  pass-given z r {out′} h =
+      gives-same (opened given 57360 s len n (door .number) z .1) len r out′ (rw (pass-open s len door z .sliced) h)

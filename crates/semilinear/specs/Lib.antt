@@ -8,6 +8,7 @@ pub mod Answers
 pub mod Table
 pub mod Value
 pub mod Compact
+pub mod Terms
 pub mod Decompose
 pub mod Basis
 pub mod Scan

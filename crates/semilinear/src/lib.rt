@@ -3,6 +3,7 @@ pub mod compact;
 pub mod decompose;
 pub mod items;
 pub mod outcome;
+pub mod pass;
 pub mod read;
 pub mod scan;
 pub mod table;
