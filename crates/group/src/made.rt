@@ -12,7 +12,8 @@ ghost use Rattle.group.specs.Group.{createMasked};
 ghost use Rattle.group.specs.Made.{tableOf, flagOf, wordsOf, Room, Grew, Basis};
 use semilinear::table::Table;
 
-fn load(made: &[u64]) -> Table
+// The table that the words say.
+pub fn load(made: &[u64]) -> Table
     requires { ⌜ length (now made) ≡ 6 ⌝ }
     ensures { λ r. ⌜ r ≡ tableOf (now (made .entry)) ⌝ }
 {

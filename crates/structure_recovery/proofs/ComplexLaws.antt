@@ -1,5 +1,5 @@
--- The tests of flattening as the code makes them (specs/Flattening.antt): a basis that is a variable is a root of kind 1,
--- and one variable is a first one without a second.
+-- The tests of flattening as the code makes them (specs/Flattening.antt): a basis that is a variable is a root of kind
+-- 1, and one variable is a first one without a second.
 use mathlib.Core.Path.{_≡_, refl, ap, sym, _∙_}
 use Prim.Native.Nat.{ℕ, _+_, _-_, _≤_, _<_}
 use native.Mathlib.Omega.{arith}

@@ -218,8 +218,8 @@ module _ (w : ℕ) (f : List ℕ) (x : Flattening) (ha : x .at ≤ length f) (hn
         → RowFlattened w f x (record { at = x .at + n; next = x .next + 16; number = x .number + 1; flag = true })
         made out coeffs made′ out′ coeffs′
     turn-flat complex {made′} {out′} {coeffs′} step =
-        let step′ : Extended w 2 (flatTree w (row .tree) (row .coeff)) (flatConstant w (row .tree) (row .coeff)) made out
-        coeffs made′ out′ coeffs′ = rw (← tree-row, ← coeff-row) step in
+        let step′ : Extended w 2 (flatTree w (row .tree) (row .coeff)) (flatConstant w (row .tree) (row .coeff)) made
+        out coeffs made′ out′ coeffs′ = rw (← tree-row, ← coeff-row) step in
         record {
           passed = passed-with f (x .at) (x .next) (x .number) ha hn e er eq en h;
           room = step .room;
@@ -227,5 +227,6 @@ module _ (w : ℕ) (f : List ℕ) (x : Flattening) (ha : x .at ≤ length f) (hn
           long = step .long;
           wide = step .wide;
           turn = λ a b k g _ was.
-              works-flat w row made out coeffs a b k (x .flag) g was (sym complex-row ∙ complex) made′ out′ coeffs′ step′;
+              works-flat w row made out coeffs a b k (x .flag) g was (sym complex-row ∙ complex) made′ out′ coeffs′
+              step′;
         }

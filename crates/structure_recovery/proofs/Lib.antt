@@ -15,5 +15,8 @@ pub mod CoalesceLaws
 pub mod OppositeLaws
 mod ComplexLaws
 mod ShownLaws
+mod NewRowLaws
 mod FlatTurnLaws
+mod KeptRowsLaws
 mod FlatWalkLaws
+mod FlatFormLaws

@@ -1,5 +1,5 @@
--- How flattening goes over the rows (src/flatten.rt): the words of the table, the bytes of its atoms and the coefficients
--- beside them show the rows of the form that is being made, and a step is said for all rows that they show.
+-- How flattening goes over the rows (src/flatten.rt): the words of the table, the bytes of its atoms and the
+-- coefficients beside them show the rows of the form that is being made; a step is said for all rows that they show.
 use mathlib.Core.Path.{_≡_}
 use Prim.Native.Nat.{ℕ, _+_, _-_, _^_, _≤_}
 use mathlib.Core.List.{List, [], _∷_, _++_}
@@ -16,6 +16,7 @@ use Rattle.expr.specs.Vars.{nextVar, support}
 use Rattle.semilinear.specs.Form.{Row, fitsTable}
 use Rattle.semilinear.specs.DecodeForm.{rowAt}
 use Rattle.semilinear.specs.Running.{RowPassed}
+use Rattle.semilinear.specs.Terms.{coeffsOf}
 use Rattle.group.specs.Made.{Room, Held}
 use Rattle.structure_recovery.specs.declared.flatten.Flattening.{Flattening}
 use Rattle.structure_recovery.specs.FlattenComplexAtoms.{isPlain, isComplex, atZero, atOnes, Flat, flatRow}
@@ -44,10 +45,6 @@ unfoldable pub flatConstant : ℕ → Tree → ℕ → ℕ → ℕ
 flatConstant w t c k = modAdd k (modMul c (atZero w t) w) w
 
 -- ---- the table with its coefficients
-
-unfoldable pub coeffsOf : List Row → List ℕ
-coeffsOf [] = []
-coeffsOf (x ∷ l) = x .coeff ∷ coeffsOf l
 
 -- the words and bytes hold the rows l, and the coefficients are theirs where they keep the limits
 pub record Shown (w : ℕ) (made out coeffs : List ℕ) (l : List Row) : Type 0 where

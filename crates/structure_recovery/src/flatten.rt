@@ -1,22 +1,32 @@
 // Flattening the atoms of one variable: f(0), and the bits that the variable passes or inverts. The
-// table of the result is in lent words beside its bytes, and the coefficients in words of their own.
+// table of the result is in lent words beside its bytes, the coefficients in words of their own.
 use group::made;
 use semilinear::items;
+use semilinear::outcome::Answer;
+use semilinear::outcome::{self};
+use semilinear::pass;
+use semilinear::read;
 ghost use mathlib.Core.Path.{_≡_};
 ghost use mathlib.Core.Bool.{true};
+ghost use mathlib.Core.List.{[]};
 ghost use Prim.Native.Nat.{ℕ, _+_, _-_, _^_, _<_, _≤_};
 ghost use lib.ListN.{length, getD, set, drop, replicate};
 ghost use lib.Bits.{bitAnd};
 ghost use Rattle.arith.specs.Width.{modAdd};
+ghost use Rattle.record.specs.Put.{padded};
 ghost use Rattle.record.specs.Span.{sized};
 ghost use Rattle.record.specs.Decode.{decode};
 ghost use Rattle.expr.specs.Vars.{nextVar};
 ghost use Rattle.semilinear.specs.Items.{isAtom, atomCount, afterAtoms};
-ghost use Rattle.semilinear.specs.Valid.{atomsOk, termsOk, frontOk};
-ghost use Rattle.semilinear.specs.DecodeForm.{rowsOf};
+ghost use Rattle.semilinear.specs.Valid.{atomsOk, termsOk, frontOk, isSemilinear};
+ghost use Rattle.semilinear.specs.DecodeForm.{rowsOf, readForm};
+ghost use Rattle.semilinear.specs.Answers.{GivesForm};
+ghost use Rattle.semilinear.specs.Compact.{limitOutcome};
 ghost use Rattle.semilinear.specs.Scan.{AtomsEnd};
 ghost use Rattle.group.specs.Made.{Room, Held};
 ghost use Rattle.structure_recovery.specs.FlattenComplexAtoms.{isPlain, atOnes, flatRow};
+ghost use Rattle.structure_recovery.specs.FlattenComplexAtoms.{flattened, flattenForm};
+ghost use Rattle.structure_recovery.specs.FlattenComplexAtoms.{flattenComplexAtoms};
 ghost use Rattle.structure_recovery.specs.Flattening.{complexTree, flatTree, flatConstant};
 ghost use Rattle.structure_recovery.specs.Flattening.{Extended, RowFlattened, RowsFlattened};
 
@@ -118,7 +128,8 @@ fn flatten_atom(t: &[u8], c: u64, w: u8, made: &mut [u64], coeffs: &mut [u64], o
     let passed = bits_without(raised, zeroed, width);
     let inverted = bits_without(zeroed, raised, width);
     flat_row(v, passed, c, w, made, coeffs, out);
-    flat_row(v, inverted, arith::mod_neg(c, width), w, made, coeffs, out);
+    let negated = arith::mod_neg(c, width);
+    flat_row(v, inverted, negated, w, made, coeffs, out);
 }
 
 // A flattening on its way: the places of the next atom and the next term, the atom's number, and
@@ -142,7 +153,8 @@ impl Flattening {
     ) -> Self
         requires { ⌜ (w ≤ 64) × (self .at ≤ length (now f)) × (self .next ≤ length (now f))
             × (self .number ≤ self .at) × (self .number < length (now coeffs))
-            × (isAtom (drop (self .at) (now f)) ≡ true) × (atomsOk w (drop (self .at) (now f)) ≡ true)
+            × (isAtom (drop (self .at) (now f)) ≡ true)
+            × (atomsOk w (drop (self .at) (now f)) ≡ true)
             × (termsOk w (self .number + atomCount (drop (self .at) (now f))) (self .number)
             (drop (self .next) (now f)) ≡ true)
             × Room (now made) (now out) × (getD (now made) 4 0 + 2 < 2 ^ 64) ⌝ }
@@ -195,8 +207,8 @@ fn flatten_rows(
     coeffs: &mut [u64],
     out: &mut [u8],
 ) -> bool
-    requires { ⌜ (w ≤ 64) × (frontOk w (now f) ≡ true) × AtomsEnd (now f) terms × (length (now made) ≡ 6)
-        × (now coeffs ≡ replicate 256 0)
+    requires { ⌜ (w ≤ 64) × (frontOk w (now f) ≡ true) × AtomsEnd (now f) terms
+        × (length (now made) ≡ 6) × (now coeffs ≡ replicate 256 0)
         × Held w (now made) (now out) (rowsOf 0 (now f) (afterAtoms (now f))) ⌝ }
     ensures { λ r. ⌜ RowsFlattened w (rowsOf 0 (now (f .entry)) (afterAtoms (now (f .entry))))
         (getD (now (made .entry)) 5 0) (length (now (out .entry))) r
@@ -215,4 +227,33 @@ fn flatten_rows(
         }
         x = x.flatten_row(f, w, made, coeffs, out);
     }
+}
+
+// Flattens a form into a slice of 57,360 bytes, which is all zeros.
+fn flatten_form(s: &[u8], out: &mut [u8]) -> Answer
+    requires { ⌜ (isSemilinear (now s) ≡ true) × (now out ≡ padded 57360 []) ⌝ }
+    ensures { λ r. ⌜ GivesForm (limitOutcome (flattenForm (readForm (now (s .entry))))
+        (flattened (readForm (now (s .entry))) .flag)) 57360 r (now (out .exit)) ⌝ }
+{
+    let w = record::width(s);
+    let constant = record::literal(s);
+    let tab = pass::copy_atoms(s, out);
+    let terms = tab.at;
+    let count = tab.count;
+    let mut made = [terms as u64, count, tab.records, 0, count, constant];
+    let mut coeffs = [0u64; 256];
+    let flag = flatten_rows(record::body(s), terms, w, &mut made, &mut coeffs, out);
+    pass::finish(made::load(&made), &coeffs, 1, made[5], w, flag, out)
+}
+
+// The form s with its complex atoms flattened, written to out; or a refusal: 1, 2, 9 or 10.
+pub fn flatten_complex_atoms(s: &[u8], out: &mut [u8]) -> Answer
+    ensures { λ r. ⌜ GivesForm (flattenComplexAtoms (now (s .entry)) (length (now (out .entry))))
+        (length (now (out .entry))) r (now (out .exit)) ⌝ }
+{
+    let number = read::open_bytes(s, out);
+    if number != 0 {
+        return outcome::refusal(number);
+    }
+    flatten_form(s, out)
 }

@@ -1,7 +1,7 @@
 -- `flat_row` meets its contract: no bits, no place for the coefficient, or a row and its coefficient.
 use mathlib.Core.Path.{refl}
-use Rattle.structure_recovery.proofs.ShownLaws.{extended-none, extended-past, extended-put}
-use Rattle.structure_recovery.proofs.ShownLaws.{variable-back, variable-sized, variable-basis}
+use Rattle.structure_recovery.proofs.NewRowLaws.{extended-none, extended-past, extended-put}
+use Rattle.structure_recovery.proofs.NewRowLaws.{variable-back, variable-sized, variable-basis}
 use borrow.Author.Needs.{needs}
 use Rattle.structure_recovery.proofs.flatten.flat_row.Statement.{statement}
 use Rattle.structure_recovery.proofs.flatten.flat_row.Tie as tie
@@ -26,14 +26,19 @@ slice-aggregate-structural-hash c = search needs
 
 structural-hash-requires : tie.Need-structural-hash-requires
 structural-hash-requires c κs =
-    let at-start = c .before .before .before .before .before .before .before .before .before .before .before .before in
-    variable-sized _ _ (at-start .pre .0) (c .before .before .before .before .before .put-variable .ensures)
+    let at-put = c .before .before .before .before .before in
+    let at-start = at-put .before .before .before .before .before .before .before in
+    variable-sized _ _ (at-start .pre .0) (at-put .put-variable .ensures)
 
 create-masked-requires : tie.Need-create-masked-requires
 create-masked-requires c κs =
-    let at-start = c .before .before .before .before .before .before .before .before .before .before .before .before .before in
-    let basis = variable-basis _ _ (at-start .pre .0) (c .before .before .before .before .before .before .put-variable .ensures) (c .structural-hash .ensures) in
-    (at-start .pre .2, basis, at-start .pre .3, at-start .pre .1)
+    let at-put = c .before .before .before .before .before .before in
+    let at-start = at-put .before .before .before .before .before .before .before in (
+      at-start .pre .2,
+      variable-basis _ _ (at-start .pre .0) (at-put .put-variable .ensures) (c .structural-hash .ensures),
+      at-start .pre .3,
+      at-start .pre .1,
+    )
 
 same-length : tie.Need-same-length
 same-length c = search needs
@@ -43,10 +48,12 @@ same-length-2 c = search needs
 
 returns-2 : tie.Need-returns-2
 returns-2 c =
-    let at-put = c .before .before .before .before .before .before .before .before .before .before .before .before in
-    let at-start = at-put .before .before .before .before .before .before .before in
-    extended-past _ _ _ (at-start .args .c) (at-put .before .before .before .if1 .left)
-    (rw (variable-back _ _ (at-start .pre .0) (at-put .put-variable .ensures)) at (c .before .before .before .before .before .create-masked .ensures)) _
+    let at-create = c .before .before .before .before .before in
+    let at-put = at-create .before .before .before .before .before .before .before in
+    let at-if1 = at-put .before .before .before in
+    let at-start = at-if1 .before .before .before .before in
+    extended-past _ _ _ (at-start .args .c) (at-if1 .if1 .left)
+    (rw (variable-back _ _ (at-start .pre .0) (at-put .put-variable .ensures)) at (at-create .create-masked .ensures)) _
     (c .if2 .taken)
 
 mul-coeffs : tie.Need-mul-coeffs
@@ -66,11 +73,13 @@ same-length-5 c = search needs
 
 returns-3 : tie.Need-returns-3
 returns-3 c =
-    let at-put = c .before .before .before .before .before .before .before .before .before .before .before .before in
-    let at-start = at-put .before .before .before .before .before .before .before in
-    extended-put _ _ _ (at-start .args .c) (at-put .before .before .before .if1 .left)
-    (rw (variable-back _ _ (at-start .pre .0) (at-put .put-variable .ensures)) at (c .before .before .before .before .before .create-masked .ensures)) _ _
-    refl
+    let at-create = c .before .before .before .before .before in
+    let at-put = at-create .before .before .before .before .before .before .before in
+    let at-if1 = at-put .before .before .before in
+    let at-start = at-if1 .before .before .before .before in
+    extended-put _ _ _ (at-start .args .c) (at-if1 .if1 .left)
+    (rw (variable-back _ _ (at-start .pre .0) (at-put .put-variable .ensures)) at (at-create .create-masked .ensures))
+    _ _ refl
 
 pub flat-row-spec : {M : Type 1} → statement M
 flat-row-spec =

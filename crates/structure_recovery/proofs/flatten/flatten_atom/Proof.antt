@@ -24,33 +24,47 @@ add-constant-requires : tie.Need-add-constant-requires
 add-constant-requires c κs = search needs
 
 bits-without-requires : tie.Need-bits-without-requires
-bits-without-requires c κs = (c .before .before .before .before .before .before .before .before .before .before .before .before .pre .2, rw (c .before .before .before .before .before .before .constant-value .ensures) (value-lt _ _ _))
+bits-without-requires c κs =
+    let at-ones = c .before .before .before .before .before in
+    let at-start = at-ones .before .before .before .before .before .before .before in
+    (at-start .pre .2, rw (at-ones .before .constant-value .ensures) (value-lt _ _ _))
 
 bits-without-requires-2 : tie.Need-bits-without-requires-2
-bits-without-requires-2 c κs = (c .before .before .before .before .before .before .before .before .before .before .before .before .before .pre .2, rw (c .before .before .before .before .before .before .at-ones .ensures) (at-ones-lt _ _ _))
+bits-without-requires-2 c κs =
+    let at-ones = c .before .before .before .before .before .before in
+    let at-start = at-ones .before .before .before .before .before .before .before in
+    (at-start .pre .2, rw (at-ones .at-ones .ensures) (at-ones-lt _ _ _))
 
 flat-row-requires : tie.Need-flat-row-requires
 flat-row-requires c κs =
     let at-add = c .before .before .before .before .before .before .before in
-    let at-start = c .before .before .before .before .before .before .before .before .before .before .before .before .before .before .before .before .before in
-    let s = flat-constant _ _ (at-start .args .c) (now (at-start .args .coeffs)) (at-start .pre .3)
-    (c .before .before .before .before .before .before .before .before .before .before .before .constant-value .ensures) (at-add .before .mod-mul .ensures) (at-add .add-constant .ensures) in
-    (rw (c .before .before .before .before .before .before .before .before .before .before .before .before .next-var .ensures .0) (at-start .pre .1), at-start .pre .2, s .room, omega (arith, s .rows-le, at-start .pre .4))
+    let at-ones = at-add .before .before .before in
+    let at-start = at-ones .before .before .before .before .before .before .before in
+    let s =
+    flat-constant _ _ (at-start .args .c) (now (at-start .args .coeffs)) (at-start .pre .3)
+    (at-ones .before .constant-value .ensures) (at-add .before .mod-mul .ensures) (at-add .add-constant .ensures) in (
+      rw (at-ones .before .before .next-var .ensures .0) (at-start .pre .1),
+      at-start .pre .2,
+      s .room,
+      omega (arith, s .rows-le, at-start .pre .4),
+    )
 
 mod-neg-requires : tie.Need-mod-neg-requires
 mod-neg-requires c κs = search needs
 
 flat-row-requires-2 : tie.Need-flat-row-requires-2
 flat-row-requires-2 c κs =
-    let first = c .before .before .before .before .before .before .before .before .before .before .flat-row .ensures in
-    let at-add = c .before .before .before .before .before .before .before .before .before .before .before .before .before .before .before .before .before .before in
-    let at-start = c .before .before .before .before .before .before .before .before .before .before .before .before .before .before .before .before .before .before .before .before .before .before .before .before .before .before .before .before in
-    let s = flat-constant _ _ (at-start .args .c) (now (at-start .args .coeffs)) (at-start .pre .3)
-    (c .before .before .before .before .before .before .before .before .before .before .before .before .before .before .before .before .before .before .before .before .before .before .constant-value .ensures) (at-add .before .mod-mul .ensures) (at-add .add-constant .ensures) in (
-      rw (c .before .before .before .before .before .before .before .before .before .before .before .before .before .before .before .before .before .before .before .before .before .before .before .next-var .ensures .0) (at-start .pre .1),
+    let at-row = c .before .before .before .before .before .before .before .before .before .before in
+    let at-add = at-row .before .before .before .before .before .before .before .before in
+    let at-ones = at-add .before .before .before in
+    let at-start = at-ones .before .before .before .before .before .before .before in
+    let s =
+    flat-constant _ _ (at-start .args .c) (now (at-start .args .coeffs)) (at-start .pre .3)
+    (at-ones .before .constant-value .ensures) (at-add .before .mod-mul .ensures) (at-add .add-constant .ensures) in (
+      rw (at-ones .before .before .next-var .ensures .0) (at-start .pre .1),
       at-start .pre .2,
-      first .room,
-      omega (arith, first .rows-le, s .rows-le, at-start .pre .4),
+      at-row .flat-row .ensures .room,
+      omega (arith, at-row .flat-row .ensures .rows-le, s .rows-le, at-start .pre .4),
     )
 
 same-length : tie.Need-same-length
@@ -64,16 +78,19 @@ same-length-3 c = search needs
 
 returns : tie.Need-returns
 returns c =
-    let at-bits = c .before .before .before .before .before .before .before .before .before .before .before .before .before .before .before .before .before .before .before .before .before in
+    let at-row2 = c .before .before .before .before .before .before in
+    let at-neg = at-row2 .before .before .before .before in
+    let at-row = at-neg .before .before .before .before .before .before .before in
+    let at-bits = at-row .before .before .before .before in
     let at-add = at-bits .before .before .before .before in
     let at-ones = at-add .before .before .before in
-    let at-start = c .before .before .before .before .before .before .before .before .before .before .before .before .before .before .before .before .before .before .before .before .before .before .before .before .before .before .before .before .before .before .before .before .before .before .before in
+    let at-start = at-ones .before .before .before .before .before .before .before in
     let zeroed = at-ones .before .constant-value .ensures in
-    let s = flat-constant _ _ (at-start .args .c) (now (at-start .args .coeffs)) (at-start .pre .3) zeroed
-    (at-add .before .mod-mul .ensures) (at-add .add-constant .ensures) in
     flat-atom _ _ _ (at-ones .before .before .next-var .ensures .0) zeroed (at-ones .at-ones .ensures)
-    (at-bits .before .bits-without .ensures) (at-bits .bits-without2 .ensures) (c .before .before .before .before .before .before .before .before .before .before .mod-neg .ensures) s
-    (c .before .before .before .before .before .before .before .before .before .before .before .before .before .before .before .before .before .flat-row .ensures) (c .before .before .before .before .before .before .flat-row2 .ensures)
+    (at-bits .before .bits-without .ensures) (at-bits .bits-without2 .ensures) (at-neg .mod-neg .ensures)
+    (flat-constant _ _ (at-start .args .c) (now (at-start .args .coeffs)) (at-start .pre .3) zeroed
+    (at-add .before .mod-mul .ensures) (at-add .add-constant .ensures)) (at-row .flat-row .ensures)
+    (at-row2 .flat-row2 .ensures)
 
 pub flatten-atom-spec : {M : Type 1} → statement M
 flatten-atom-spec =

@@ -30,10 +30,15 @@ is-atom-requires : tie.Need-is-atom-requires Inv-loop μ-loop
 is-atom-requires c κs = tt
 
 same-length : tie.Need-same-length Inv-loop μ-loop
-same-length c = c .before .before .before .loop .inv .room .words ∙ sym (c .before .before .before .before .before .before .before .before .pre .3)
+same-length c =
+    let at-loop = c .before .before .before in
+    at-loop .loop .inv .room .words ∙ sym (at-loop .before .before .before .before .before .pre .3)
 
 same-length-2 : tie.Need-same-length-2 Inv-loop μ-loop
-same-length-2 c = c .before .before .before .loop .inv .wide ∙ sym (ap length (c .before .before .before .before .before .before .before .before .pre .4) ∙ length-replicate {A = ℕ} 256 0)
+same-length-2 c =
+    let at-loop = c .before .before .before in
+    let at-start = at-loop .before .before .before .before .before in
+    at-loop .loop .inv .wide ∙ sym (ap length (at-start .pre .4) ∙ length-replicate {A = ℕ} 256 0)
 
 same-length-3 : tie.Need-same-length-3 Inv-loop μ-loop
 same-length-3 c = c .before .before .before .loop .inv .long
@@ -42,16 +47,21 @@ returns : tie.Need-returns Inv-loop μ-loop
 returns c =
     let at-loop = c .before .before .before in
     walked-end _ _ _ _ (at-loop .loop .x) _ _ _ (at-loop .loop .inv)
-    (ap isAtom (sym (c .before .before .rest-from .ensures)) ∙ sym (c .before .is-atom .ensures) ∙ not-true _ (c .if1 .taken))
+    (ap isAtom (sym (c .before .before .rest-from .ensures))
+    ∙ sym (c .before .is-atom .ensures)
+    ∙ not-true _ (c .if1 .taken))
 
 flatten-row-requires : tie.Need-flatten-row-requires Inv-loop μ-loop
 flatten-row-requires c κs =
-    let at-rest = c .before .before .before .before .before in
+    let at-if1 = c .before .before .before in
+    let at-rest = at-if1 .before .before in
     let at-loop = at-rest .before in
     let at-start = at-loop .before .before .before .before .before in
     let h = at-loop .loop .inv in
     let atom =
-    ap isAtom (sym (at-rest .rest-from .ensures)) ∙ sym (c .before .before .before .before .is-atom .ensures) ∙ not-false _ (c .before .before .before .if1 .left) in
+    ap isAtom (sym (at-rest .rest-from .ensures))
+    ∙ sym (at-if1 .before .is-atom .ensures)
+    ∙ not-false _ (at-if1 .if1 .left) in
     let n = walked-number _ _ _ _ (at-loop .loop .x) _ _ _ h atom in (
       at-start .pre .0,
       h .inside,
@@ -72,11 +82,14 @@ loop-less c =
 
 loop-again : tie.Need-loop-again Inv-loop μ-loop
 loop-again c =
-    let at-rest = c .before .before .before .before .before .before .before .before .before .before .before .before in
+    let at-row = c .before .before .before .before .before .before in
+    let at-if1 = at-row .before .before .before .before in
+    let at-rest = at-if1 .before .before in
     let at-loop = at-rest .before in
-    walked-row _ _ _ _ (at-loop .loop .x) (c .before .before .before .before .before .before .flatten-row .result) _ _ _ _ _ _ (at-loop .loop .inv)
-    (ap isAtom (sym (at-rest .rest-from .ensures)) ∙ sym (c .before .before .before .before .before .before .before .before .before .before .before .is-atom .ensures) ∙ not-false _ (c .before .before .before .before .before .before .before .before .before .before .if1 .left))
-    (c .before .before .before .before .before .before .flatten-row .ensures)
+    walked-row _ _ _ _ (at-loop .loop .x) (at-row .flatten-row .result) _ _ _ _ _ _ (at-loop .loop .inv)
+    (ap isAtom (sym (at-rest .rest-from .ensures))
+    ∙ sym (at-if1 .before .is-atom .ensures)
+    ∙ not-false _ (at-if1 .if1 .left)) (at-row .flatten-row .ensures)
 
 pub flatten-rows-spec : {M : Type 1} → statement M
 flatten-rows-spec =

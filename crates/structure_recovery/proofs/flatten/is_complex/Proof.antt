@@ -3,7 +3,8 @@ use mathlib.Core.Path.{ap, sym, _∙_}
 use mathlib.Core.Bool.{not}
 use Rattle.expr.specs.Utils.{traitsOf}
 use Rattle.expr.specs.declared.utils.Traits.{Traits}
-use Rattle.structure_recovery.proofs.ComplexLaws.{complex-plain, complex-counted, count-none, count-one, count-more}
+use Rattle.structure_recovery.proofs.ComplexLaws.{complex-plain, complex-counted}
+use Rattle.structure_recovery.proofs.ComplexLaws.{count-none, count-one, count-more}
 use borrow.Author.Needs.{needs}
 use Rattle.structure_recovery.proofs.flatten.is_complex.Statement.{statement}
 use Rattle.structure_recovery.proofs.flatten.is_complex.Tie as tie

@@ -18,7 +18,9 @@ rest-from-requires-2 : tie.Need-rest-from-requires-2
 rest-from-requires-2 c κs = search needs
 
 atom-length-requires : tie.Need-atom-length-requires
-atom-length-requires c κs = rw (c .before .rest-from .ensures) (c .before .before .before .before .before .before .pre .5)
+atom-length-requires c κs =
+    let at-rest = c .before in
+    rw (at-rest .rest-from .ensures) (at-rest .before .before .before .before .before .pre .5)
 
 add-after : tie.Need-add-after
 add-after c = search needs
@@ -33,37 +35,45 @@ returns : tie.Need-returns
 returns c =
     let at-length = c .before .before in
     let at-rest = at-length .before .before in
-    let at-start = c .before .before .before .before .before .before .before .before .before in
+    let at-start = at-rest .before .before .before .before .before in
     turn-none _ _ (at-start .args .self) (at-start .pre .1) (at-start .pre .2) (at-start .pre .5)
     (at-rest .rest-from .ensures) (at-length .before .rest-from2 .ensures) (at-length .atom-length .ensures .0)
     (at-start .pre .8) _ (sym (c .before .has-term .ensures) ∙ not-true _ (c .if1 .taken))
 
 front-word-requires : tie.Need-front-word-requires
-front-word-requires c κs = term-big _ (has-term-is _ _ (sym (c .before .has-term .ensures) ∙ not-false _ (c .if1 .left)) .0)
+front-word-requires c κs =
+    term-big _ (has-term-is _ _ (sym (c .before .has-term .ensures) ∙ not-false _ (c .if1 .left)) .0)
 
 tree-span-requires : tie.Need-tree-span-requires
-tree-span-requires c κs = rw (c .before .before .before .before .before .rest-from .ensures) (c .before .before .before .before .before .before .before .before .before .before .pre .5)
+tree-span-requires c κs =
+    let at-rest = c .before .before .before .before .before in
+    rw (at-rest .rest-from .ensures) (at-rest .before .before .before .before .before .pre .5)
 
 is-complex-requires : tie.Need-is-complex-requires
 is-complex-requires c κs =
-    let at-start = c .before .before .before .before .before .before .before .before .before .before .before in (
-      rw (c .tree-span .ensures, c .before .before .before .before .before .before .rest-from .ensures)
+    let at-rest = c .before .before .before .before .before .before in
+    let at-start = at-rest .before .before .before .before .before in (
+      rw (c .tree-span .ensures, at-rest .rest-from .ensures)
           (first-tree-sized (at-start .args .w) _ (at-start .pre .6) (at-start .pre .5)),
       at-start .pre .0,
     )
 
 flatten-atom-requires : tie.Need-flatten-atom-requires
 flatten-atom-requires c κs =
-    let at-span = c .before .before .before .before .before in
-    let at-rest = c .before .before .before .before .before .before .before .before .before .before .before in
-    let at-known = c .before .before .before .before .before .before .before .before .before .before .before .before .before .before .before in
+    let at-if2 = c .before .before .before in
+    let at-complex = at-if2 .before in
+    let at-span = at-complex .before in
+    let at-rest = at-span .before .before .before .before .before .before in
+    let at-known = at-rest .before .before .before .before in
     let at-start = at-known .before in
     let r = at-rest .rest-from .ensures in
-    let bytes = bytes-drop (at-start .args .self .at) (now (at-start .args .f)) (λ i. at-known .shared-slice-known .given i .fits) in (
+    let bytes =
+    bytes-drop (at-start .args .self .at) (now (at-start .args .f))
+    (λ i. at-known .shared-slice-known .given i .fits) in (
       rw (at-span .tree-span .ensures, r)
           (first-tree-sized (at-start .args .w) _ (at-start .pre .6) (at-start .pre .5)),
       complex-index _ _ bytes (first-atom-ok (at-start .args .w) _ (at-start .pre .6) (at-start .pre .5))
-          (at-span .tree-span .ensures ∙ ap treeSpan r) (sym (c .before .before .before .before .is-complex .ensures) ∙ c .before .before .before .if2 .taken),
+          (at-span .tree-span .ensures ∙ ap treeSpan r) (sym (at-complex .is-complex .ensures) ∙ at-if2 .if2 .taken),
       at-start .pre .0,
       at-start .pre .8,
       at-start .pre .9,
@@ -86,17 +96,19 @@ same-length-3 c = search needs
 
 returns-2 : tie.Need-returns-2
 returns-2 c =
-    let at-complex = c .before .before .before .before .before .before .before .before .before .before .before in
+    let at-atom = c .before .before .before .before .before .before in
+    let at-if2 = at-atom .before .before .before .before in
+    let at-complex = at-if2 .before in
     let at-word = at-complex .before .before in
     let at-length = at-word .before .before .before in
     let at-rest = at-length .before .before in
-    let at-start = c .before .before .before .before .before .before .before .before .before .before .before .before .before .before .before .before .before .before .before .before .before .before .before in
+    let at-start = at-rest .before .before .before .before .before in
     turn-flat _ _ (at-start .args .self) (at-start .pre .1) (at-start .pre .2) (at-start .pre .5)
     (at-rest .rest-from .ensures) (at-length .before .rest-from2 .ensures) (at-length .atom-length .ensures .0)
     (at-start .pre .8) _
     (sym (at-word .before .before .has-term .ensures) ∙ not-false _ (at-word .before .if1 .left))
     (at-word .front-word .ensures) (at-complex .before .tree-span .ensures) (at-start .pre .7)
-    (sym (at-complex .is-complex .ensures) ∙ c .before .before .before .before .before .before .before .before .before .before .if2 .taken) (c .before .before .before .before .before .before .flatten-atom .ensures)
+    (sym (at-complex .is-complex .ensures) ∙ at-if2 .if2 .taken) (at-atom .flatten-atom .ensures)
 
 mul-coeffs : tie.Need-mul-coeffs
 mul-coeffs c = search needs
@@ -119,7 +131,7 @@ returns-3 c =
     let at-word = at-complex .before .before in
     let at-length = at-word .before .before .before in
     let at-rest = at-length .before .before in
-    let at-start = c .before .before .before .before .before .before .before .before .before .before .before .before .before in
+    let at-start = at-rest .before .before .before .before .before in
     turn-put _ _ (at-start .args .self) (at-start .pre .1) (at-start .pre .2) (at-start .pre .5)
     (at-rest .rest-from .ensures) (at-length .before .rest-from2 .ensures) (at-length .atom-length .ensures .0)
     (at-start .pre .8) _
