@@ -65,12 +65,6 @@ set-words (a ∷ b ∷ c ∷ d ∷ []) h tab f n q = absurd (omega (arith, h))
 set-words (a ∷ b ∷ c ∷ d ∷ e ∷ []) h tab f n q = absurd (omega (arith, h))
 set-words (a ∷ b ∷ c ∷ d ∷ e ∷ k ∷ x ∷ l) h tab f n q = absurd (omega (arith, h))
 
--- and with the constant all six
-pub set-all : (made : List ℕ) → length made ≡ 6 → (tab : Table) (f n k : ℕ) → f ≡ flagOf (tab .full)
-    → set (set (set (set (set (set made 0 (tab .at)) 1 (tab .count)) 2 (tab .records)) 3 f) 4 n) 5 k ≡ wordsOf tab n k
-unfolding wordsOf
-set-all made h tab f n k q = ap (λ (l : List ℕ). set l 5 k) (set-words made h tab f n q)
-
 -- ---- an atom more
 
 -- F and G that agree on every list of rows

@@ -12,7 +12,7 @@ ghost use Rattle.group.specs.Group.{createMasked};
 ghost use Rattle.group.specs.Made.{tableOf, flagOf, wordsOf, Room, Grew, Basis};
 use semilinear::table::Table;
 
-// The table that the words hold.
+// The table that the words say.
 pub fn load(made: &[u64]) -> Table
     requires { ⌜ length (now made) ≡ 6 ⌝ }
     ensures { λ r. ⌜ r ≡ tableOf (now (made .entry)) ⌝ }
@@ -32,20 +32,6 @@ fn flag(full: bool) -> u64
         return 1;
     }
     0
-}
-
-// The table's words with this table, which has as many rows as atoms, and the constant.
-pub fn begin(made: &mut [u64], tab: Table, constant: u64)
-    requires { ⌜ length (now made) ≡ 6 ⌝ }
-    ensures { λ _. ⌜ now (made .exit) ≡ wordsOf tab (tab .count) constant ⌝ }
-{
-    let full = flag(tab.full);
-    made[0] = tab.at as u64;
-    made[1] = tab.count;
-    made[2] = tab.records;
-    made[3] = full;
-    made[4] = tab.count;
-    made[5] = constant;
 }
 
 // The table's words with this table, and one row more.

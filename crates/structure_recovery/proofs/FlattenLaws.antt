@@ -26,7 +26,7 @@ kept-none : (w : ℕ) → keptRows w [] ≡ []
 unfolding keptRows
 kept-none w = refl
 
-flatten-row-other : (w : ℕ) (x : Row) (s : Flat) → isComplex w x ≡ false → flattenRow w x s ≡ s
+pub flatten-row-other : (w : ℕ) (x : Row) (s : Flat) → isComplex w x ≡ false → flattenRow w x s ≡ s
 unfolding flattenRow
 flatten-row-other w x s e = simp e
 

@@ -13,3 +13,10 @@ pub mod AddedLaws
 pub mod FreshLaws
 pub mod CoalesceLaws
 pub mod OppositeLaws
+mod ComplexLaws
+mod ShownLaws
+mod NewRowLaws
+mod FlatTurnLaws
+mod KeptRowsLaws
+mod FlatWalkLaws
+mod FlatFormLaws

@@ -2,3 +2,4 @@
 pub mod RecoverStructure
 pub mod CoalesceTerms
 pub mod FlattenComplexAtoms
+pub mod Flattening

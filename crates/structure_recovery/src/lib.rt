@@ -1,1 +1,2 @@
 // Recovering structure, coalescing and flattening.
+pub mod flatten;

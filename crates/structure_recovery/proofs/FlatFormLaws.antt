@@ -1,0 +1,131 @@
+-- The begin and the end of flattening (specs/Flattening.antt): the words of the copied table hold the form's rows, and
+-- what the end of a pass gives of the flattened rows is the flattened form.
+use mathlib.Core.Path.{_≡_, refl, ap, ap₂, sym, _∙_}
+use Prim.Native.Nat.{ℕ, zero, suc, _*_, _≤_}
+use native.Mathlib.Omega.{arith}
+use native.Mathlib.Nat.{one-mul}
+use mathlib.Core.List.{List, [], _∷_, _++_}
+use mathlib.Core.Bool.{Bool, true, false}
+use lib.ListN.{length, getD, take, drop, length-append}
+use lib.Seq.{take-suc, drop-at}
+use Rattle.record.specs.Fields.{width, literal}
+use Rattle.record.specs.Put.{padded}
+use Rattle.record.specs.Span.{body}
+use Rattle.record.specs.Tree.{IsBytes}
+use Rattle.record.proofs.PutLaws.{take-padded, length-padded}
+use Rattle.semilinear.specs.declared.outcome.Answer.{Answer}
+use Rattle.semilinear.specs.declared.table.Table.{Table}
+use Rattle.semilinear.specs.Form.{Row, Form, atomsBytes}
+use Rattle.semilinear.specs.Items.{afterAtoms}
+use Rattle.semilinear.specs.Valid.{frontOk, isSemilinear}
+use Rattle.semilinear.specs.DecodeForm.{rowsOf, decodeForm, readForm}
+use Rattle.semilinear.specs.Answers.{GivesForm}
+use Rattle.semilinear.specs.Compact.{limitOutcome}
+use Rattle.semilinear.specs.Scan.{AtomsEnd}
+use Rattle.semilinear.specs.Table.{Placed}
+use Rattle.semilinear.specs.Terms.{coeffsOf, coeffsIn, Copied, Finished}
+use Rattle.semilinear.proofs.AcceptLaws.{written}
+use Rattle.semilinear.proofs.HoldsLaws.{at-holds}
+use Rattle.semilinear.proofs.PassLaws.{semilinear-front}
+use Rattle.semilinear.proofs.ValidLaws.{semilinear-parts}
+use Rattle.semilinear.proofs.TermsLaws.{length-coeffs}
+use Rattle.group.specs.Made.{tableOf, flagOf, wordsOf, Held}
+use Rattle.group.proofs.WordsLaws.{held-start}
+use Rattle.structure_recovery.specs.FlattenComplexAtoms.{flattened, flattenForm}
+use Rattle.structure_recovery.specs.Flattening.{Shown, flatRows, RowsFlattened}
+use Rattle.structure_recovery.proofs.ShownLaws.{fits-length}
+
+-- ---- the begin
+
+-- the words of a copied table, with as many rows as atoms
+abbrev pub begun : Table → ℕ → List ℕ
+begun tab k = tab .at ∷ tab .count ∷ tab .records ∷ 0 ∷ tab .count ∷ k ∷ []
+
+pub held-copied : (f : Form) (tab : Table) (out : List ℕ) (k : ℕ) → Copied f tab out
+    → Held (f .bitwidth) (begun tab k) out (f .rows)
+unfolding wordsOf flagOf
+held-copied f tab out k h =
+    let count : tab .count ≡ length (f .rows) = h .holds .kept (h .more) .count in
+    let same : begun tab k ≡ wordsOf tab (length (f .rows)) k =
+    ap₂ (λ (b : Bool) (n : ℕ). tab .at ∷ tab .count ∷ tab .records ∷ flagOf b ∷ n ∷ k ∷ []) (sym (h .more)) count in
+    rw same (held-start (f .bitwidth) tab out (f .rows) k (h .holds) (h .clean))
+
+-- the atoms end where the terms begin
+pub copied-end : (s : List ℕ) → IsBytes s → isSemilinear s ≡ true → (tab : Table) (out : List ℕ)
+    → Copied (readForm s) tab out → AtomsEnd (body s) (tab .at)
+unfolding decodeForm
+copied-end s bytes ok tab out h =
+    let rows : List Row = rowsOf 0 (body s) (afterAtoms (body s)) in
+    let atoms : List ℕ = atomsBytes (width s) rows in
+    let all : atoms ++ afterAtoms (body s) ≡ body s = written s bytes ok .atoms in
+    let at : tab .at ≡ length atoms = at-holds (width s) tab out rows (h .holds) (h .more) in
+    record {
+      inside = omega (arith, at, ap length all, length-append atoms (afterAtoms (body s)));
+      rest = ap (drop (tab .at)) (sym all) ∙ drop-at atoms (afterAtoms (body s)) (tab .at) (sym at);
+    }
+
+-- what the rows are flattened with, as the code reads it
+pub flatten-begin : (s : List ℕ) → IsBytes s → isSemilinear s ≡ true → {w k : ℕ} {b : List ℕ} → w ≡ width s → b ≡ body s
+    → {tab : Table} {out : List ℕ} → Copied (readForm s) tab out
+    → (w ≤ 64) × (frontOk w b ≡ true) × AtomsEnd b (tab .at)
+    × Held w (begun tab k) out (rowsOf 0 b (afterAtoms b))
+unfolding decodeForm
+flatten-begin s bytes ok {w} {k} {b} ew eb {tab} {out} h =
+    rw (ew, eb) (
+      semilinear-parts s ok .0 .width-le,
+      semilinear-front s ok,
+      copied-end s bytes ok tab out h,
+      held-copied (readForm s) tab out k h,
+    )
+
+-- ---- the end
+
+-- words that stand side by side
+coeffs-in-one : (words : List ℕ) (n : ℕ) → n ≤ length words → coeffsIn 1 words n ≡ take n words
+unfolding coeffsIn
+coeffs-in-one words zero h = refl
+coeffs-in-one words (suc n) h =
+    ap₂ (λ (l : List ℕ) (i : ℕ). l ++ (getD words i 0 ∷ [])) (coeffs-in-one words n (omega arith)) (one-mul n)
+    ∙ sym (take-suc words n 0 (omega arith))
+
+shown-coeffs : (w : ℕ) (made out coeffs : List ℕ) (l : List Row) → Shown w made out coeffs l
+    → tableOf made .full ≡ false → coeffsIn 1 coeffs (length l) ≡ coeffsOf l
+shown-coeffs w made out coeffs l h more =
+    let fit = h .held .holds .kept more .fits in
+    let n : length (coeffsOf l) ≡ length l = length-coeffs l in
+    let most : length l ≤ 256 = fits-length l fit in
+    let same : coeffs ≡ padded 256 (coeffsOf l) = h .terms fit in
+    let len : length coeffs ≡ 256 = ap length same ∙ length-padded 256 (coeffsOf l) (omega arith) in
+    coeffs-in-one coeffs (length l) (omega arith)
+    ∙ ap₂ (λ (k : ℕ) (d : List ℕ). take k d) (sym n) same
+    ∙ take-padded 256 (coeffsOf l)
+
+module _ {w k len : ℕ} {l : List Row} {g : Bool} {made out coeffs : List ℕ} {tab : Table}
+    (h : RowsFlattened w l k len g made out coeffs) (et : tab ≡ tableOf made) where
+  -- the end has room for all terms
+  pub flatten-room : len ≡ 57360
+      → Placed tab (length out) × (length out ≡ 57360) × (tab .full ≡ false → 1 * tab .count ≤ length coeffs)
+  flatten-room e =
+      let placed : Placed tab (length out) = rw et (h .room .placed) in
+      (placed, h .long ∙ e, λ _. omega (arith, placed .atoms-le, h .wide))
+
+  -- and gives the flattened rows, or 9
+  flatten-gives : (r : Answer) {out′ : List ℕ} → Finished w tab 1 coeffs (getD made 5 0) g out r out′
+      → GivesForm
+      (limitOutcome
+      (record { bitwidth = w; constant = flatRows w l k .constant; rows = flatRows w l k .added })
+      (flatRows w l k .flag)) 57360 r out′
+  flatten-gives r finished =
+      let x = h .works in
+      let end = rw (et, x .constant, x .flag) at finished in
+      end .gives (flatRows w l k .added) (x .shown .held .holds) (x .shown .held .clean)
+      (shown-coeffs w made out coeffs (flatRows w l k .added) (x .shown))
+
+-- of the rows of a form it is the flattened form
+pub flatten-end : (s : List ℕ) {w k len : ℕ} {b : List ℕ} → w ≡ width s → k ≡ literal s → b ≡ body s
+    → {g : Bool} {made out coeffs : List ℕ} → RowsFlattened w (rowsOf 0 b (afterAtoms b)) k len g made out coeffs
+    → {tab : Table} → tab ≡ tableOf made → (r : Answer) {out′ : List ℕ}
+    → Finished w tab 1 coeffs (getD made 5 0) g out r out′
+    → GivesForm (limitOutcome (flattenForm (readForm s)) (flattened (readForm s) .flag)) 57360 r out′
+unfolding flattenForm flattened flatRows decodeForm
+flatten-end s ew ek eb h et r finished = rw (ew, ek, eb) at (flatten-gives h et r finished)
