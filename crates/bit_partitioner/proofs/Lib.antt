@@ -5,3 +5,5 @@ pub mod ProfileLaws
 pub mod ClassesLaws
 pub mod ColumnsLaws
 pub mod ComputeLaws
+mod ClassWordsLaws
+mod JoinLaws

@@ -1,3 +1,4 @@
 -- The partition of a semilinear form's places by the profiles of its atoms (document 01: hint columns).
 pub mod Partition
 pub mod Columns
+pub mod Classes

@@ -1,1 +1,2 @@
 // The partition of the places by the profiles of the atoms.
+mod classes;
