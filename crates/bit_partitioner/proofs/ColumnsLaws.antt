@@ -22,12 +22,12 @@ use Rattle.expr.specs.Refusal.{isExpr}
 use Rattle.expr.specs.Utils.{hasVarDep, hasArith}
 use Rattle.expr.specs.Value.{value}
 use Rattle.expr.specs.Vars.{support}
+use Rattle.truth.specs.Truth.{rowOf}
+use Rattle.truth.proofs.BitOfLaws.{Bitwise, bit-value}
+use Rattle.truth.proofs.TruthLaws.{table-lt, table-row, occurs-support, row-of-lt, row-of-bit}
 use Rattle.semilinear.specs.Form.{Row, Form, isAtomTree, rowsOk, validForm}
 use Rattle.semilinear.specs.Outcome.{writtenOf}
 use Rattle.semilinear.proofs.FormLaws.{rows-cons, form-parts}
-use Rattle.semilinear_normalizer.specs.Truth.{rowOf}
-use Rattle.semilinear_normalizer.proofs.BitOfLaws.{Bitwise, bit-value}
-use Rattle.semilinear_normalizer.proofs.TruthLaws.{table-lt, table-row, occurs-support, row-of-lt, row-of-bit}
 use Rattle.bit_partitioner.specs.Partition.{isOpaque, opaqueWord, profileWord}
 use Rattle.bit_partitioner.specs.Partition.{PartitionClass, classesOf, classWords, partitionsOutcome}
 use Rattle.bit_partitioner.specs.Classes.{HasWords}

@@ -16,9 +16,9 @@ use Rattle.record.specs.Put.{padded}
 use Rattle.record.specs.Tree.{Tree}
 use Rattle.record.proofs.SizedLaws.{or-false}
 use Rattle.expr.specs.Vars.{support}
+use Rattle.truth.specs.Truth.{hasShift, table}
+use Rattle.truth.proofs.TruthLaws.{table-lt}
 use Rattle.semilinear.specs.Form.{Row}
-use Rattle.semilinear_normalizer.specs.Truth.{hasShift, table}
-use Rattle.semilinear_normalizer.proofs.TruthLaws.{table-lt}
 use Rattle.bit_partitioner.specs.Partition.{columnVars, isOpaque, opaqueWord, profileWord, profileFrom}
 use Rattle.bit_partitioner.specs.Partition.{PartitionClass, classWords}
 use Rattle.bit_partitioner.specs.Classes.{Each, HasWords}

@@ -10,10 +10,10 @@ use Rattle.record.specs.Choice.{when}
 use Rattle.record.specs.Lists.{eqList}
 use Rattle.record.specs.Tree.{Tree}
 use Rattle.expr.specs.Vars.{support}
+use Rattle.truth.specs.Truth.{hasShift, table}
 use Rattle.semilinear.specs.Form.{Row, Form}
 use Rattle.semilinear.specs.Outcome.{Outcome, accepted}
 use Rattle.semilinear.specs.Compact.{readOutcome}
-use Rattle.semilinear_normalizer.specs.Truth.{hasShift, table}
 
 -- the most variables of an atom whose profile word is its table
 abbrev pub columnVars : ℕ

@@ -11,6 +11,8 @@ use Rattle.expr.specs.Hash.{mixHash, tagHash, varHash, structuralHash}
 use Rattle.expr.specs.Utils.{hasKind, isArith, isBitwise, hasArith, hasConstantArith}
 use Rattle.expr.specs.Value.{unary, binary, value}
 use Rattle.expr.specs.Vars.{nextVar, supportF, support, sameVars}
+use Rattle.truth.specs.Key.{isPure, sameTable}
+use Rattle.truth.specs.Truth.{hasShift, bitBinary, bitOf, rowBits, tableF, table}
 use Rattle.semilinear.specs.Decompose.{decomposeAnd, decomposeAtom}
 use Rattle.semilinear.specs.Form.{termCount, atomBytes, atomsBytes, termBytes, termsBytes, sumBytes, encodeForm}
 use Rattle.semilinear.specs.Form.{eqTree, treeRecords, fitsTable}
@@ -23,9 +25,8 @@ use Rattle.semilinear_normalizer.specs.Collect.{joinCollected, collectAtom, col
 use Rattle.semilinear_normalizer.specs.Collect.{collectNot, isMaskedNot, collectAnd, andCoeff, collectMasked}
 use Rattle.semilinear_normalizer.specs.Collect.{collectTerms}
 use Rattle.semilinear_normalizer.specs.Normalize.{collectedForm, collectedOutcome, normalizeTree}
-use Rattle.semilinear_normalizer.specs.Register.{familyOf, detectProvenance, isPure, sameTable, sameSlot, newestRow}
+use Rattle.semilinear_normalizer.specs.Register.{familyOf, detectProvenance, sameSlot, newestRow}
 use Rattle.semilinear_normalizer.specs.Register.{firstRow, hasTree, sharedRow, addRow, registerAtom, registerAll}
-use Rattle.semilinear_normalizer.specs.Truth.{hasShift, bitBinary, bitOf, rowBits, tableF, table}
 use Rattle.term_refiner.specs.Collapse.{thirdFits, findThird, secondFits, findSecond, firstFits, findFirst}
 use Rattle.term_refiner.specs.Collapse.{collapseAt, threeTermCollapse}
 use Rattle.term_refiner.specs.RefineTerms.{refineGroup, refineAll, refineForm}

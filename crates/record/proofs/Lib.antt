@@ -5,5 +5,6 @@ pub mod SizedLaws
 pub mod BytesLaws
 pub mod EncodeLaws
 pub mod DecodeLaws
+pub mod LeafLaws
 pub mod ListsLaws
 pub mod PutLaws

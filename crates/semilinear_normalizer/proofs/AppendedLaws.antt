@@ -20,6 +20,8 @@ use Rattle.record.proofs.PutLaws.{length-put}
 use Rattle.expr.specs.Refusal.{treeRefusal}
 use Rattle.expr.specs.Hash.{structuralHash}
 use Rattle.expr.proofs.RefusalLaws.{sized-accepted}
+use Rattle.truth.specs.Key.{keyOf}
+use Rattle.truth.proofs.KeyLaws.{length-key}
 use Rattle.semilinear.specs.declared.table.Table.{Table}
 use Rattle.semilinear.specs.Form.{Row}
 use Rattle.semilinear.specs.Table.{Placed, storeOf, atomSpan, fitsMore, moreAtoms, fullTable, createAtom, Holds}
@@ -27,10 +29,8 @@ use Rattle.semilinear.proofs.TableLaws.{length-atom-span, create-cases, fits-mo
 use Rattle.semilinear.proofs.HoldsLaws.{holds-accepted, holds-bare}
 use Rattle.semilinear_normalizer.specs.Register.{detectProvenance, addRow}
 use Rattle.semilinear_normalizer.specs.Spots.{spanOf}
-use Rattle.semilinear_normalizer.specs.Key.{keyOf}
 use Rattle.semilinear_normalizer.specs.Index.{rowAt, rowsIn, EntryOk, Indexed, RoomMore, Registers, emitted}
 use Rattle.semilinear_normalizer.specs.Index.{rowOf}
-use Rattle.semilinear_normalizer.proofs.KeyLaws.{length-key}
 use Rattle.semilinear_normalizer.proofs.IndexLaws.{length-rows-in, rows-in-more, rows-in-same, rows-in-add}
 use Rattle.semilinear_normalizer.proofs.IndexLaws.{entry-kept, entry-later, entry-set-kept}
 use Rattle.semilinear_normalizer.proofs.EntryLaws.{entryWords, take-entry, entry-row, entry-ok}

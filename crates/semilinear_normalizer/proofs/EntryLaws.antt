@@ -11,9 +11,9 @@ use Rattle.record.specs.Decode.{decode}
 use Rattle.record.proofs.PutLaws.{getD-put-in}
 use Rattle.expr.specs.Refusal.{treeRefusal}
 use Rattle.expr.specs.Hash.{structuralHash}
+use Rattle.truth.specs.Key.{keyOf}
 use Rattle.semilinear_normalizer.specs.Register.{detectProvenance}
 use Rattle.semilinear_normalizer.specs.Spots.{spanOf}
-use Rattle.semilinear_normalizer.specs.Key.{keyOf}
 use Rattle.semilinear_normalizer.specs.Index.{entrySpan, rowAt, EntryOk}
 use Rattle.semilinear_normalizer.proofs.PutSpanLaws.{take-put-front, span-put-piece}
 

@@ -14,14 +14,15 @@ use Rattle.expr.specs.Utils.{hasKind, isArith, isBitwise, hasArith, hasConstant
 use Rattle.expr.specs.Value.{unary, binary, value}
 use Rattle.expr.specs.Vars.{nextVar, supportF, support, sameVars}
 use Rattle.expr.specs.Hash.{mixHash, tagHash, varHash, structuralHash}
+use Rattle.truth.specs.Key.{isPure, sameTable}
+use Rattle.truth.specs.Truth.{bitBinary, bitOf, rowBits, tableF, table}
 use Rattle.semilinear.specs.Form.{Row, termCount, atomBytes, atomsBytes, termBytes, termsBytes, sumBytes, encodeForm}
 use Rattle.semilinear.specs.Form.{eqTree, treeRecords, fitsTable}
 use Rattle.semilinear.specs.Outcome.{Outcome, accepted, refused, refusalOf, formOutcome}
 use Rattle.semilinear_normalizer.specs.Collect.{joinCollected, collectAtom, collectConstant, isNot, operand}
 use Rattle.semilinear_normalizer.specs.Collect.{collectNot, isMaskedNot, collectAnd, andCoeff, collectMasked}
 use Rattle.semilinear_normalizer.specs.Collect.{collectTerms}
-use Rattle.semilinear_normalizer.specs.Truth.{bitBinary, bitOf, rowBits, tableF, table}
-use Rattle.semilinear_normalizer.specs.Register.{familyOf, detectProvenance, isPure, sameTable, sameSlot}
+use Rattle.semilinear_normalizer.specs.Register.{familyOf, detectProvenance, sameSlot}
 use Rattle.semilinear_normalizer.specs.Register.{newestRow, firstRow, hasTree, sharedRow, addRow, registerAtom}
 use Rattle.semilinear_normalizer.specs.Register.{registerAll}
 use Rattle.semilinear_normalizer.specs.Normalize.{collectedForm, collectedOutcome, normalizeTree}

@@ -9,9 +9,9 @@ use Rattle.record.specs.Fields.{kind, amount, arity}
 use Rattle.record.specs.Tree.{Tree}
 use Rattle.record.specs.Tree.Tree.{Unary}
 use Rattle.record.specs.Decode.{decode}
+use Rattle.record.proofs.LeafLaws.{leaf-both}
 use Rattle.semilinear_normalizer.specs.Collect.{isNot, operand}
 use Rattle.semilinear_normalizer.specs.Spots.{spanOf, Accepted}
-use Rattle.semilinear_normalizer.proofs.LeafLaws.{leaf-both}
 use Rattle.semilinear_normalizer.proofs.SpanOfLaws.{body-accepted, tree-leaf, tree-one, tree-two}
 
 module _ {w : ℕ} {file : List ℕ} {s e : ℕ} (h : Accepted w file s e) where

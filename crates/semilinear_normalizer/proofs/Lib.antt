@@ -1,16 +1,9 @@
 -- The laws of the definitions; those that other crates use are public.
 mod PartLaws
-mod LeafLaws
 mod JoinLaws
 mod RootLaws
 mod CollectLaws
 mod EmittedLaws
-pub mod BitOfLaws
-pub mod TruthLaws
-mod RowsLaws
-mod FirstVarsLaws
-mod WordTableLaws
-mod KeyLaws
 mod RegisterLaws
 pub mod NormalizeLaws
 mod RefusedLaws

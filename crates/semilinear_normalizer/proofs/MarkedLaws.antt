@@ -13,12 +13,12 @@ use Rattle.record.specs.Put.{put}
 use Rattle.record.proofs.SizedLaws.{sized-big, sized-length}
 use Rattle.record.proofs.DecodeLaws.{decode-leaf, decode-one, decode-two, kind-inner, child-left}
 use Rattle.record.proofs.PutLaws.{put-then, put-then-then}
+use Rattle.record.proofs.LeafLaws.{leaf-both}
 use Rattle.expr.specs.declared.utils.Traits.{Traits}
 use Rattle.expr.specs.Utils.{traitsOf, joinTraits, nodeTraits}
 use Rattle.expr.proofs.UtilsLaws.{traits-one, traits-two}
 use Rattle.semilinear_normalizer.specs.Marks.{markNumber, markOf, marksOf, Marked}
 use Rattle.semilinear_normalizer.proofs.MarksLaws.{length-marks}
-use Rattle.semilinear_normalizer.proofs.LeafLaws.{leaf-both}
 use Rattle.semilinear_normalizer.proofs.SpanOfLaws.{size-sized}
 
 -- the mark of what a tree holds

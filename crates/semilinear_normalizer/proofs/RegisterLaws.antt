@@ -15,15 +15,16 @@ use Rattle.record.specs.Choice.{when}
 use Rattle.record.specs.Tree.{Tree}
 use Rattle.record.specs.Tree.Tree.{Constant, Variable, Unary, Binary}
 use Rattle.expr.specs.Value.{value}
+use Rattle.truth.specs.Key.{sameTable}
+use Rattle.truth.proofs.TruthLaws.{table-value}
 use Rattle.semilinear.specs.Form.{Row, sumRows, rowsOk}
 use Rattle.semilinear.proofs.FormLaws.{Good, good-row, rows-cons}
 use Rattle.semilinear.proofs.AtomLaws.{Atom, atom-tree, tree-atom, eq-of-eq-tree}
 use Rattle.semilinear_normalizer.specs.Collect.{Emitted}
-use Rattle.semilinear_normalizer.specs.Register.{familyOf, detectProvenance, sameTable, sameSlot, newestRow}
+use Rattle.semilinear_normalizer.specs.Register.{familyOf, detectProvenance, sameSlot, newestRow}
 use Rattle.semilinear_normalizer.specs.Register.{firstRow, hasTree, sharedRow, addRow, registerAtom, registerAll}
 use Rattle.semilinear_normalizer.proofs.CollectLaws.{sumEmitted}
 use Rattle.semilinear_normalizer.proofs.EmittedLaws.{GoodEmitted, AllGood}
-use Rattle.semilinear_normalizer.proofs.TruthLaws.{table-value}
 
 -- ---- provenance
 

@@ -14,6 +14,7 @@ use Rattle.record.specs.Tree.{Tree}
 use Rattle.record.specs.Tree.Tree.{Unary, Binary}
 use Rattle.record.specs.Decode.{leaf}
 use Rattle.record.proofs.SizedLaws.{false-true, and-true}
+use Rattle.record.proofs.LeafLaws.{leaf-both}
 use Rattle.semilinear.specs.Form.{Row, treeRecords, fitsTable}
 use Rattle.semilinear.proofs.HoldsLaws.{bareRows}
 use Rattle.semilinear_normalizer.specs.Collect.{Emitted}
@@ -21,7 +22,6 @@ use Rattle.semilinear_normalizer.specs.Register.{familyOf, detectProvena
 use Rattle.semilinear_normalizer.specs.Register.{registerAll}
 use Rattle.semilinear_normalizer.specs.Spots.{spotAt, spotsIn}
 use Rattle.semilinear_normalizer.specs.Index.{joinProvenance, rowOf}
-use Rattle.semilinear_normalizer.proofs.LeafLaws.{leaf-both}
 
 -- ---- the family of a root
 

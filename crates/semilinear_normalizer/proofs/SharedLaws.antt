@@ -18,15 +18,15 @@ use Rattle.expr.specs.Refusal.{treeRefusal}
 use Rattle.expr.specs.Vars.{sameVars}
 use Rattle.expr.specs.Hash.{structuralHash}
 use Rattle.expr.proofs.AcceptLaws.{accept-encode}
+use Rattle.truth.specs.Key.{isPure, sameTable, notPure, keyOf}
+use Rattle.truth.proofs.KeyLaws.{not-pure-same, not-pure-key, pure-key, same-table-key}
 use Rattle.semilinear.specs.Form.{Row, eqTree}
 use Rattle.semilinear.specs.Loop.{firstF, firstIn}
-use Rattle.semilinear_normalizer.specs.Register.{isPure, sameTable, sameSlot, newestRow, firstRow, hasTree}
+use Rattle.semilinear_normalizer.specs.Register.{sameSlot, newestRow, firstRow, hasTree}
 use Rattle.semilinear_normalizer.specs.Register.{sharedRow}
 use Rattle.semilinear_normalizer.specs.Spots.{spanOf}
-use Rattle.semilinear_normalizer.specs.Key.{notPure, keyOf}
 use Rattle.semilinear_normalizer.specs.Index.{entrySpan, entryTree, rowAt, rowsIn, EntryOk, lastF, slotAt}
 use Rattle.semilinear_normalizer.specs.Index.{newestSlot, rowByHash, rowByKey}
-use Rattle.semilinear_normalizer.proofs.KeyLaws.{not-pure-same, not-pure-key, pure-key, same-table-key}
 use Rattle.semilinear_normalizer.proofs.IndexLaws.{length-rows-in, rowsFrom, rows-from}
 use Rattle.semilinear_normalizer.proofs.SlotLaws.{keyAt, row-key-none, row-key-search}
 

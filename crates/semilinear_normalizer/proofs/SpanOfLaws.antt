@@ -16,12 +16,12 @@ use Rattle.record.proofs.SpanLaws.{fold-two}
 use Rattle.record.proofs.DecodeLaws.{decode-leaf, decode-one, decode-two}
 use Rattle.record.proofs.SizedLaws.{false-true, sized-big, sized-length, sized-leaf, sized-body, sized-left}
 use Rattle.record.proofs.SizedLaws.{sized-right}
+use Rattle.record.proofs.LeafLaws.{leaf-both}
 use Rattle.expr.specs.Refusal.{treeRefusal}
 use Rattle.expr.proofs.RefusalLaws.{accepted-big, accepted-root, accepted-body, accepted-left, accepted-right}
 use Rattle.expr.proofs.RefusalLaws.{sized-accepted}
 use Rattle.semilinear_normalizer.specs.Spots.{spanOf, Accepted}
 use Rattle.semilinear_normalizer.specs.Sides.{isBinary}
-use Rattle.semilinear_normalizer.proofs.LeafLaws.{leaf-both}
 use Rattle.semilinear_normalizer.proofs.PartLaws.{length-span, span-span, take-span}
 
 -- ---- the records of a span

@@ -10,10 +10,10 @@ use Rattle.record.specs.Tree.{IsBytes}
 use Rattle.record.specs.Decode.{decode}
 use Rattle.expr.specs.Refusal.{treeRefusal}
 use Rattle.expr.specs.Hash.{structuralHash}
+use Rattle.truth.specs.Key.{keyOf}
 use Rattle.semilinear.specs.declared.table.Table.{Table}
 use Rattle.semilinear.specs.Form.{Row}
 use Rattle.semilinear_normalizer.specs.Register.{sharedRow, registerAtom}
-use Rattle.semilinear_normalizer.specs.Key.{keyOf}
 use Rattle.semilinear_normalizer.specs.Index.{rowsIn, Indexed, Registers, Searchable, emitted, rowOf, rowByHash}
 use Rattle.semilinear_normalizer.specs.Index.{rowByKey}
 use Rattle.semilinear_normalizer.proofs.SlotLaws.{row-by-hash-le}

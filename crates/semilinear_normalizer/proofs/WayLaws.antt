@@ -16,6 +16,7 @@ use Rattle.record.specs.Tree.Tree.{Unary, Binary}
 use Rattle.record.specs.Decode.{leaf, decode}
 use Rattle.record.proofs.FieldsLaws.{kind-of-arity-one, kind-of-arity-two, arity-two, arity-one-of-le}
 use Rattle.record.proofs.SizedLaws.{false-true}
+use Rattle.record.proofs.LeafLaws.{leaf-both}
 use Rattle.expr.specs.Utils.{hasKind, hasVarDep, isArith, hasArith}
 use Rattle.expr.specs.Value.{value}
 use Rattle.expr.proofs.ValueLaws.{value-lt}
@@ -27,7 +28,6 @@ use Rattle.semilinear_normalizer.specs.Marks.{marksOf}
 use Rattle.semilinear_normalizer.specs.Spots.{spanOf}
 use Rattle.semilinear_normalizer.specs.Sides.{treeAt, AtSpot, SideAt, SideOf, isBinary, leftOf, rightOf}
 use Rattle.semilinear_normalizer.specs.Sides.{collectLiteral, collectWhole, WayOf}
-use Rattle.semilinear_normalizer.proofs.LeafLaws.{leaf-both}
 use Rattle.semilinear_normalizer.proofs.MarksLaws.{body-marks}
 use Rattle.semilinear_normalizer.proofs.SpanOfLaws.{span-kind, body-accepted, tree-leaf, tree-one, binary-zero}
 use Rattle.semilinear_normalizer.proofs.SpanOfLaws.{binary-one}

@@ -15,10 +15,10 @@ use Rattle.record.specs.Span.{left, right}
 use Rattle.record.specs.Decode.{leaf, decode}
 use Rattle.record.proofs.SpanLaws.{fold-leaf, fold-one, fold-two}
 use Rattle.record.proofs.SizedLaws.{false-true}
+use Rattle.record.proofs.LeafLaws.{leaf-both}
 use Rattle.expr.specs.Utils.{hasArith}
 use Rattle.semilinear_normalizer.specs.Collect.{nonlinear, collectAtom, collectAnd}
 use Rattle.semilinear_normalizer.specs.Sides.{leftOf, rightOf, IsAnd, collectWhole}
-use Rattle.semilinear_normalizer.proofs.LeafLaws.{leaf-both}
 
 -- ---- what is collected
 

@@ -16,6 +16,7 @@ use Rattle.record.specs.Put.{put}
 use Rattle.expr.specs.Refusal.{treeRefusal}
 use Rattle.expr.specs.Vars.{sameVars}
 use Rattle.expr.specs.Hash.{structuralHash}
+use Rattle.truth.specs.Key.{notPure, keyOf}
 use Rattle.semilinear.specs.declared.table.Table.{Table}
 use Rattle.semilinear.specs.declared.compact.Written.{Written}
 use Rattle.semilinear.specs.Form.{Row, fitsTable, termCount, termBytes, termsBytes}
@@ -24,7 +25,6 @@ use Rattle.semilinear.specs.Loop.{firstIn}
 use Rattle.semilinear_normalizer.specs.Collect.{Emitted}
 use Rattle.semilinear_normalizer.specs.Register.{familyOf, detectProvenance}
 use Rattle.semilinear_normalizer.specs.Spots.{spanOf}
-use Rattle.semilinear_normalizer.specs.Key.{notPure, keyOf}
 
 -- the bytes of atom j's tree
 unfoldable pub entrySpan : List ℕ → List ℕ → ℕ → List ℕ

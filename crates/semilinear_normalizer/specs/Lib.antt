@@ -3,8 +3,6 @@ pub mod Collect
 pub mod Marks
 pub mod Spots
 pub mod Sides
-pub mod Truth
 pub mod Register
-pub mod Key
 pub mod Index
 pub mod Normalize

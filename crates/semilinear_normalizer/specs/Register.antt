@@ -3,19 +3,18 @@
 -- (hash, variables), that of the newest atom.
 use Prim.Native.Nat.{ℕ, zero, suc, _+_}
 use mathlib.Core.List.{List, [], _∷_}
-use mathlib.Core.Bool.{Bool, false, not, _&&_, _||_}
+use mathlib.Core.Bool.{Bool, false, _&&_, _||_}
 use lib.ListN.{length}
-use lib.Dec.{eqb, leb}
+use lib.Dec.{eqb}
 use Rattle.arith.specs.Width.{modAdd}
 use Rattle.record.specs.Choice.{when}
 use Rattle.record.specs.Tree.{Tree}
 use Rattle.record.specs.Tree.Tree.{Constant, Variable, Unary, Binary}
-use Rattle.expr.specs.Utils.{hasLiteral, hasShr}
-use Rattle.expr.specs.Vars.{support, sameVars}
+use Rattle.expr.specs.Vars.{sameVars}
 use Rattle.expr.specs.Hash.{structuralHash}
+use Rattle.truth.specs.Key.{sameTable}
 use Rattle.semilinear.specs.Form.{Row, eqTree}
 use Rattle.semilinear_normalizer.specs.Collect.{Emitted}
-use Rattle.semilinear_normalizer.specs.Truth.{table}
 
 -- the family f where both children belong to it or are Mixed, otherwise Mixed
 unfoldable pub familyOf : ℕ → ℕ → ℕ → ℕ
@@ -30,22 +29,6 @@ detectProvenance (Binary k l r) =
     when (eqb k 4) (λ _. familyOf 0 (detectProvenance l) (detectProvenance r))
     (λ _. when (eqb k 5) (λ _. familyOf 1 (detectProvenance l) (detectProvenance r))
     (λ _. when (eqb k 6) (λ _. familyOf 2 (detectProvenance l) (detectProvenance r)) (λ _. 4)))
-
--- the most variables of an atom that is shared by its truth table
-abbrev pub sharedVars : ℕ
-sharedVars = 5
-
--- the tree may be shared by its truth table: no literal, no Shr, and few variables
-unfoldable pub isPure : Tree → Bool
-isPure t = not (hasLiteral t) && (not (hasShr t) && leb (length (support t)) sharedVars)
-
--- the same function of the same variables
-unfoldable pub sameTable : Tree → Tree → Bool
-sameTable t u =
-    isPure t
-    && (isPure u
-    && (sameVars t u
-    && eqb (table 0 (support t) (length (support t)) t) (table 0 (support t) (length (support t)) u)))
 
 -- the same hash and the same variables
 unfoldable pub sameSlot : Tree → Tree → Bool

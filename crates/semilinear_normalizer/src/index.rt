@@ -1,7 +1,7 @@
 // The index of the atom table while normalising: what registering asks of each atom, in lent words.
 // An entry is the coefficient, the hash, where the tree starts and ends in the result slice, and
 // the key by which pure trees are shared: truth table and variables.
-use crate::key;
+use truth::key;
 ghost use mathlib.Core.Path.{_≡_};
 ghost use mathlib.Core.Bool.{true};
 ghost use Prim.Native.Nat.{_+_, _*_, _≤_};

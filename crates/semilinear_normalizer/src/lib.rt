@@ -3,11 +3,9 @@
 pub mod collect;
 pub mod form;
 pub mod index;
-pub mod key;
 pub mod marks;
 pub mod register;
 pub mod side;
-pub mod truth;
 
 use crate::collect::Descent;
 use crate::side::Spot;

@@ -2,8 +2,8 @@
 // appended.
 use crate::collect;
 use crate::index;
-use crate::key;
 use semilinear::table::Table;
+use truth::key;
 ghost use mathlib.Core.Path.{_≡_};
 ghost use mathlib.Core.Bool.{true, _||_};
 ghost use mathlib.Core.List.{[], _∷_, _++_};
@@ -16,11 +16,11 @@ ghost use Rattle.record.specs.Put.{put, padded};
 ghost use Rattle.record.specs.Decode.{decode};
 ghost use Rattle.expr.specs.Refusal.{treeRefusal};
 ghost use Rattle.expr.specs.Hash.{structuralHash};
+ghost use Rattle.truth.specs.Key.{keyOf};
 ghost use Rattle.semilinear_normalizer.specs.Register.{familyOf, detectProvenance};
 ghost use Rattle.semilinear_normalizer.specs.Register.{registerAtom, registerAll};
 ghost use Rattle.semilinear_normalizer.specs.Spots.{Accepted, SpotsOk, spotTree, spotAt};
 ghost use Rattle.semilinear_normalizer.specs.Spots.{spotsIn};
-ghost use Rattle.semilinear_normalizer.specs.Key.{keyOf};
 ghost use Rattle.semilinear_normalizer.specs.Index.{Indexed, RoomMore, Registers, Built};
 ghost use Rattle.semilinear_normalizer.specs.Index.{rowsIn, emitted, rowOf, joinProvenance};
 

@@ -28,10 +28,10 @@ use Rattle.expr.specs.Vars.{occurs, noVar, nextVar, support}
 use Rattle.expr.proofs.ValueLaws.{value-lt}
 use Rattle.expr.proofs.VarsLaws.{next-var-le, supportFrom, support-from-zero, support-from-next, support-from-end}
 use Rattle.expr.proofs.SupportLaws.{next-var-occurs}
+use Rattle.truth.proofs.BitOfLaws.{Bitwise, bit-value, bit-of-agree}
+use Rattle.truth.proofs.TruthLaws.{occurs-support, no-shift}
 use Rattle.semilinear.specs.Form.{isAtomTree}
 use Rattle.semilinear.proofs.AtomLaws.{tree-atom}
-use Rattle.semilinear_normalizer.proofs.BitOfLaws.{Bitwise, bit-value, bit-of-agree}
-use Rattle.semilinear_normalizer.proofs.TruthLaws.{occurs-support, no-shift}
 use Rattle.structure_recovery.specs.FlattenComplexAtoms.{atZero, atOnes}
 
 -- ---- the variable

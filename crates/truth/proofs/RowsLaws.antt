@@ -21,9 +21,9 @@ use Rattle.record.specs.Choice.{when}
 use Rattle.record.specs.Tree.{Tree}
 use Rattle.record.specs.Tree.Tree.{Constant, Variable, Unary, Binary}
 use Rattle.record.proofs.SizedLaws.{and-true}
-use Rattle.semilinear_normalizer.specs.Truth.{bitBinary, bitOf, placeOf, rowBits, tableF}
-use Rattle.semilinear_normalizer.proofs.BitOfLaws.{bit-of-agree}
-use Rattle.semilinear_normalizer.proofs.TruthLaws.{tableF-lt, tableF-bit}
+use Rattle.truth.specs.Truth.{bitBinary, bitOf, placeOf, rowBits, tableF}
+use Rattle.truth.proofs.BitOfLaws.{bit-of-agree}
+use Rattle.truth.proofs.TruthLaws.{tableF-lt, tableF-bit}
 
 -- ---- words of n rows at place p, over the variables vs
 

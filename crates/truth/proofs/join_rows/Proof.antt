@@ -1,7 +1,7 @@
 -- `join_rows` meets its contract: a case for each kind.
-use Rattle.semilinear_normalizer.proofs.RowsLaws.{join-and, join-or, join-xor}
-use Rattle.semilinear_normalizer.proofs.truth.join_rows.Statement.{statement}
-use Rattle.semilinear_normalizer.proofs.truth.join_rows.Tie as tie
+use Rattle.truth.proofs.RowsLaws.{join-and, join-or, join-xor}
+use Rattle.truth.proofs.join_rows.Statement.{statement}
+use Rattle.truth.proofs.join_rows.Tie as tie
 
 returns : tie.Need-returns
 returns c i = join-and _ _ _ i (c .match .keys1)

@@ -19,11 +19,10 @@ use Rattle.record.proofs.ListsLaws.{eq-of-eq-list, eq-list-self}
 use Rattle.expr.specs.declared.utils.Traits.{Traits}
 use Rattle.expr.specs.Utils.{hasLiteral, hasShr, traitsOf}
 use Rattle.expr.specs.Vars.{noVar, firstVars, support, sameVars}
-use Rattle.semilinear_normalizer.specs.Truth.{placeOf, tableF, table}
-use Rattle.semilinear_normalizer.specs.Register.{sharedVars, isPure, sameTable}
-use Rattle.semilinear_normalizer.specs.Key.{notPure, keyOf}
-use Rattle.semilinear_normalizer.proofs.TruthLaws.{table-lt, pure-parts}
-use Rattle.semilinear_normalizer.proofs.FirstVarsLaws.{place-first, table-first, same-of-first, first-of-same}
+use Rattle.truth.specs.Truth.{placeOf, tableF, table}
+use Rattle.truth.specs.Key.{sharedVars, isPure, sameTable, notPure, keyOf}
+use Rattle.truth.proofs.TruthLaws.{table-lt, pure-parts}
+use Rattle.truth.proofs.FirstVarsLaws.{place-first, table-first, same-of-first, first-of-same}
 
 -- ---- a key, word by word
 

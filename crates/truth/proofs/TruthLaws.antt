@@ -1,5 +1,5 @@
 -- Laws of the truth tables (specs/Truth.antt): a table's bits are those of its rows, and trees with the same table
--- (specs/Register.antt) have the same value under every assignment.
+-- (specs/Key.antt) have the same value under every assignment.
 use mathlib.Core.Path.{_≡_, refl, ap, sym, _∙_}
 use Prim.Native.Nat.{ℕ, zero, suc, _+_, _*_, _/_, _^_, _≤_, _<_}
 use native.Mathlib.Omega.{arith}
@@ -25,9 +25,9 @@ use Rattle.expr.specs.Vars.{occurs, support, sameVars}
 use Rattle.expr.proofs.ValueLaws.{value-lt}
 use Rattle.expr.proofs.IsExprLaws.{occurs-lt}
 use Rattle.expr.proofs.SupportLaws.{support-occurs}
-use Rattle.semilinear_normalizer.specs.Truth.{hasShift, bitOf, rowBits, rowOf, tableF, table}
-use Rattle.semilinear_normalizer.specs.Register.{sharedVars, isPure, sameTable}
-use Rattle.semilinear_normalizer.proofs.BitOfLaws.{Bitwise, bit-value, bit-of-agree, bit-of-place, bit-of-lt}
+use Rattle.truth.specs.Truth.{hasShift, bitOf, rowBits, rowOf, tableF, table}
+use Rattle.truth.specs.Key.{sharedVars, isPure, sameTable}
+use Rattle.truth.proofs.BitOfLaws.{Bitwise, bit-value, bit-of-agree, bit-of-place, bit-of-lt}
 
 -- ---- tables
 

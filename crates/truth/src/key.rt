@@ -1,11 +1,10 @@
 // The key by which a tree without literal and Shr, with at most five variables, is shared: its
 // truth table and its variables.
-use crate::truth;
 ghost use mathlib.Core.Path.{_≡_};
 ghost use mathlib.Core.Bool.{true};
 ghost use Rattle.record.specs.Span.{sized};
 ghost use Rattle.record.specs.Decode.{decode};
-ghost use Rattle.semilinear_normalizer.specs.Key.{keyOf};
+ghost use Rattle.truth.specs.Key.{keyOf};
 
 // The first word of the key of a tree that is not shared by its table: no table has this number.
 pub const NOT_PURE: u64 = u64::MAX;
@@ -25,11 +24,11 @@ pub fn key_of(t: &[u8]) -> [u64; 7]
     }
     let mut vars = [0u64; 6];
     expr::vars::collect_vars(t, &mut vars);
-    let n = truth::place_of(expr::vars::NO_VAR, &vars);
+    let n = crate::place_of(expr::vars::NO_VAR, &vars);
     if 5 < n {
         return none;
     }
     let rows = 1 << n;
-    let table = truth::rows_at(t, &vars, 0) & arith::bitmask(rows);
+    let table = crate::rows_at(t, &vars, 0) & arith::bitmask(rows);
     [table, vars[0], vars[1], vars[2], vars[3], vars[4], vars[5]]
 }

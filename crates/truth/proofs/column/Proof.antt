@@ -1,9 +1,9 @@
 -- `column` meets its contract: each word is tested in its 64 rows, and no row has a bit from place 6 on.
-use Rattle.semilinear_normalizer.proofs.RowsLaws.{column-bits, column-past}
+use Rattle.truth.proofs.RowsLaws.{column-bits, column-past}
 use mathlib.Core.Path.{refl}
 use native.Mathlib.Omega.{arith}
-use Rattle.semilinear_normalizer.proofs.truth.column.Statement.{statement}
-use Rattle.semilinear_normalizer.proofs.truth.column.Tie as tie
+use Rattle.truth.proofs.column.Statement.{statement}
+use Rattle.truth.proofs.column.Tie as tie
 
 returns : tie.Need-returns
 returns c = column-bits 64 _ 0 refl (c .match .keys1)

@@ -16,8 +16,8 @@ use Rattle.record.specs.Tree.{Tree}
 use Rattle.expr.specs.Vars.{noVar, nextVar, firstVars, support}
 use Rattle.expr.proofs.VarsLaws.{next-var-le, supportFrom, support-from-zero, support-from-next, support-from-end}
 use Rattle.expr.proofs.VarsLaws.{first-vars-support}
-use Rattle.semilinear_normalizer.specs.Truth.{placeOf, rowBits, tableF, table}
-use Rattle.semilinear_normalizer.proofs.RowsLaws.{row-bits-past, rows-low, rows-agree}
+use Rattle.truth.specs.Truth.{placeOf, rowBits, tableF, table}
+use Rattle.truth.proofs.RowsLaws.{row-bits-past, rows-low, rows-agree}
 
 none-of-length : (l : List ℕ) → length l ≤ 0 → l ≡ []
 none-of-length [] h = refl

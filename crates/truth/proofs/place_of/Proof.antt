@@ -4,10 +4,10 @@ use mathlib.Core.Path.{_≡_, sym, _∙_}
 use native.Mathlib.Omega.{arith}
 use lib.ListN.{length, drop}
 use denote.Ref.{now}
-use Rattle.semilinear_normalizer.specs.Truth.{placeOf}
-use Rattle.semilinear_normalizer.proofs.RowsLaws.{place-start, place-found, place-next, place-end}
-use Rattle.semilinear_normalizer.proofs.truth.place_of.Statement.{statement}
-use Rattle.semilinear_normalizer.proofs.truth.place_of.Tie as tie
+use Rattle.truth.specs.Truth.{placeOf}
+use Rattle.truth.proofs.RowsLaws.{place-start, place-found, place-next, place-end}
+use Rattle.truth.proofs.place_of.Statement.{statement}
+use Rattle.truth.proofs.place_of.Tie as tie
 
 abbrev Inv-loop : tie.InvT-loop
 Inv-loop v vars j₀ j = (j ≤ length vars) × (placeOf v vars ≡ j + placeOf v (drop j vars))

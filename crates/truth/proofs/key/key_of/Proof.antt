@@ -1,8 +1,8 @@
 -- `key_of` meets its contract: no key for a literal, a Shr or too many variables, else the low rows and the variables.
-use Rattle.semilinear_normalizer.proofs.KeyLaws.{key-literal, key-shr, key-vars, key-words}
+use Rattle.truth.proofs.KeyLaws.{key-literal, key-shr, key-vars, key-words}
 use borrow.Author.Needs.{needs}
-use Rattle.semilinear_normalizer.proofs.key.key_of.Statement.{statement}
-use Rattle.semilinear_normalizer.proofs.key.key_of.Tie as tie
+use Rattle.truth.proofs.key.key_of.Statement.{statement}
+use Rattle.truth.proofs.key.key_of.Tie as tie
 
 traits-of-requires : tie.Need-traits-of-requires
 traits-of-requires c κs = search needs

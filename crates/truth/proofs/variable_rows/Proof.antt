@@ -1,8 +1,8 @@
 -- `variable_rows` meets its contract: the rows of the variable's place, or none.
-use Rattle.semilinear_normalizer.proofs.RowsLaws.{rows-none, rows-place}
+use Rattle.truth.proofs.RowsLaws.{rows-none, rows-place}
 use borrow.Author.Needs.{needs}
-use Rattle.semilinear_normalizer.proofs.truth.variable_rows.Statement.{statement}
-use Rattle.semilinear_normalizer.proofs.truth.variable_rows.Tie as tie
+use Rattle.truth.proofs.variable_rows.Statement.{statement}
+use Rattle.truth.proofs.variable_rows.Tie as tie
 
 place-of-requires : tie.Need-place-of-requires
 place-of-requires c κs = search needs

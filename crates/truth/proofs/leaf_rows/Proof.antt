@@ -1,13 +1,13 @@
 -- `leaf_rows` meets its contract: the rows of a literal, and of a variable.
-use Rattle.semilinear_normalizer.proofs.RowsLaws.{rows-clear, rows-set, rows-variable}
-use Rattle.semilinear_normalizer.proofs.LeafLaws.{leaf-constant, leaf-variable}
+use Rattle.truth.proofs.RowsLaws.{rows-clear, rows-set, rows-variable}
+use Rattle.record.proofs.LeafLaws.{leaf-constant, leaf-variable}
 use Rattle.arith.specs.Bit.{bitAt}
 use Prim.Native.Nat.{ℕ}
 use mathlib.Core.Path.{ap, sym, _∙_}
 use denote.Ref.{now}
 use borrow.Author.Needs.{needs}
-use Rattle.semilinear_normalizer.proofs.truth.leaf_rows.Statement.{statement}
-use Rattle.semilinear_normalizer.proofs.truth.leaf_rows.Tie as tie
+use Rattle.truth.proofs.leaf_rows.Statement.{statement}
+use Rattle.truth.proofs.leaf_rows.Tie as tie
 
 kind-requires : tie.Need-kind-requires
 kind-requires c κs = search needs

@@ -1,5 +1,7 @@
 // Truth tables on words: bit i of a word is a tree's bit at one place under assignment number i, in
 // which the j-th variable of a list has bit j of i. One walk gives all 64 rows.
+pub mod key;
+
 ghost use mathlib.Core.Path.{_≡_};
 ghost use mathlib.Core.Bool.{true};
 ghost use Prim.Native.Nat.{ℕ, _<_, _≤_};
@@ -8,7 +10,7 @@ ghost use Rattle.arith.specs.Bit.{bitAt};
 ghost use Rattle.record.specs.Span.{sized};
 ghost use Rattle.record.specs.Tree.Tree.{Variable};
 ghost use Rattle.record.specs.Decode.{leaf, decode};
-ghost use Rattle.semilinear_normalizer.specs.Truth.{placeOf, bitBinary, tableF};
+ghost use Rattle.truth.specs.Truth.{placeOf, bitBinary, tableF};
 
 // Bit i is bit j of i.
 fn column(j: usize) -> u64

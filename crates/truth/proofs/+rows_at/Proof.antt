@@ -2,7 +2,7 @@
 use Rattle.record.proofs.SizedLaws.{sized-big}
 use Rattle.record.proofs.DecodeLaws.{decode-leaf, decode-one, decode-two, child-body, child-left, child-right}
 use Rattle.record.specs.Fields.{size, kind, amount}
-use Rattle.semilinear_normalizer.proofs.RowsLaws.{rows-not, rows-plain, rows-join}
+use Rattle.truth.proofs.RowsLaws.{rows-not, rows-plain, rows-join}
 use denote.Ref.{now}
 use mathlib.Core.Path.{sym, _∙_}
 use native.Mathlib.Omega.{arith}
@@ -10,18 +10,18 @@ use borrow.Author.Needs.{needs}
 use Prim.Native.Nat.{ℕ, _<_}
 use borrow.Fn.Kinds.{In}
 use borrow.Fn.PlainCycle.{Measures, is, falls, and}
-use Rattle.semilinear_normalizer.proofs.truth.rows_at.Reads as rows-at
-use Rattle.semilinear_normalizer.proofs.truth.rows_at.Kinds as rows-at-kinds
-use Rattle.semilinear_normalizer.proofs.truth.+rows_at.Lts-rows_at as rows-at-lts
+use Rattle.truth.proofs.rows_at.Reads as rows-at
+use Rattle.truth.proofs.rows_at.Kinds as rows-at-kinds
+use Rattle.truth.proofs.+rows_at.Lts-rows_at as rows-at-lts
 use Rattle.record.proofs.body.Reads as body-reads
 use Rattle.record.proofs.kind.Reads as kind-reads
 use Rattle.record.proofs.left.Reads as left-reads
 use Rattle.record.proofs.right.Reads as right-reads
 use Rattle.record.proofs.root_arity.Reads as root-arity-reads
-use Rattle.semilinear_normalizer.proofs.truth.join_rows.Reads as join-rows-reads
-use Rattle.semilinear_normalizer.proofs.truth.leaf_rows.Reads as leaf-rows-reads
-use Rattle.semilinear_normalizer.proofs.truth.+rows_at.{statement}
-use Rattle.semilinear_normalizer.proofs.truth.+rows_at.Tie.{close}
+use Rattle.truth.proofs.join_rows.Reads as join-rows-reads
+use Rattle.truth.proofs.leaf_rows.Reads as leaf-rows-reads
+use Rattle.truth.proofs.+rows_at.{statement}
+use Rattle.truth.proofs.+rows_at.Tie.{close}
 
 abbrev μ-rows-at : Measures 2 rows-at-kinds.ps ℕ
 μ-rows-at κs a = size (a .0 .now)

@@ -24,7 +24,7 @@ use Rattle.expr.specs.Value.{unary, binary, value}
 use Rattle.expr.specs.Vars.{occurs}
 use Rattle.expr.proofs.ValueLaws.{value-lt}
 use Rattle.expr.proofs.IsExprLaws.{unary-of-expr, binary-of-expr}
-use Rattle.semilinear_normalizer.specs.Truth.{hasShift, bitBinary, bitOf}
+use Rattle.truth.specs.Truth.{hasShift, bitBinary, bitOf}
 
 -- ---- bitwise trees
 

@@ -17,11 +17,11 @@ use Rattle.expr.specs.Utils.{hasArith}
 use Rattle.expr.specs.Value.{value}
 use Rattle.expr.specs.Vars.{occurs, support, sameVars}
 use Rattle.expr.proofs.IsExprLaws.{occurs-lt}
-use Rattle.semilinear_normalizer.specs.Truth.{bitOf, rowBits, table}
-use Rattle.semilinear_normalizer.specs.Register.{isPure}
-use Rattle.semilinear_normalizer.proofs.BitOfLaws.{Bitwise, bit-value, bit-of-agree}
-use Rattle.semilinear_normalizer.proofs.TruthLaws.{row-bits-lt, table-lt, table-bit, Pure, pure-parts}
-use Rattle.semilinear_normalizer.proofs.TruthLaws.{pure-bitwise, SameTable, same-value}
+use Rattle.truth.specs.Truth.{bitOf, rowBits, table}
+use Rattle.truth.specs.Key.{isPure}
+use Rattle.truth.proofs.BitOfLaws.{Bitwise, bit-value, bit-of-agree}
+use Rattle.truth.proofs.TruthLaws.{row-bits-lt, table-lt, table-bit, Pure, pure-parts}
+use Rattle.truth.proofs.TruthLaws.{pure-bitwise, SameTable, same-value}
 
 -- the assignment that gives the n low variables the words b
 unfoldable pub wordsOf : ℕ → (ℕ → ℕ) → List ℕ
