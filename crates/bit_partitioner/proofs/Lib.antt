@@ -7,3 +7,4 @@ pub mod ColumnsLaws
 pub mod ComputeLaws
 mod ClassWordsLaws
 mod JoinLaws
+mod FactsLaws

@@ -2,3 +2,4 @@
 pub mod Partition
 pub mod Columns
 pub mod Classes
+pub mod Edges

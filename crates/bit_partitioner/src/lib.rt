@@ -1,2 +1,3 @@
 // The partition of the places by the profiles of the atoms.
 mod classes;
+mod facts;
