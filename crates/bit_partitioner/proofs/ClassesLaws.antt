@@ -18,11 +18,12 @@ pub classes-none : (f : Form) → length (f .rows) ≡ 0 → classesOf f ≡ []
 unfolding classesOf
 classes-none f e = simp (eq-eqb (length (f .rows)) 0 e)
 
-pub classes-some : (f : Form) → 0 < length (f .rows) → classesOf f ≡ classesF (f .bitwidth) (f .rows)
+pub classes-some : (f : Form) → 0 < length (f .rows) → classesOf f ≡ classesF (f .bitwidth) (f .bitwidth) (f .rows)
 unfolding classesOf
 classes-some f h = simp (ne-eqb (length (f .rows)) 0 (omega arith))
 
-module _ (f : Form) (P : List PartitionClass → Type 0) (none : P []) (some : P (classesF (f .bitwidth) (f .rows))) where
+module _ (f : Form) (P : List PartitionClass → Type 0) (none : P [])
+    (some : P (classesF (f .bitwidth) (f .bitwidth) (f .rows))) where
   pub classes-either : P (classesOf f)
   classes-either = go (ℕ-discrete (length (f .rows)) 0)
     where
@@ -39,22 +40,23 @@ module _ (f : Form) where
   atoms = length (f .rows)
 
   abbrev pub IsClass : PartitionClass → Type 0
-  IsClass = Class (profiles (f .rows)) (f .bitwidth)
+  IsClass = Class (profiles (f .bitwidth) (f .rows)) (f .bitwidth)
 
   pub classes-ok : Each IsClass (classesOf f)
   unfolding Each
-  classes-ok = classes-either f (Each IsClass) tt (classes-each (f .rows) (f .bitwidth))
+  classes-ok = classes-either f (Each IsClass) tt (classes-each (f .bitwidth) (f .rows) (f .bitwidth))
 
   pub classes-words : Each (HasWords atoms) (classesOf f)
   classes-words =
       each-map IsClass (HasWords atoms)
-      (λ x c. ap length (c .own (c .some) (c .some-there)) ∙ profile-length (c .some) 0 (f .rows))
+      (λ x c. ap length (c .own (c .some) (c .some-there)) ∙ profile-length (f .bitwidth) (c .some) 0 (f .rows))
       (classesOf f) classes-ok
 
   -- there are at most as many classes as places
   pub columns-count : count ≤ f .bitwidth
   columns-count =
-      classes-either f (λ l. length l ≤ f .bitwidth) (omega arith) (classes-length (f .rows) (f .bitwidth))
+      classes-either f (λ l. length l ≤ f .bitwidth) (omega arith)
+      (classes-length (f .bitwidth) (f .rows) (f .bitwidth))
 
   pub columns-length : length (classWords (classesOf f)) ≡ count * (atoms + 1)
   columns-length = class-words-length atoms (classesOf f) classes-words

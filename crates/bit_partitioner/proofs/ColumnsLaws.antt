@@ -23,7 +23,8 @@ use Rattle.expr.specs.Utils.{hasVarDep, hasArith}
 use Rattle.expr.specs.Value.{value}
 use Rattle.expr.specs.Vars.{support}
 use Rattle.truth.specs.Truth.{rowOf}
-use Rattle.truth.proofs.BitOfLaws.{Bitwise, bit-value}
+use Rattle.truth.proofs.BitwiseLaws.{Bitwise, bitwise-of-no-shift}
+use Rattle.truth.proofs.BitOfLaws.{bit-value}
 use Rattle.truth.proofs.TruthLaws.{table-lt, table-row, occurs-support, row-of-lt, row-of-bit}
 use Rattle.semilinear.specs.Form.{Row, Form, isAtomTree, rowsOk, validForm}
 use Rattle.semilinear.specs.Outcome.{writtenOf}
@@ -57,7 +58,7 @@ unfolding isAtomTree
 bitwise-atom t e o =
     let p = and-true (isExpr t) (hasVarDep t && not (hasArith t)) e in
     let q = and-true (hasVarDep t) (not (hasArith t)) (p .1) in
-    record { expr = p .0; no-arith = not-true _ (q .1); no-shift = tabled t o .no-shift }
+    bitwise-of-no-shift t (p .0) (not-true _ (q .1)) (tabled t o .no-shift)
 
 module _ (f : Form) (ok : validForm f ≡ true) where
   -- the words fit the result slice of 16,448 words of 64 bits
@@ -78,7 +79,7 @@ module _ (f : Form) (ok : validForm f ≡ true) where
       profile-words : (x : PartitionClass) → IsClass f x → (j : ℕ) → getD (x .profile) j 0 < 2 ^ 64
       profile-words x c j =
           rw (c .own (c .some) (c .some-there))
-          (profile-lt (c .some) 0 (f .rows) (omega (arith, form-parts f ok .atoms-le)) j)
+          (profile-lt (f .bitwidth) (c .some) 0 (f .rows) (omega (arith, form-parts f ok .atoms-le)) j)
 
   module _ (len : ℕ) where
     -- the whole result slice
@@ -127,7 +128,7 @@ module _ (f : Form) (ok : validForm f ≡ true) where
     pub columns-once : 0 < length (f .rows) → (p : ℕ) → p < f .bitwidth → InOneClass f out (count f) p
     columns-once some p hp =
         let one : holders p (classesOf f) ≡ 1 =
-        ap (holders p) (classes-some f some) ∙ classes-holders (f .rows) (f .bitwidth) p hp in
+        ap (holders p) (classes-some f some) ∙ classes-holders (f .bitwidth) (f .rows) (f .bitwidth) p hp in
         let i = holder-of p (classesOf f) one in
         record {
           class = i .at;
@@ -140,7 +141,7 @@ module _ (f : Form) (ok : validForm f ≡ true) where
     columns-rising k j h q held =
         let before =
         classes-either f (λ l. j < length l → Before (classAt l k) (classAt l j)) (λ l. absurd (omega arith))
-        (classes-before (f .rows) (f .bitwidth) k j h) in
+        (classes-before (f .bitwidth) (f .rows) (f .bitwidth) k j h) in
         let l = before (held .below) q (holds-in j q held) in
         let low : k < count f = omega (arith, held .below) in
         record { place = l .place; less = l .less; holds = in-holds k (l .place) low (l .there) }
@@ -151,7 +152,7 @@ module _ (f : Form) (ok : validForm f ≡ true) where
     later-unlike k j h l e =
         let unlike =
         classes-either f (λ l. j < length l → Unlike (classAt l k) (classAt l j)) (λ l. absurd (omega arith))
-        (classes-unlike (f .rows) (f .bitwidth) k j h) in
+        (classes-unlike (f .bitwidth) (f .rows) (f .bitwidth) k j h) in
         let x : List ℕ = classAt (classesOf f) k .profile in
         let y : List ℕ = classAt (classesOf f) j .profile in
         let low : k < count f = omega arith in
@@ -185,12 +186,12 @@ module _ (f : Form) (ok : validForm f ≡ true) where
 
     -- the profile words of a class are those of each place that it holds
     pub columns-word : (k p : ℕ) → HoldsHere k p → (i : ℕ) → i < length (f .rows)
-        → wordAt f out k i ≡ profileWord p i (atomTree f i)
+        → wordAt f out k i ≡ profileWord (f .bitwidth) p i (atomTree f i)
     columns-word k p h i hi =
         word-at k i (h .below) hi
         ∙ ap (λ (l : List ℕ). getD l i 0) (class-at k (h .below) .own p (holds-in k p h))
-        ∙ profile-at p 0 (f .rows) i hi
-        ∙ ap (λ (n : ℕ). profileWord p n (atomTree f i)) (zero-add i)
+        ∙ profile-at (f .bitwidth) p 0 (f .rows) i hi
+        ∙ ap (λ (n : ℕ). profileWord (f .bitwidth) p n (atomTree f i)) (zero-add i)
 
     -- an atom's bit at a place of class k is the bit of its profile word there at the row of the assignment
     pub columns-bit : (i : ℕ) → i < length (f .rows) → isOpaque (atomTree f i) ≡ false
@@ -203,22 +204,23 @@ module _ (f : Form) (ok : validForm f ≡ true) where
         let bits : ℕ → ℕ = λ v. bitAt (getD vars v 0) p in
         bit-value (f .bitwidth) p (columns-place-lt k p h) vars t b
         ∙ sym
-        (table-row p (support t) (length (support t)) t bits row (r .low) (r .bits) (occurs-support t (b .expr)))
-        ∙ ap (λ (n : ℕ). bitAt n row) (sym (columns-word k p h i hi ∙ profile-word-tabled p i t tab))
+        (table-row (f .bitwidth) p (support t) (length (support t)) t bits row (r .low) (r .bits)
+        (occurs-support t (b .expr)))
+        ∙ ap (λ (n : ℕ). bitAt n row) (sym (columns-word k p h i hi ∙ profile-word-tabled (f .bitwidth) p i t tab))
 
     pub columns-word-lt : (i : ℕ) → i < length (f .rows) → isOpaque (atomTree f i) ≡ false
         → (k : ℕ) → k < count f → wordAt f out k i < 2 ^ (2 ^ length (support (atomTree f i)))
     columns-word-lt i hi tab k l =
         let t : Tree = atomTree f i in
         let p : ℕ = class-at k l .some in
-        rw (columns-word k p (some-place k l) i hi ∙ profile-word-tabled p i t tab)
-        (table-lt p (support t) t (length (support t)))
+        rw (columns-word k p (some-place k l) i hi ∙ profile-word-tabled (f .bitwidth) p i t tab)
+        (table-lt (f .bitwidth) p (support t) t (length (support t)))
 
     pub columns-opaque : (i : ℕ) → i < length (f .rows) → isOpaque (atomTree f i) ≡ true
         → (k : ℕ) → k < count f → wordAt f out k i ≡ opaqueWord i
     columns-opaque i hi op k l =
         let p : ℕ = class-at k l .some in
-        columns-word k p (some-place k l) i hi ∙ profile-word-opaque p i (atomTree f i) op
+        columns-word k p (some-place k l) i hi ∙ profile-word-opaque (f .bitwidth) p i (atomTree f i) op
 
     -- all that document 01 says of the words
     pub columns : Columns f out (count f)

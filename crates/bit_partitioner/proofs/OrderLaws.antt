@@ -127,20 +127,21 @@ join-distinct p r (x ∷ l) o = go (eqList (x .profile) r) refl (join-distinct p
 
 -- ---- all places
 
-classes-ordered : (rows : List Row) (n : ℕ) → Pairwise Before (classesF n rows)
+classes-ordered : (w : ℕ) (rows : List Row) (n : ℕ) → Pairwise Before (classesF n w rows)
 unfolding Pairwise classesF
-classes-ordered rows zero = tt
-classes-ordered rows (suc p) =
-    join-ordered (profiles rows) p (profiles rows p) (classesF p rows) (classes-each rows p) (classes-ordered rows p)
+classes-ordered w rows zero = tt
+classes-ordered w rows (suc p) =
+    join-ordered (profiles w rows) p (profiles w rows p) (classesF p w rows) (classes-each w rows p)
+    (classes-ordered w rows p)
 
-classes-distinct : (rows : List Row) (n : ℕ) → Pairwise Unlike (classesF n rows)
+classes-distinct : (w : ℕ) (rows : List Row) (n : ℕ) → Pairwise Unlike (classesF n w rows)
 unfolding Pairwise classesF
-classes-distinct rows zero = tt
-classes-distinct rows (suc p) = join-distinct p (profiles rows p) (classesF p rows) (classes-distinct rows p)
+classes-distinct w rows zero = tt
+classes-distinct w rows (suc p) = join-distinct p (profiles w rows p) (classesF p w rows) (classes-distinct w rows p)
 
-module _ (rows : List Row) (n k j : ℕ) (h : k < j) (l : j < length (classesF n rows)) where
-  pub classes-before : Before (classAt (classesF n rows) k) (classAt (classesF n rows) j)
-  classes-before = pairwise-at Before (classesF n rows) (classes-ordered rows n) k j h l
+module _ (w : ℕ) (rows : List Row) (n k j : ℕ) (h : k < j) (l : j < length (classesF n w rows)) where
+  pub classes-before : Before (classAt (classesF n w rows) k) (classAt (classesF n w rows) j)
+  classes-before = pairwise-at Before (classesF n w rows) (classes-ordered w rows n) k j h l
 
-  pub classes-unlike : Unlike (classAt (classesF n rows) k) (classAt (classesF n rows) j)
-  classes-unlike = pairwise-at Unlike (classesF n rows) (classes-distinct rows n) k j h l
+  pub classes-unlike : Unlike (classAt (classesF n w rows) k) (classAt (classesF n w rows) j)
+  classes-unlike = pairwise-at Unlike (classesF n w rows) (classes-distinct w rows n) k j h l

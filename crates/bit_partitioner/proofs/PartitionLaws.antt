@@ -153,34 +153,34 @@ module _ (profiles : ℕ → List ℕ) (p : ℕ) where
 
 -- ---- all places
 
-module _ (rows : List Row) where
+module _ (w : ℕ) (rows : List Row) where
   abbrev pub profiles : ℕ → List ℕ
-  profiles p = profileFrom p 0 rows
+  profiles p = profileFrom w p 0 rows
 
-  pub classes-each : (n : ℕ) → Each (Class profiles n) (classesF n rows)
+  pub classes-each : (n : ℕ) → Each (Class profiles n) (classesF n w rows)
   unfolding classesF Each
   classes-each zero = tt
-  classes-each (suc p) = join-each profiles p (classesF p rows) (classes-each p)
+  classes-each (suc p) = join-each profiles p (classesF p w rows) (classes-each p)
 
   -- a place below n is in one class
-  pub classes-holders : (n p : ℕ) → p < n → holders p (classesF n rows) ≡ 1
+  pub classes-holders : (n p : ℕ) → p < n → holders p (classesF n w rows) ≡ 1
   unfolding classesF
   classes-holders zero p h = absurd (omega arith)
   classes-holders (suc n) p h = go (ℕ-discrete p n) (classes-holders n p)
     where
-      go : Dec (p ≡ n) → (p < n → holders p (classesF n rows) ≡ 1)
-          → holders p (joinClass n (profiles n) (classesF n rows)) ≡ 1
+      go : Dec (p ≡ n) → (p < n → holders p (classesF n w rows) ≡ 1)
+          → holders p (joinClass n (profiles n) (classesF n w rows)) ≡ 1
       go (yes e) below =
-          let none = none-yet profiles n (classesF n rows) (classes-each n) in
-          rw e (join-self profiles n (profiles n) (classesF n rows) none)
+          let none = none-yet profiles n (classesF n w rows) (classes-each n) in
+          rw e (join-self profiles n (profiles n) (classesF n w rows) none)
       go (no d) below =
-          join-other profiles n (profiles n) p d (classesF n rows) ∙ below (omega arith)
+          join-other profiles n (profiles n) p d (classesF n w rows) ∙ below (omega arith)
 
-  pub classes-length : (n : ℕ) → length (classesF n rows) ≤ n
+  pub classes-length : (n : ℕ) → length (classesF n w rows) ≤ n
   unfolding classesF
   classes-length zero = omega arith
   classes-length (suc p) =
-      omega (arith, classes-length p, join-length profiles p (profiles p) (classesF p rows))
+      omega (arith, classes-length p, join-length profiles p (profiles p) (classesF p w rows))
 
 -- ---- the class of a place
 

@@ -38,49 +38,49 @@ tabled t e =
     let p = or-false (ltb columnVars (length (support t))) (hasShift t) e in
     record { few = ltb-false _ _ (p .0); no-shift = p .1 }
 
-pub profile-length : (p i : ℕ) (rows : List Row) → length (profileFrom p i rows) ≡ length rows
+pub profile-length : (w p i : ℕ) (rows : List Row) → length (profileFrom w p i rows) ≡ length rows
 unfolding profileFrom
-profile-length p i [] = refl
-profile-length p i (x ∷ l) = ap suc (profile-length p (i + 1) l)
+profile-length w p i [] = refl
+profile-length w p i (x ∷ l) = ap suc (profile-length w p (i + 1) l)
 
-pub profile-at : (p i : ℕ) (rows : List Row) (j : ℕ) → j < length rows
-    → getD (profileFrom p i rows) j 0 ≡ profileWord p (i + j) (treeAt rows j)
+pub profile-at : (w p i : ℕ) (rows : List Row) (j : ℕ) → j < length rows
+    → getD (profileFrom w p i rows) j 0 ≡ profileWord w p (i + j) (treeAt rows j)
 unfolding profileFrom treeAt
-profile-at p i [] j h = absurd (omega arith)
-profile-at p i (x ∷ l) zero h =
+profile-at w p i [] j h = absurd (omega arith)
+profile-at w p i (x ∷ l) zero h =
     let e : i ≡ i + 0 = omega arith in
-    ap (λ (n : ℕ). profileWord p n (x .tree)) e
-profile-at p i (x ∷ l) (suc j) h =
+    ap (λ (n : ℕ). profileWord w p n (x .tree)) e
+profile-at w p i (x ∷ l) (suc j) h =
     let e : i + 1 + j ≡ i + suc j = omega arith in
-    profile-at p (i + 1) l j (omega arith) ∙ ap (λ (n : ℕ). profileWord p n (treeAt l j)) e
+    profile-at w p (i + 1) l j (omega arith) ∙ ap (λ (n : ℕ). profileWord w p n (treeAt l j)) e
 
-pub profile-word-tabled : (p i : ℕ) (t : Tree) → isOpaque t ≡ false
-    → profileWord p i t ≡ table p (support t) (length (support t)) t
+pub profile-word-tabled : (w p i : ℕ) (t : Tree) → isOpaque t ≡ false
+    → profileWord w p i t ≡ table w p (support t) (length (support t)) t
 unfolding profileWord
-profile-word-tabled p i t e = simp e
+profile-word-tabled w p i t e = simp e
 
-pub profile-word-opaque : (p i : ℕ) (t : Tree) → isOpaque t ≡ true → profileWord p i t ≡ opaqueWord i
+pub profile-word-opaque : (w p i : ℕ) (t : Tree) → isOpaque t ≡ true → profileWord w p i t ≡ opaqueWord i
 unfolding profileWord
-profile-word-opaque p i t e = simp e
+profile-word-opaque w p i t e = simp e
 
-profile-word-lt : (p i : ℕ) (t : Tree) → i < 2 ^ 64 → profileWord p i t < 2 ^ 64
+profile-word-lt : (w p i : ℕ) (t : Tree) → i < 2 ^ 64 → profileWord w p i t < 2 ^ 64
 unfolding profileWord opaqueWord
-profile-word-lt p i t hi = go (isOpaque t) refl
+profile-word-lt w p i t hi = go (isOpaque t) refl
   where
     go : (b : Bool) → isOpaque t ≡ b
-        → when b (λ _. opaqueWord i) (λ _. table p (support t) (length (support t)) t) < 2 ^ 64
+        → when b (λ _. opaqueWord i) (λ _. table w p (support t) (length (support t)) t) < 2 ^ 64
     go true e = or-lt 64 0xDEAD_0000_0000_0000 i (lit< tt) hi
     go false e =
         let few : 2 ^ length (support t) ≤ 2 ^ columnVars = pow-mono (tabled t e .few) in
         let rows : 2 ^ length (support t) ≤ 64 = omega arith in
-        lt-of-lt-of-le (table-lt p (support t) t (length (support t))) (pow-mono rows)
+        lt-of-lt-of-le (table-lt w p (support t) t (length (support t))) (pow-mono rows)
 
-pub profile-lt : (p i : ℕ) (rows : List Row) → i + length rows ≤ 2 ^ 64
-    → (j : ℕ) → getD (profileFrom p i rows) j 0 < 2 ^ 64
+pub profile-lt : (w p i : ℕ) (rows : List Row) → i + length rows ≤ 2 ^ 64
+    → (j : ℕ) → getD (profileFrom w p i rows) j 0 < 2 ^ 64
 unfolding profileFrom
-profile-lt p i [] h j = pow-pos 64
-profile-lt p i (x ∷ l) h zero = profile-word-lt p i (x .tree) (omega arith)
-profile-lt p i (x ∷ l) h (suc j) = profile-lt p (i + 1) l (omega arith) j
+profile-lt w p i [] h j = pow-pos 64
+profile-lt w p i (x ∷ l) h zero = profile-word-lt w p i (x .tree) (omega arith)
+profile-lt w p i (x ∷ l) h (suc j) = profile-lt w p (i + 1) l (omega arith) j
 
 -- ---- the words of classes, where each profile has n words
 

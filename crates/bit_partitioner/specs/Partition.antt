@@ -27,14 +27,14 @@ isOpaque t = ltb columnVars (length (support t)) || hasShift t
 unfoldable pub opaqueWord : ℕ → ℕ
 opaqueWord i = bitOr 0xDEAD_0000_0000_0000 i
 
--- the profile word of atom i, with the tree t, at place p
-unfoldable pub profileWord : ℕ → ℕ → Tree → ℕ
-profileWord p i t = when (isOpaque t) (λ _. opaqueWord i) (λ _. table p (support t) (length (support t)) t)
+-- the profile word of atom i, with the tree t, at place p of w
+unfoldable pub profileWord : ℕ → ℕ → ℕ → Tree → ℕ
+profileWord w p i t = when (isOpaque t) (λ _. opaqueWord i) (λ _. table w p (support t) (length (support t)) t)
 
 -- the profile at place p: a word for each atom of the rows, numbered from i, used or not
-unfoldable pub profileFrom : ℕ → ℕ → List Row → List ℕ
-profileFrom p i [] = []
-profileFrom p i (x ∷ l) = profileWord p i (x .tree) ∷ profileFrom p (i + 1) l
+unfoldable pub profileFrom : ℕ → ℕ → ℕ → List Row → List ℕ
+profileFrom w p i [] = []
+profileFrom w p i (x ∷ l) = profileWord w p i (x .tree) ∷ profileFrom w p (i + 1) l
 
 -- places as the bits of a mask, and the profile that they have
 pub record PartitionClass : Type 0 where
@@ -48,14 +48,14 @@ joinClass p q (x ∷ l) =
     when (eqList (x .profile) q) (λ _. record { mask = bitOr (x .mask) (2 ^ p); profile = x .profile } ∷ l)
     (λ _. x ∷ joinClass p q l)
 
--- the classes of the n low places
-unfoldable pub classesF : ℕ → List Row → List PartitionClass
-classesF zero rows = []
-classesF (suc p) rows = joinClass p (profileFrom p 0 rows) (classesF p rows)
+-- the classes of the n low places of w
+unfoldable pub classesF : ℕ → ℕ → List Row → List PartitionClass
+classesF zero w rows = []
+classesF (suc p) w rows = joinClass p (profileFrom w p 0 rows) (classesF p w rows)
 
 -- the classes of a form; none without atoms
 unfoldable pub classesOf : Form → List PartitionClass
-classesOf f = when (eqb (length (f .rows)) 0) (λ _. []) (λ _. classesF (f .bitwidth) (f .rows))
+classesOf f = when (eqb (length (f .rows)) 0) (λ _. []) (λ _. classesF (f .bitwidth) (f .bitwidth) (f .rows))
 
 -- the words of classes: for each its mask, then its profile
 unfoldable pub classWords : List PartitionClass → List ℕ

@@ -28,7 +28,8 @@ use Rattle.expr.specs.Vars.{occurs, noVar, nextVar, support}
 use Rattle.expr.proofs.ValueLaws.{value-lt}
 use Rattle.expr.proofs.VarsLaws.{next-var-le, supportFrom, support-from-zero, support-from-next, support-from-end}
 use Rattle.expr.proofs.SupportLaws.{next-var-occurs}
-use Rattle.truth.proofs.BitOfLaws.{Bitwise, bit-value, bit-of-agree}
+use Rattle.truth.proofs.BitwiseLaws.{Bitwise, bitwise-of-no-shift}
+use Rattle.truth.proofs.BitOfLaws.{bit-value, bit-of-agree}
 use Rattle.truth.proofs.TruthLaws.{occurs-support, no-shift}
 use Rattle.semilinear.specs.Form.{isAtomTree}
 use Rattle.semilinear.proofs.AtomLaws.{tree-atom}
@@ -152,14 +153,14 @@ module _ (w : ℕ) (vars : List ℕ) (t : Tree) (atom : isAtomTree t ≡ true) (
   bitwise : Bitwise t
   bitwise =
       let a = tree-atom t atom in
-      record { expr = a .expr; no-arith = a .plain; no-shift = no-shift t shr }
+      bitwise-of-no-shift t (a .expr) (a .plain) (no-shift t shr)
 
   -- assignments that agree on the variable's bit at a place give the same bit there
   bit-agree : (a b : List ℕ) (p : ℕ) → p < w → bitAt (getD a (nextVar 0 t) 0) p ≡ bitAt (getD b (nextVar 0 t) 0) p
       → bitAt (value w a t) p ≡ bitAt (value w b t) p
   bit-agree a b p hp e =
       bit-value w p hp a t bitwise
-      ∙ bit-of-agree p (λ i. bitAt (getD a i 0) p) (λ i. bitAt (getD b i 0) p) t same
+      ∙ bit-of-agree w p (λ i. bitAt (getD a i 0) p) (λ i. bitAt (getD b i 0) p) t same
       ∙ sym (bit-value w p hp b t bitwise)
     where
       same : (i : ℕ) → occurs i t ≡ true → bitAt (getD a i 0) p ≡ bitAt (getD b i 0) p

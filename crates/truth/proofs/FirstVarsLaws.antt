@@ -120,13 +120,13 @@ module _ (t : Tree) where
       → rowBits 0 (firstVars n 0 t) i v ≡ rowBits 0 (support t) i v
   row-bits-first n i v = rw (support-from-zero t) (λ h l. row-bits-first-from n 0 0 i v h (rw zero-add l))
 
-  pub table-first : (m n p : ℕ) → length (support t) ≤ n → 2 ^ length (support t) ≤ m
-      → tableF m p (firstVars n 0 t) t % 2 ^ (2 ^ length (support t)) ≡ table p (support t) (length (support t)) t
+  pub table-first : (m n w p : ℕ) → length (support t) ≤ n → 2 ^ length (support t) ≤ m
+      → tableF m w p (firstVars n 0 t) t % 2 ^ (2 ^ length (support t)) ≡ table w p (support t) (length (support t)) t
   unfolding table
-  table-first m n p h l =
+  table-first m n w p h l =
       let k : ℕ = 2 ^ length (support t) in
-      rows-low k m p (firstVars n 0 t) t l
-      ∙ rows-agree k p (firstVars n 0 t) (support t) t (λ i v b. row-bits-first n i v h b)
+      rows-low k m w p (firstVars n 0 t) t l
+      ∙ rows-agree k w p (firstVars n 0 t) (support t) t (λ i v b. row-bits-first n i v h b)
 
 -- the same words are the same variables
 pub same-of-first : (n : ℕ) (t u : Tree) → length (support t) ≤ n → length (support u) ≤ n

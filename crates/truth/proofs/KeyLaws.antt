@@ -30,7 +30,7 @@ key-none : (t : Tree) → isPure t ≡ false → notPure ∷ replicate 6 0 ≡ k
 unfolding keyOf
 key-none t e = simp e
 
-key-some : (t : Tree) → isPure t ≡ true → table 0 (support t) (length (support t)) t ∷ firstVars 6 0 t ≡ keyOf t
+key-some : (t : Tree) → isPure t ≡ true → table 1 0 (support t) (length (support t)) t ∷ firstVars 6 0 t ≡ keyOf t
 unfolding keyOf
 key-some t e = simp e
 
@@ -40,7 +40,8 @@ length-key t = go (isPure t)
   where
     go : (b : Bool)
         → length
-        (when b (λ _. table 0 (support t) (length (support t)) t ∷ firstVars 6 0 t) (λ _. notPure ∷ replicate 6 0)) ≡ 7
+        (when b (λ _. table 1 0 (support t) (length (support t)) t ∷ firstVars 6 0 t) (λ _. notPure ∷ replicate 6 0))
+        ≡ 7
     go true = refl
     go false = refl
 
@@ -84,16 +85,16 @@ module _ (t : Tree) {x : Traits} (hx : x ≡ traitsOf t) where
     pure-of e f h =
         simp (literal-of ∙ e, shr-of ∙ f, le-leb (length (support t)) sharedVars (omega (arith, counted)))
 
-    key-rows : n ≤ 5 → (y m : ℕ) → y ≡ tableF 64 0 vs t → m ≡ bitmask (1 * 2 ^ n % 2 ^ 32)
-        → bitAnd y m ≡ table 0 (support t) (length (support t)) t
+    key-rows : n ≤ 5 → (y m : ℕ) → y ≡ tableF 64 1 0 vs t → m ≡ bitmask (1 * 2 ^ n % 2 ^ 32)
+        → bitAnd y m ≡ table 1 0 (support t) (length (support t)) t
     key-rows h y m hy hm =
         let k : n ≡ length (support t) = omega (arith, counted) in
         ap (bitAnd y) hm
         ∙ mask-rows y n (omega arith)
-        ∙ ap₂ (λ (a b : ℕ). a % 2 ^ (2 ^ b)) (hy ∙ ap (λ (l : List ℕ). tableF 64 0 l t) hv) k
-        ∙ table-first t 64 6 0 (omega arith) (omega (arith, pow-mono h, ap (λ (b : ℕ). 2 ^ b) k))
+        ∙ ap₂ (λ (a b : ℕ). a % 2 ^ (2 ^ b)) (hy ∙ ap (λ (l : List ℕ). tableF 64 1 0 l t) hv) k
+        ∙ table-first t 64 6 1 0 (omega arith) (omega (arith, pow-mono h, ap (λ (b : ℕ). 2 ^ b) k))
 
-    pub key-words : x .literal ≡ false → x .shr ≡ false → n ≤ 5 → {y m : ℕ} → y ≡ tableF 64 0 vs t
+    pub key-words : x .literal ≡ false → x .shr ≡ false → n ≤ 5 → {y m : ℕ} → y ≡ tableF 64 1 0 vs t
         → m ≡ bitmask (1 * 2 ^ n % 2 ^ 32)
         → bitAnd y m ∷ getD vs 0 0 ∷ getD vs 1 0 ∷ getD vs 2 0 ∷ getD vs 3 0 ∷ getD vs 4 0 ∷ getD vs 5 0 ∷ []
         ≡ keyOf t
@@ -114,17 +115,17 @@ pub not-pure-key : (t : Tree) → isPure t ≡ false → getD (keyOf t) 0 0 ≡ 
 not-pure-key t e = ap (λ (l : List ℕ). getD l 0 0) (sym (key-none t e))
 
 -- one that is: its table is no number that stands for none
-table-low : (t : Tree) → isPure t ≡ true → table 0 (support t) (length (support t)) t < notPure
+table-low : (t : Tree) → isPure t ≡ true → table 1 0 (support t) (length (support t)) t < notPure
 table-low t e =
     let n : ℕ = length (support t) in
     let rows : 2 ^ n ≤ 2 ^ 5 = pow-mono (pure-parts t e .few) in
     let few : 2 ^ (2 ^ n) ≤ 2 ^ (2 ^ 5) = pow-mono rows in
-    omega (arith, table-lt 0 (support t) t n)
+    omega (arith, table-lt 1 0 (support t) t n)
 
 pub pure-key : (t : Tree) → isPure t ≡ true → eqb (getD (keyOf t) 0 0) notPure ≡ false
 pure-key t e =
     ap (λ (l : List ℕ). eqb (getD l 0 0) notPure) (sym (key-some t e))
-    ∙ ne-eqb (table 0 (support t) (length (support t)) t) notPure (λ q. omega (arith, table-low t e))
+    ∙ ne-eqb (table 1 0 (support t) (length (support t)) t) notPure (λ q. omega (arith, table-low t e))
 
 -- the same table: the same key
 pub same-table-key : (u t : Tree) → isPure t ≡ true → sameTable u t ≡ eqList (keyOf u) (keyOf t)
@@ -132,10 +133,10 @@ unfolding sameTable sameVars eqList
 same-table-key u t pt = go (isPure u) refl
   where
     ku : ℕ
-    ku = table 0 (support u) (length (support u)) u
+    ku = table 1 0 (support u) (length (support u)) u
 
     kt : ℕ
-    kt = table 0 (support t) (length (support t)) t
+    kt = table 1 0 (support t) (length (support t)) t
 
     vars-differ : isPure u ≡ true → eqList (support u) (support t) ≡ false
         → (b : Bool) → eqList (firstVars 6 0 u) (firstVars 6 0 t) ≡ b → b ≡ false
@@ -148,18 +149,18 @@ same-table-key u t pt = go (isPure u) refl
         false-true (sym d ∙ ap (λ (l : List ℕ). eqList l (support t)) same ∙ eq-list-self (support t))
 
     both : isPure u ≡ true → (b : Bool) → eqList (support u) (support t) ≡ b
-        → b && eqb ku (table 0 (support u) (length (support u)) t)
+        → b && eqb ku (table 1 0 (support u) (length (support u)) t)
         ≡ eqb ku kt && eqList (firstVars 6 0 u) (firstVars 6 0 t)
     both pu true e =
         let same : support u ≡ support t = eq-of-eq-list (support u) (support t) e in
         let words : eqList (firstVars 6 0 u) (firstVars 6 0 t) ≡ true =
         ap (λ (l : List ℕ). eqList l (firstVars 6 0 t)) (first-of-same 6 u t same) ∙ eq-list-self (firstVars 6 0 t) in
-        ap (λ (vs : List ℕ). eqb ku (table 0 vs (length vs) t)) same
+        ap (λ (vs : List ℕ). eqb ku (table 1 0 vs (length vs) t)) same
         ∙ sym (ap (_&&_ (eqb ku kt)) words ∙ and-true (eqb ku kt))
     both pu false e = simp (vars-differ pu e _ refl, and-false)
 
     shared : Bool
-    shared = eqList (support u) (support t) && eqb ku (table 0 (support u) (length (support u)) t)
+    shared = eqList (support u) (support t) && eqb ku (table 1 0 (support u) (length (support u)) t)
 
     go : (b : Bool) → isPure u ≡ b → isPure u && (isPure t && shared) ≡ eqList (keyOf u) (keyOf t)
     go true pu =

@@ -1,4 +1,5 @@
 -- The laws of the definitions; those that other crates use are public.
+pub mod BitwiseLaws
 pub mod BitOfLaws
 pub mod TruthLaws
 pub mod RowsLaws

@@ -22,79 +22,78 @@ use Rattle.record.specs.Tree.{Tree}
 use Rattle.record.specs.Tree.Tree.{Constant, Variable, Unary, Binary}
 use Rattle.record.proofs.SizedLaws.{and-true}
 use Rattle.truth.specs.Truth.{bitBinary, bitOf, placeOf, rowBits, tableF}
-use Rattle.truth.proofs.BitOfLaws.{bit-of-agree}
+use Rattle.truth.proofs.BitOfLaws.{bit-of-not, bit-of-shift, bit-of-past, bit-of-agree}
 use Rattle.truth.proofs.TruthLaws.{tableF-lt, tableF-bit}
 
--- ---- words of n rows at place p, over the variables vs
+-- ---- words of n rows at place p of w, over the variables vs
 
-module _ (n p : ℕ) (vs : List ℕ) where
+module _ (n w p : ℕ) (vs : List ℕ) where
   -- a word whose bit i is the tree's under assignment i is the tree's table
-  pub rows-of-bits : (t : Tree) (x : ℕ) → x < 2 ^ n → ((i : ℕ) → i < n → bitAt x i ≡ bitOf p (rowBits 0 vs i) t)
-      → x ≡ tableF n p vs t
+  pub rows-of-bits : (t : Tree) (x : ℕ) → x < 2 ^ n → ((i : ℕ) → i < n → bitAt x i ≡ bitOf w p (rowBits 0 vs i) t)
+      → x ≡ tableF n w p vs t
   rows-of-bits t x hx e =
-      bits-below n x (tableF n p vs t) hx (tableF-lt p vs t n) (λ i h. e i h ∙ sym (tableF-bit p vs t n i h))
+      bits-below n x (tableF n w p vs t) hx (tableF-lt w p vs t n) (λ i h. e i h ∙ sym (tableF-bit w p vs t n i h))
 
   -- a literal: its bit at the place in every row
-  pub rows-clear : (v : ℕ) → bitAt v p ≡ 0 → 0 ≡ tableF n p vs (Constant v)
+  pub rows-clear : (v : ℕ) → bitAt v p ≡ 0 → 0 ≡ tableF n w p vs (Constant v)
   unfolding bitOf
   rows-clear v e = rows-of-bits (Constant v) 0 (pow-pos n) (λ i h. bit-of-zero i ∙ sym e)
 
-  pub rows-set : (v : ℕ) → (bitAt v p ≡ 0 → ⊥) → 2 ^ n - 1 ≡ tableF n p vs (Constant v)
+  pub rows-set : (v : ℕ) → (bitAt v p ≡ 0 → ⊥) → 2 ^ n - 1 ≡ tableF n w p vs (Constant v)
   unfolding bitOf
   rows-set v d =
       rows-of-bits (Constant v) (2 ^ n - 1) (ones-lt n) (λ i h. bit-ones n i h ∙ omega (arith, bit-lt v p))
 
-  -- a root with one child: a Not, or its child's rows
-  pub rows-not : (k a : ℕ) (t : Tree) → k ≡ 7 → {x : ℕ} → x ≡ tableF n p vs t
-      → 2 ^ n - 1 - x ≡ tableF n p vs (Unary k a t)
-  unfolding bitOf
+  -- a root with one child: a Not, or a shift, with its child's rows at a higher place or none
+  pub rows-not : (k a : ℕ) (t : Tree) → k ≡ 7 → {x : ℕ} → x ≡ tableF n w p vs t
+      → 2 ^ n - 1 - x ≡ tableF n w p vs (Unary k a t)
   rows-not k a t hk {x} e =
       rows-of-bits (Unary k a t) (2 ^ n - 1 - x) (omega (arith, pow-pos n))
       (λ i h.
       ap (λ (y : ℕ). bitAt (2 ^ n - 1 - y) i) e
-      ∙ bit-not n (tableF n p vs t) i (tableF-lt p vs t n) h
-      ∙ ap (λ (y : ℕ). 1 - y) (tableF-bit p vs t n i h)
-      ∙ simp (eq-eqb k 7 hk))
+      ∙ bit-not n (tableF n w p vs t) i (tableF-lt w p vs t n) h
+      ∙ ap (λ (y : ℕ). 1 - y) (tableF-bit w p vs t n i h)
+      ∙ sym (bit-of-not w p (rowBits 0 vs i) k a t hk))
 
-  pub rows-plain : (k a : ℕ) (t : Tree) → (k ≡ 7 → ⊥) → {x : ℕ} → x ≡ tableF n p vs t
-      → x ≡ tableF n p vs (Unary k a t)
-  unfolding bitOf
-  rows-plain k a t hk e =
+  pub rows-shift : (k a : ℕ) (t : Tree) → (k ≡ 7 → ⊥) → {q : ℕ} → q ≡ p + a → q < w → {x : ℕ} → x ≡ tableF n w q vs t
+      → x ≡ tableF n w p vs (Unary k a t)
+  rows-shift k a t hk {q} hq l e =
       e
-      ∙ rows-of-bits (Unary k a t) (tableF n p vs t) (tableF-lt p vs t n)
-      (λ i h. tableF-bit p vs t n i h ∙ simp (ne-eqb k 7 hk))
+      ∙ rows-of-bits (Unary k a t) (tableF n w q vs t) (tableF-lt w q vs t n)
+      (λ i h.
+      tableF-bit w q vs t n i h
+      ∙ ap (λ (r : ℕ). bitOf w r (rowBits 0 vs i) t) hq
+      ∙ sym (bit-of-shift w p (rowBits 0 vs i) k a t hk (omega arith)))
+
+  pub rows-past : (k a : ℕ) (t : Tree) → (k ≡ 7 → ⊥) → w ≤ p + a → 0 ≡ tableF n w p vs (Unary k a t)
+  rows-past k a t hk l =
+      rows-of-bits (Unary k a t) 0 (pow-pos n)
+      (λ i h. bit-of-zero i ∙ sym (bit-of-past w p (rowBits 0 vs i) k a t hk l))
 
   -- a root with two children
-  pub rows-join : (k : ℕ) (l r : Tree) {x y : ℕ} → x ≡ tableF n p vs l → y ≡ tableF n p vs r → (z : ℕ) → z < 2 ^ n
-      → ((i : ℕ) → bitAt z i ≡ bitBinary k (bitAt x i) (bitAt y i)) → z ≡ tableF n p vs (Binary k l r)
+  pub rows-join : (k : ℕ) (l r : Tree) {x y : ℕ} → x ≡ tableF n w p vs l → y ≡ tableF n w p vs r
+      → (z : ℕ) → z < 2 ^ n → ((i : ℕ) → bitAt z i ≡ bitBinary k (bitAt x i) (bitAt y i))
+      → z ≡ tableF n w p vs (Binary k l r)
   unfolding bitOf
   rows-join k l r hx hy z hz e =
       rows-of-bits (Binary k l r) z hz
       (λ i h.
       e i
       ∙ ap₂ (λ (a b : ℕ). bitBinary k (bitAt a i) (bitAt b i)) hx hy
-      ∙ ap₂ (bitBinary k) (tableF-bit p vs l n i h) (tableF-bit p vs r n i h))
-
-  -- a variable: its rows are the same at every place
-  pub rows-variable : (q v : ℕ) {x : ℕ} → x ≡ tableF n q vs (Variable v) → x ≡ tableF n p vs (Variable v)
-  unfolding bitOf
-  rows-variable q v e =
-      e
-      ∙ rows-of-bits (Variable v) (tableF n q vs (Variable v)) (tableF-lt q vs (Variable v) n)
-      (tableF-bit q vs (Variable v) n)
+      ∙ ap₂ (bitBinary k) (tableF-bit w p vs l n i h) (tableF-bit w p vs r n i h))
 
 -- ---- the low rows, and the same rows
 
-pub rows-low : (m n p : ℕ) (vs : List ℕ) (t : Tree) → m ≤ n → tableF n p vs t % 2 ^ m ≡ tableF m p vs t
-rows-low m n p vs t l =
-    rows-of-bits m p vs t (tableF n p vs t % 2 ^ m) (mod-lt (tableF n p vs t) (pow-pos m))
-    (λ i h. bit-mod (tableF n p vs t) m i h ∙ tableF-bit p vs t n i (omega arith))
+pub rows-low : (m n w p : ℕ) (vs : List ℕ) (t : Tree) → m ≤ n → tableF n w p vs t % 2 ^ m ≡ tableF m w p vs t
+rows-low m n w p vs t l =
+    rows-of-bits m w p vs t (tableF n w p vs t % 2 ^ m) (mod-lt (tableF n w p vs t) (pow-pos m))
+    (λ i h. bit-mod (tableF n w p vs t) m i h ∙ tableF-bit w p vs t n i (omega arith))
 
-pub rows-agree : (n p : ℕ) (vs ws : List ℕ) (t : Tree)
-    → ((i v : ℕ) → i < n → rowBits 0 vs i v ≡ rowBits 0 ws i v) → tableF n p vs t ≡ tableF n p ws t
-rows-agree n p vs ws t e =
-    rows-of-bits n p ws t (tableF n p vs t) (tableF-lt p vs t n)
-    (λ i h. tableF-bit p vs t n i h ∙ bit-of-agree p (rowBits 0 vs i) (rowBits 0 ws i) t (λ v o. e i v h))
+pub rows-agree : (n w p : ℕ) (vs ws : List ℕ) (t : Tree)
+    → ((i v : ℕ) → i < n → rowBits 0 vs i v ≡ rowBits 0 ws i v) → tableF n w p vs t ≡ tableF n w p ws t
+rows-agree n w p vs ws t e =
+    rows-of-bits n w p ws t (tableF n w p vs t) (tableF-lt w p vs t n)
+    (λ i h. tableF-bit w p vs t n i h ∙ bit-of-agree w p (rowBits 0 vs i) (rowBits 0 ws i) t (λ v o. e i v h))
 
 -- ---- And, Or and Xor of words, bit by bit
 
@@ -180,17 +179,17 @@ row-bits-past place i v (x ∷ l) h =
 
 -- the rows of a variable, where j is its place: those of the place, or none
 module _ (n v : ℕ) (vs : List ℕ) {j : ℕ} (hj : j ≡ placeOf v vs) where
-  pub rows-none : j ≡ length vs → 0 ≡ tableF n 0 vs (Variable v)
+  pub rows-none : j ≡ length vs → (w p : ℕ) → 0 ≡ tableF n w p vs (Variable v)
   unfolding bitOf
-  rows-none e =
-      rows-of-bits n 0 vs (Variable v) 0 (pow-pos n)
+  rows-none e w p =
+      rows-of-bits n w p vs (Variable v) 0 (pow-pos n)
       (λ i h. bit-of-zero i ∙ sym (row-bits-none 0 i v vs (sym hj ∙ e)))
 
   pub rows-place : (j ≡ length vs → ⊥) → (x : ℕ) → x < 2 ^ n → ((i : ℕ) → i < n → bitAt x i ≡ bitAt i j)
-      → x ≡ tableF n 0 vs (Variable v)
+      → (w p : ℕ) → x ≡ tableF n w p vs (Variable v)
   unfolding bitOf
-  rows-place d x hx e =
-      rows-of-bits n 0 vs (Variable v) x hx
+  rows-place d x hx e w p =
+      rows-of-bits n w p vs (Variable v) x hx
       (λ i h.
       e i h
       ∙ ap (bitAt i) (hj ∙ sym (zero-add (placeOf v vs)))

@@ -27,7 +27,8 @@ use Rattle.expr.proofs.IsExprLaws.{occurs-lt}
 use Rattle.expr.proofs.SupportLaws.{support-occurs}
 use Rattle.truth.specs.Truth.{hasShift, bitOf, rowBits, rowOf, tableF, table}
 use Rattle.truth.specs.Key.{sharedVars, isPure, sameTable}
-use Rattle.truth.proofs.BitOfLaws.{Bitwise, bit-value, bit-of-agree, bit-of-place, bit-of-lt}
+use Rattle.truth.proofs.BitwiseLaws.{Bitwise, bitwise-of-no-shift}
+use Rattle.truth.proofs.BitOfLaws.{bit-value, bit-of-agree, bit-of-place, bit-of-lt}
 
 -- ---- tables
 
@@ -40,42 +41,42 @@ row-bits-lt place (x ∷ l) i v = go (eqb x v) (row-bits-lt (place + 1) l i v)
     go true h = bit-lt i place
     go false h = h
 
-module _ (p : ℕ) (vs : List ℕ) (t : Tree) where
-  row-lt : (i : ℕ) → bitOf p (rowBits 0 vs i) t < 2
-  row-lt i = bit-of-lt p (rowBits 0 vs i) t (row-bits-lt 0 vs i)
+module _ (w p : ℕ) (vs : List ℕ) (t : Tree) where
+  row-lt : (i : ℕ) → bitOf w p (rowBits 0 vs i) t < 2
+  row-lt i = bit-of-lt w p (rowBits 0 vs i) t (row-bits-lt 0 vs i)
 
-  pub tableF-lt : (m : ℕ) → tableF m p vs t < 2 ^ m
+  pub tableF-lt : (m : ℕ) → tableF m w p vs t < 2 ^ m
   unfolding tableF
   tableF-lt zero = omega arith
-  tableF-lt (suc m) = go (bitOf p (rowBits 0 vs m) t) (row-lt m) (tableF-lt m)
+  tableF-lt (suc m) = go (bitOf w p (rowBits 0 vs m) t) (row-lt m) (tableF-lt m)
     where
-      go : (b : ℕ) → b < 2 → tableF m p vs t < 2 ^ m → tableF m p vs t + 2 ^ m * b < 2 ^ suc m
+      go : (b : ℕ) → b < 2 → tableF m w p vs t < 2 ^ m → tableF m w p vs t + 2 ^ m * b < 2 ^ suc m
       go zero h l = omega arith
       go (suc zero) h l = omega arith
       go (suc (suc b)) h l = absurd (omega arith)
 
-  pub tableF-bit : (m i : ℕ) → i < m → bitAt (tableF m p vs t) i ≡ bitOf p (rowBits 0 vs i) t
+  pub tableF-bit : (m i : ℕ) → i < m → bitAt (tableF m w p vs t) i ≡ bitOf w p (rowBits 0 vs i) t
   unfolding tableF
   tableF-bit zero i h = absurd (omega arith)
   tableF-bit (suc m) i h = ap (λ (x : ℕ). bitAt x i) reordered ∙ go (ℕ-discrete i m) (tableF-bit m i)
     where
       b : ℕ
-      b = bitOf p (rowBits 0 vs m) t
+      b = bitOf w p (rowBits 0 vs m) t
 
-      reordered : tableF m p vs t + 2 ^ m * b ≡ b * 2 ^ m + tableF m p vs t
+      reordered : tableF m w p vs t + 2 ^ m * b ≡ b * 2 ^ m + tableF m w p vs t
       reordered = omega arith
 
-      go : Dec (i ≡ m) → (i < m → bitAt (tableF m p vs t) i ≡ bitOf p (rowBits 0 vs i) t)
-          → bitAt (b * 2 ^ m + tableF m p vs t) i ≡ bitOf p (rowBits 0 vs i) t
-      go (yes e) below = rw e (bit-top b m (tableF m p vs t) (tableF-lt m) ∙ mod-eq-of-lt (row-lt m))
-      go (no n) below = bit-under b m (tableF m p vs t) i (tableF-lt m) (omega arith) ∙ below (omega arith)
+      go : Dec (i ≡ m) → (i < m → bitAt (tableF m w p vs t) i ≡ bitOf w p (rowBits 0 vs i) t)
+          → bitAt (b * 2 ^ m + tableF m w p vs t) i ≡ bitOf w p (rowBits 0 vs i) t
+      go (yes e) below = rw e (bit-top b m (tableF m w p vs t) (tableF-lt m) ∙ mod-eq-of-lt (row-lt m))
+      go (no n) below = bit-under b m (tableF m w p vs t) i (tableF-lt m) (omega arith) ∙ below (omega arith)
 
   -- a table of n variables has 2 ^ n bits, each the tree's bit under the assignment of its number
-  pub table-lt : (n : ℕ) → table p vs n t < 2 ^ (2 ^ n)
+  pub table-lt : (n : ℕ) → table w p vs n t < 2 ^ (2 ^ n)
   unfolding table
   table-lt n = tableF-lt (2 ^ n)
 
-  pub table-bit : (n i : ℕ) → i < 2 ^ n → bitAt (table p vs n t) i ≡ bitOf p (rowBits 0 vs i) t
+  pub table-bit : (n i : ℕ) → i < 2 ^ n → bitAt (table w p vs n t) i ≡ bitOf w p (rowBits 0 vs i) t
   unfolding table
   table-bit n i h = tableF-bit (2 ^ n) i h
 
@@ -123,12 +124,12 @@ pub occurs-support : (t : Tree) → isExpr t ≡ true → (v : ℕ) → occurs v
 occurs-support t e v o = support-occurs v t (omega (arith, occurs-lt v t e o)) ∙ o
 
 -- the bit of a table at the row of the bits b is the tree's bit under b
-pub table-row : (p : ℕ) (vs : List ℕ) (n : ℕ) (t : Tree) (b : ℕ → ℕ) (i : ℕ) → i < 2 ^ n
+pub table-row : (w p : ℕ) (vs : List ℕ) (n : ℕ) (t : Tree) (b : ℕ → ℕ) (i : ℕ) → i < 2 ^ n
     → ((j : ℕ) → j < length vs → bitAt i j ≡ b (getD vs j 0))
-    → ((v : ℕ) → occurs v t ≡ true → elem v vs ≡ true) → bitAt (table p vs n t) i ≡ bitOf p b t
-table-row p vs n t b i hi h there =
-    table-bit p vs t n i hi
-    ∙ bit-of-agree p (rowBits 0 vs i) b t (λ v o. row-bits i vs b h v (there v o))
+    → ((v : ℕ) → occurs v t ≡ true → elem v vs ≡ true) → bitAt (table w p vs n t) i ≡ bitOf w p b t
+table-row w p vs n t b i hi h there =
+    table-bit w p vs t n i hi
+    ∙ bit-of-agree w p (rowBits 0 vs i) b t (λ v o. row-bits i vs b h v (there v o))
 
 -- ---- trees with the same table
 
@@ -157,21 +158,21 @@ pure-parts t e =
     record { no-literal = not-true _ (p .0); no-shr = not-true _ (q .0); few = leb-true _ _ (q .1) }
 
 pub pure-bitwise : (t : Tree) → Pure t → isExpr t ≡ true → hasArith t ≡ false → Bitwise t
-pure-bitwise t p e n = record { expr = e; no-arith = n; no-shift = no-shift t (p .no-shr) }
+pure-bitwise t p e n = bitwise-of-no-shift t e n (no-shift t (p .no-shr))
 
 -- the same function of the same variables
 pub record SameTable (t u : Tree) : Type 0 where
   pub pure-l : Pure t
   pub pure-r : Pure u
   pub vars : support t ≡ support u
-  pub tables : table 0 (support t) (length (support t)) t ≡ table 0 (support t) (length (support t)) u
+  pub tables : table 1 0 (support t) (length (support t)) t ≡ table 1 0 (support t) (length (support t)) u
 
 pub same-table-parts : (t u : Tree) → sameTable t u ≡ true → SameTable t u
 unfolding sameTable sameVars
 same-table-parts t u e =
     let vs : List ℕ = support t in
     let n : ℕ = length vs in
-    let tables : Bool = eqb (table 0 vs n t) (table 0 vs n u) in
+    let tables : Bool = eqb (table 1 0 vs n t) (table 1 0 vs n u) in
     let p = and-true (isPure t) (isPure u && (eqList vs (support u) && tables)) e in
     let q = and-true (isPure u) (eqList vs (support u) && tables) (p .1) in
     let r = and-true (eqList vs (support u)) tables (q .1) in
@@ -183,13 +184,13 @@ same-table-parts t u e =
     }
 
 module _ (t u : Tree) (parts : SameTable t u) (expr-l : isExpr t ≡ true) (expr-r : isExpr u ≡ true) where
-  same-bit : (b : ℕ → ℕ) → ((v : ℕ) → b v < 2) → bitOf 0 b t ≡ bitOf 0 b u
+  same-bit : (b : ℕ → ℕ) → ((v : ℕ) → b v < 2) → bitOf 1 0 b t ≡ bitOf 1 0 b u
   same-bit b hb =
       let vs : List ℕ = support t in
       let i : ℕ = rowOf b vs in
-      sym (table-row 0 vs (length vs) t b i (row-of-lt b hb vs) (row-of-bit b hb vs) (occurs-support t expr-l))
+      sym (table-row 1 0 vs (length vs) t b i (row-of-lt b hb vs) (row-of-bit b hb vs) (occurs-support t expr-l))
       ∙ ap (λ (x : ℕ). bitAt x i) (parts .tables)
-      ∙ table-row 0 vs (length vs) u b i (row-of-lt b hb vs) (row-of-bit b hb vs)
+      ∙ table-row 1 0 vs (length vs) u b i (row-of-lt b hb vs) (row-of-bit b hb vs)
       (λ v o. ap (elem v) (parts .vars) ∙ occurs-support u expr-r v o)
 
   pub same-value : hasArith t ≡ false → hasArith u ≡ false → (w : ℕ) (vars : List ℕ) → value w vars t ≡ value w vars u
@@ -199,11 +200,13 @@ module _ (t u : Tree) (parts : SameTable t u) (expr-l : isExpr t ≡ true) (expr
       at-place : (p : ℕ) → p < w → bitAt (value w vars t) p ≡ bitAt (value w vars u) p
       at-place p hp =
           let b : ℕ → ℕ = λ i. bitAt (getD vars i 0) p in
-          bit-value w p hp vars t (pure-bitwise t (parts .pure-l) expr-l arith-l)
-          ∙ bit-of-place p 0 b t (parts .pure-l .no-literal)
+          let bits-l : Bitwise t = pure-bitwise t (parts .pure-l) expr-l arith-l in
+          let bits-r : Bitwise u = pure-bitwise u (parts .pure-r) expr-r arith-r in
+          bit-value w p hp vars t bits-l
+          ∙ bit-of-place w 1 p 0 hp (omega arith) b t bits-l (parts .pure-l .no-literal)
           ∙ same-bit b (λ i. bit-lt (getD vars i 0) p)
-          ∙ bit-of-place 0 p b u (parts .pure-r .no-literal)
-          ∙ sym (bit-value w p hp vars u (pure-bitwise u (parts .pure-r) expr-r arith-r))
+          ∙ bit-of-place 1 w 0 p (omega arith) hp b u bits-r (parts .pure-r .no-literal)
+          ∙ sym (bit-value w p hp vars u bits-r)
 
 -- trees with the same table have the same value under every assignment
 pub table-value : (t u : Tree) → sameTable t u ≡ true → isExpr t ≡ true → isExpr u ≡ true

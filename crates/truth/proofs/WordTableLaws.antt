@@ -1,5 +1,5 @@
 -- The Rust's truth tables have a word of w bits for each row (semilinear.rs 109-161). For trees without literal and Shr
--- they are equal exactly when the tables of specs/Truth.antt at place 0 are.
+-- they are equal exactly when the tables of specs/Truth.antt at width 1 and place 0 are.
 use mathlib.Core.Path.{_≡_, refl, ap, sym, _∙_}
 use Prim.Native.Nat.{ℕ, zero, suc, _^_, _≤_, _<_}
 use native.Mathlib.Omega.{arith}
@@ -13,13 +13,14 @@ use Rattle.arith.proofs.BitLaws.{bit-zero, bits-below}
 use Rattle.record.specs.Tree.{Tree}
 use Rattle.record.proofs.ListsLaws.{eq-of-eq-list}
 use Rattle.expr.specs.Refusal.{isExpr}
-use Rattle.expr.specs.Utils.{hasArith}
+use Rattle.expr.specs.Utils.{hasLiteral, hasArith}
 use Rattle.expr.specs.Value.{value}
 use Rattle.expr.specs.Vars.{occurs, support, sameVars}
 use Rattle.expr.proofs.IsExprLaws.{occurs-lt}
 use Rattle.truth.specs.Truth.{bitOf, rowBits, table}
 use Rattle.truth.specs.Key.{isPure}
-use Rattle.truth.proofs.BitOfLaws.{Bitwise, bit-value, bit-of-agree}
+use Rattle.truth.proofs.BitwiseLaws.{Bitwise}
+use Rattle.truth.proofs.BitOfLaws.{bit-value, bit-of-agree, bit-of-place}
 use Rattle.truth.proofs.TruthLaws.{row-bits-lt, table-lt, table-bit, Pure, pure-parts}
 use Rattle.truth.proofs.TruthLaws.{pure-bitwise, SameTable, same-value}
 
@@ -39,11 +40,13 @@ unfoldable pub rowWord : ℕ → List ℕ → ℕ → Tree → ℕ
 rowWord w vs i t = value w (wordsOf 256 (rowBits 0 vs i)) t
 
 module _ (w : ℕ) (vs : List ℕ) (hw : 1 ≤ w) where
-  row-word-bit : (t : Tree) → Bitwise t → (i : ℕ) → bitAt (rowWord w vs i t) 0 ≡ bitOf 0 (rowBits 0 vs i) t
+  row-word-bit : (t : Tree) → Bitwise t → hasLiteral t ≡ false → (i : ℕ)
+      → bitAt (rowWord w vs i t) 0 ≡ bitOf 1 0 (rowBits 0 vs i) t
   unfolding rowWord
-  row-word-bit t b i =
+  row-word-bit t b n i =
       bit-value w 0 (omega arith) (wordsOf 256 (rowBits 0 vs i)) t b
-      ∙ bit-of-agree 0 (λ v. bitAt (getD (wordsOf 256 (rowBits 0 vs i)) v 0) 0) (rowBits 0 vs i) t same
+      ∙ bit-of-agree w 0 (λ v. bitAt (getD (wordsOf 256 (rowBits 0 vs i)) v 0) 0) (rowBits 0 vs i) t same
+      ∙ bit-of-place w 1 0 0 (omega arith) (omega arith) (rowBits 0 vs i) t b n
     where
       same : (v : ℕ) → occurs v t ≡ true → bitAt (getD (wordsOf 256 (rowBits 0 vs i)) v 0) 0 ≡ rowBits 0 vs i v
       same v o =
@@ -51,23 +54,23 @@ module _ (w : ℕ) (vs : List ℕ) (hw : 1 ≤ w) where
           ∙ bit-zero (rowBits 0 vs i v)
           ∙ mod-eq-of-lt (row-bits-lt 0 vs i v)
 
-  -- equal rows of w-bit words make equal tables at place 0
-  word-rows : (t u : Tree) → Bitwise t → Bitwise u → (n : ℕ)
-      → ((i : ℕ) → i < 2 ^ n → rowWord w vs i t ≡ rowWord w vs i u) → table 0 vs n t ≡ table 0 vs n u
-  word-rows t u bt bu n e =
-      bits-below (2 ^ n) (table 0 vs n t) (table 0 vs n u) (table-lt 0 vs t n) (table-lt 0 vs u n)
+  -- equal rows of w-bit words make equal tables at width 1 and place 0
+  word-rows : (t u : Tree) → Bitwise t → Bitwise u → hasLiteral t ≡ false → hasLiteral u ≡ false → (n : ℕ)
+      → ((i : ℕ) → i < 2 ^ n → rowWord w vs i t ≡ rowWord w vs i u) → table 1 0 vs n t ≡ table 1 0 vs n u
+  word-rows t u bt bu lt lu n e =
+      bits-below (2 ^ n) (table 1 0 vs n t) (table 1 0 vs n u) (table-lt 1 0 vs t n) (table-lt 1 0 vs u n)
       (λ i h.
-      table-bit 0 vs t n i h
-      ∙ sym (row-word-bit t bt i)
+      table-bit 1 0 vs t n i h
+      ∙ sym (row-word-bit t bt lt i)
       ∙ ap (λ (x : ℕ). bitAt x 0) (e i h)
-      ∙ row-word-bit u bu i
-      ∙ sym (table-bit 0 vs u n i h))
+      ∙ row-word-bit u bu lu i
+      ∙ sym (table-bit 1 0 vs u n i h))
 
--- the Rust's tables are equal exactly when those at place 0 are
+-- the Rust's tables are equal exactly when those at width 1 and place 0 are
 pub word-tables : (w : ℕ) → 1 ≤ w → (t u : Tree) → isPure t ≡ true → isPure u ≡ true → sameVars t u ≡ true
     → isExpr t ≡ true → isExpr u ≡ true → hasArith t ≡ false → hasArith u ≡ false
     → ((i : ℕ) → i < 2 ^ length (support t) → rowWord w (support t) i t ≡ rowWord w (support t) i u)
-    ↔ (table 0 (support t) (length (support t)) t ≡ table 0 (support t) (length (support t)) u)
+    ↔ (table 1 0 (support t) (length (support t)) t ≡ table 1 0 (support t) (length (support t)) u)
 unfolding rowWord sameVars
 word-tables w hw t u pt pu s et eu at au = (there, back)
   where
@@ -78,11 +81,12 @@ word-tables w hw t u pt pu s et eu at au = (there, back)
     pure-r = pure-parts u pu
 
     there : ((i : ℕ) → i < 2 ^ length (support t) → rowWord w (support t) i t ≡ rowWord w (support t) i u)
-        → table 0 (support t) (length (support t)) t ≡ table 0 (support t) (length (support t)) u
+        → table 1 0 (support t) (length (support t)) t ≡ table 1 0 (support t) (length (support t)) u
     there =
-        word-rows w (support t) hw t u (pure-bitwise t pure-l et at) (pure-bitwise u pure-r eu au) (length (support t))
+        word-rows w (support t) hw t u (pure-bitwise t pure-l et at) (pure-bitwise u pure-r eu au)
+        (pure-l .no-literal) (pure-r .no-literal) (length (support t))
 
-    back : table 0 (support t) (length (support t)) t ≡ table 0 (support t) (length (support t)) u
+    back : table 1 0 (support t) (length (support t)) t ≡ table 1 0 (support t) (length (support t)) u
         → (i : ℕ) → i < 2 ^ length (support t) → rowWord w (support t) i t ≡ rowWord w (support t) i u
     back e i h =
         let same : SameTable t u =

@@ -19,20 +19,20 @@ sharedVars = 5
 unfoldable pub isPure : Tree → Bool
 isPure t = not (hasLiteral t) && (not (hasShr t) && leb (length (support t)) sharedVars)
 
--- the same function of the same variables
+-- the same function of the same variables; without literal and Shr the tables are the same at every place and width
 unfoldable pub sameTable : Tree → Tree → Bool
 sameTable t u =
     isPure t
     && (isPure u
     && (sameVars t u
-    && eqb (table 0 (support t) (length (support t)) t) (table 0 (support t) (length (support t)) u)))
+    && eqb (table 1 0 (support t) (length (support t)) t) (table 1 0 (support t) (length (support t)) u)))
 
 -- the first word of the key of a tree that is not so shared; no table has this number
 abbrev pub notPure : ℕ
 notPure = 2 ^ 64 - 1
 
--- the table at place 0 and six variables, noVar where there are fewer
+-- the table at width 1 and place 0, and six variables, noVar where there are fewer
 unfoldable pub keyOf : Tree → List ℕ
 keyOf t =
-    when (isPure t) (λ _. table 0 (support t) (length (support t)) t ∷ firstVars 6 0 t)
+    when (isPure t) (λ _. table 1 0 (support t) (length (support t)) t ∷ firstVars 6 0 t)
     (λ _. notPure ∷ replicate 6 0)

@@ -29,6 +29,6 @@ pub fn key_of(t: &[u8]) -> [u64; 7]
         return none;
     }
     let rows = 1 << n;
-    let table = crate::rows_at(t, &vars, 0) & arith::bitmask(rows);
+    let table = crate::rows_at(t, &vars, 0, 1) & arith::bitmask(rows);
     [table, vars[0], vars[1], vars[2], vars[3], vars[4], vars[5]]
 }

@@ -41,9 +41,9 @@ pub fn place_of(v: u64, vars: &[u64]) -> usize
     j
 }
 
-// The rows of the variable v.
+// The rows of the variable v, the same at every width and place.
 fn variable_rows(vars: &[u64], v: u64) -> u64
-    ensures { λ r. ⌜ r ≡ tableF 64 0 (now (vars .entry)) (Variable v) ⌝ }
+    ensures { λ r. ⌜ ((w p : ℕ) → r ≡ tableF 64 w p (now (vars .entry)) (Variable v)) ⌝ }
 {
     let j = place_of(v, vars);
     if j == vars.len() {
@@ -52,10 +52,11 @@ fn variable_rows(vars: &[u64], v: u64) -> u64
     column(j)
 }
 
-// The rows of a root without children.
+// The rows of a root without children, the same at every width.
 fn leaf_rows(t: &[u8], vars: &[u64], place: u32) -> u64
     requires { ⌜ 16 ≤ length (now t) ⌝ }
-    ensures { λ r. ⌜ r ≡ tableF 64 place (now (vars .entry)) (leaf (now (t .entry))) ⌝ }
+    ensures { λ r. ⌜ ((w : ℕ) → r ≡ tableF 64 w place (now (vars .entry))
+        (leaf (now (t .entry)))) ⌝ }
 {
     if record::kind(t) == 0 {
         if arith::bit(record::literal(t), place) == 0 {
@@ -77,10 +78,11 @@ fn join_rows(k: u8, x: u64, y: u64) -> u64
     }
 }
 
-// The rows of the tree of t at a place, over the variables of a list.
-pub fn rows_at(t: &[u8], vars: &[u64], place: u32) -> u64
+// The rows of the tree of t at a place of w, over the variables of a list. A shift reads a higher
+// place, and is 0 from w on. Corresponds to `eval_atom_at_bit`.
+pub fn rows_at(t: &[u8], vars: &[u64], place: u32, w: u32) -> u64
     requires { ⌜ sized (now t) ≡ true ⌝ }
-    ensures { λ r. ⌜ r ≡ tableF 64 place (now (vars .entry)) (decode (now (t .entry))) ⌝ }
+    ensures { λ r. ⌜ r ≡ tableF 64 w place (now (vars .entry)) (decode (now (t .entry))) ⌝ }
 {
     let children = record::root_arity(t);
     if children == 0 {
@@ -88,13 +90,17 @@ pub fn rows_at(t: &[u8], vars: &[u64], place: u32) -> u64
     }
     let k = record::kind(t);
     if children == 1 {
-        let x = rows_at(record::body(t), vars, place);
         if k == 7 {
+            let x = rows_at(record::body(t), vars, place, w);
             return !x;
         }
-        return x;
+        let source = place as u64 + record::amount(t);
+        if w as u64 <= source {
+            return 0;
+        }
+        return rows_at(record::body(t), vars, source as u32, w);
     }
-    let x = rows_at(record::left(t), vars, place);
-    let y = rows_at(record::right(t), vars, place);
+    let x = rows_at(record::left(t), vars, place, w);
+    let y = rows_at(record::right(t), vars, place, w);
     join_rows(k, x, y)
 }
