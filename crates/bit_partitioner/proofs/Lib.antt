@@ -8,3 +8,7 @@ pub mod ComputeLaws
 mod ClassWordsLaws
 mod JoinLaws
 mod FactsLaws
+mod EdgesLaws
+mod AtomWordsLaws
+mod IndexLaws
+mod MoveLaws

@@ -3,3 +3,5 @@ pub mod Partition
 pub mod Columns
 pub mod Classes
 pub mod Edges
+pub mod Index
+pub mod Profile
