@@ -184,6 +184,11 @@ module _ (f : Form) (ok : validForm f ≡ true) where
             let z = bit-past (maskAt f out k) (f .bitwidth) p (columns-mask-lt k (h .below)) (omega arith) in
             absurd (omega (arith, h .there, z))
 
+    pub columns-inhabited : (k : ℕ) → k < count f → HoldsBelow f out (count f) k (f .bitwidth)
+    columns-inhabited k l =
+        let h = some-place k l in
+        record { place = class-at k l .some; less = columns-place-lt k (class-at k l .some) h; holds = h }
+
     -- the profile words of a class are those of each place that it holds
     pub columns-word : (k p : ℕ) → HoldsHere k p → (i : ℕ) → i < length (f .rows)
         → wordAt f out k i ≡ profileWord (f .bitwidth) p i (atomTree f i)
@@ -228,6 +233,7 @@ module _ (f : Form) (ok : validForm f ≡ true) where
         record {
           none = λ e. ap length (classes-none f e);
           once = columns-once;
+          inhabited = columns-inhabited;
           mask-lt = columns-mask-lt;
           count-le = columns-count f;
           rising = columns-rising;

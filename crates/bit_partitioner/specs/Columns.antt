@@ -57,6 +57,8 @@ pub record Columns (f : Form) (out : List ℕ) (count : ℕ) : Type 0 where
   -- without atoms there is no class, and with them each place is in exactly one
   pub none : length (f .rows) ≡ 0 → count ≡ 0
   pub once : 0 < length (f .rows) → (p : ℕ) → p < f .bitwidth → InOneClass f out count p
+  -- each class holds a place
+  pub inhabited : (k : ℕ) → k < count → HoldsBelow f out count k (f .bitwidth)
   -- masks have w bits, and there are at most w of them, by rising lowest place
   pub mask-lt : (k : ℕ) → k < count → maskAt f out k < 2 ^ f .bitwidth
   pub count-le : count ≤ f .bitwidth

@@ -16,10 +16,10 @@ use Rattle.truth.specs.Truth.{hasShift, bitBinary, bitOf, rowBits, tableF, tabl
 use Rattle.semilinear.specs.Decompose.{decomposeAnd, decomposeAtom}
 use Rattle.semilinear.specs.Form.{termCount, atomBytes, atomsBytes, termBytes, termsBytes, sumBytes, encodeForm}
 use Rattle.semilinear.specs.Form.{eqTree, treeRecords, fitsTable}
-use Rattle.semilinear.specs.Group.{at, putEntry, emptyGroup, pushEntry, isLive, consumed, work, createRow, maskedTree}
-use Rattle.semilinear.specs.Group.{createMasked, viewRow, anyBasis, variableBasis, insertBasis, basesOf, groupOf}
-use Rattle.semilinear.specs.Group.{ungrouped, addCoeff, settleAt, settle}
-use Rattle.semilinear.specs.Loop.{turnsF, forIn, firstF, firstIn}
+use Rattle.group.specs.Group.{at, putEntry, emptyGroup, pushEntry, isLive, consumed, work, createRow, maskedTree}
+use Rattle.group.specs.Group.{createMasked, viewRow, anyBasis, variableBasis, insertBasis, basesOf, groupOf}
+use Rattle.group.specs.Group.{ungrouped, addCoeff, settleAt, settle}
+use Rattle.record.specs.Loop.{turnsF, forIn, firstF, firstIn}
 use Rattle.semilinear.specs.Outcome.{formOutcome}
 use Rattle.semilinear_normalizer.specs.Collect.{joinCollected, collectAtom, collectConstant, isNot, operand}
 use Rattle.semilinear_normalizer.specs.Collect.{collectNot, isMaskedNot, collectAnd, andCoeff, collectMasked}
@@ -27,11 +27,11 @@ use Rattle.semilinear_normalizer.specs.Collect.{collectTerms}
 use Rattle.semilinear_normalizer.specs.Normalize.{collectedForm, collectedOutcome, normalizeTree}
 use Rattle.semilinear_normalizer.specs.Register.{familyOf, detectProvenance, sameSlot, newestRow}
 use Rattle.semilinear_normalizer.specs.Register.{firstRow, hasTree, sharedRow, addRow, registerAtom, registerAll}
-use Rattle.term_refiner.specs.Collapse.{thirdFits, findThird, secondFits, findSecond, firstFits, findFirst}
-use Rattle.term_refiner.specs.Collapse.{collapseAt, threeTermCollapse}
+use Rattle.group.specs.Collapse.{thirdFits, findThird, secondFits, findSecond, firstFits, findFirst}
+use Rattle.group.specs.Collapse.{collapseAt, threeTermCollapse}
 use Rattle.term_refiner.specs.RefineTerms.{refineGroup, refineAll, refineForm}
-use Rattle.term_refiner.specs.Steps.{remasked, cutAt, cutMasks, dropAt, dropZero, joinAt, slotFits, placeAt, leastAt}
-use Rattle.term_refiner.specs.Steps.{leastCoeff, sweepTurn, bucketMerge, pairAt, pairMerge, negateAt, toMinusOne}
+use Rattle.group.specs.Steps.{remasked, cutAt, cutMasks, dropAt, dropZero, joinAt, slotFits, placeAt, leastAt}
+use Rattle.group.specs.Steps.{leastCoeff, sweepTurn, bucketMerge, pairAt, pairMerge, negateAt, toMinusOne}
 use Rattle.structure_recovery.specs.CoalesceTerms.{bitCoeffAt, bitCoeff, carry, carryAt, carriedOf, carriedRows}
 use Rattle.structure_recovery.specs.CoalesceTerms.{coalesceGroup, coalesceAll, coalesceForm}
 use Rattle.structure_recovery.specs.FlattenComplexAtoms.{isPlain, isComplex, atZero, atOnes, flatRow, flattenRow}

@@ -1,11 +1,13 @@
 -- Laws of specs/Value.antt: a value has w bits, and depends on the variables that occur, at w bits.
-use mathlib.Core.Path.{_≡_, refl, ap, ap₂, sym}
-use Prim.Native.Nat.{ℕ, _+_, _-_, _*_, _/_, _%_, _^_, _<_}
+use mathlib.Core.Path.{_≡_, refl, ap, ap₂, sym, _∙_}
+use Prim.Native.Nat.{ℕ, _+_, _-_, _*_, _/_, _%_, _^_, _<_, _≤_}
 use native.Mathlib.Nat.{mod-lt, lt-of-le-of-lt}
 use lib.Pow.{pow-pos, ones-sub-lt, shr-le}
-use mathlib.Core.List.{List, []}
+use mathlib.Core.List.{List, [], _++_}
 use mathlib.Core.Bool.{Bool, true, false, _||_}
-use lib.ListN.{getD}
+use lib.ListN.{length, getD, replicate, length-replicate, getD-replicate, List·getD-append}
+use lib.Seq.{getD-append-add}
+use native.Mathlib.Omega.{arith}
 use lib.Dec.{eqb}
 use borrow.Author.Tests.{eq-eqb}
 use lib.Bits.{bitAnd, bitOr, bitXor, and-le-l, or-lt, xor-lt}
@@ -16,6 +18,17 @@ use Rattle.record.proofs.SizedLaws.{false-true, or-of-l, or-of-r, or-false}
 use Rattle.expr.specs.Utils.{hasKind, hasVarDep}
 use Rattle.expr.specs.Value.{unary, binary, value}
 use Rattle.expr.specs.Vars.{occurs}
+
+-- the assignment vars behind `from` zeros: a word among the zeros, and one behind them
+pub zeros-below : (vars : List ℕ) (from i : ℕ) → i < from → getD (replicate from 0 ++ vars) i 0 ≡ 0
+zeros-below vars from i h =
+    List·getD-append (replicate from 0) vars 0 i (rw length-replicate h) ∙ getD-replicate from i 0 0 h
+
+pub zeros-from : (vars : List ℕ) (from i : ℕ) → from ≤ i → getD (replicate from 0 ++ vars) i 0 ≡ getD vars (i - from) 0
+zeros-from vars from i h =
+    let n : length {A = ℕ} (replicate from 0) ≡ from = length-replicate from 0 in
+    let e : i ≡ length {A = ℕ} (replicate from 0) + (i - from) = omega arith in
+    ap (λ (k : ℕ). getD (replicate from 0 ++ vars) k 0) e ∙ getD-append-add (replicate from 0) vars (i - from) 0
 
 unary-lt : (w k a x : ℕ) → x < 2 ^ w → unary w k a x < 2 ^ w
 unfolding unary

@@ -61,3 +61,10 @@ pub fn structural_hash(t: &[u8]) -> u64
     let y = structural_hash(record::right(t));
     mix_hash(mix_hash(k as u64, x), y)
 }
+
+// The hash of the And of a tree with the hash h and the literal m.
+pub fn masked_hash(h: u64, m: u64) -> u64
+    ensures { λ r. ⌜ r ≡ mixHash (mixHash 4 h) (tagHash 0 m) ⌝ }
+{
+    mix_hash(mix_hash(4, h), tag_hash(0, m))
+}

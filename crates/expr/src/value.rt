@@ -1,17 +1,21 @@
 // The value of an expression under an assignment, at w bits.
 ghost use mathlib.Core.Path.{_≡_};
+ghost use mathlib.Core.List.{_++_};
 ghost use mathlib.Core.Bool.{true};
 ghost use Prim.Native.Nat.{ℕ, _^_, _<_, _≤_};
-ghost use lib.ListN.{length, getD};
+ghost use lib.ListN.{length, getD, replicate};
 ghost use Rattle.record.specs.Span.{sized};
 ghost use Rattle.record.specs.Decode.{leaf, decode};
 ghost use Rattle.expr.specs.Value.{unary, binary, value};
 
-// Word i of the assignment, 0 beyond its end.
-fn word(vars: &[u64], i: u64) -> u64
-    ensures { λ r. ⌜ r ≡ getD (now (vars .entry)) i 0 ⌝ }
+// Word i of the assignment that is 0 below `from` and has the words of vars from there on.
+fn word(vars: &[u64], from: u64, i: u64) -> u64
+    ensures { λ r. ⌜ r ≡ getD (replicate from 0 ++ now (vars .entry)) i 0 ⌝ }
 {
-    let at = i as usize;
+    if i < from {
+        return 0;
+    }
+    let at = (i - from) as usize;
     if at < vars.len() {
         return vars[at];
     }
@@ -47,15 +51,36 @@ fn binary(w: u32, k: u8, x: u64, y: u64) -> u64
 }
 
 // The value of a root without children.
-fn leaf_value(t: &[u8], vars: &[u64], w: u32) -> u64
+fn leaf_value(t: &[u8], vars: &[u64], from: u64, w: u32) -> u64
     requires { ⌜ (16 ≤ length (now t)) × (w ≤ 64) ⌝ }
-    ensures { λ r. ⌜ r ≡ value w (now (vars .entry)) (leaf (now (t .entry))) ⌝ }
+    ensures { λ r. ⌜ r ≡ value w (replicate from 0 ++ now (vars .entry)) (leaf (now (t .entry))) ⌝ }
 {
     let mask = arith::bitmask(w);
     if record::kind(t) == 0 {
         return record::literal(t) & mask;
     }
-    word(vars, record::var_index(t)) & mask
+    word(vars, from, record::var_index(t)) & mask
+}
+
+// The value of the tree that t holds, where the variables below `from` are 0 and variable
+// `from + i` is word i.
+pub fn value_from(t: &[u8], vars: &[u64], from: u64, w: u32) -> u64
+    requires { ⌜ (sized (now t) ≡ true) × (w ≤ 64) ⌝ }
+    ensures { λ r. ⌜ r
+        ≡ value w (replicate from 0 ++ now (vars .entry)) (decode (now (t .entry))) ⌝ }
+{
+    let children = record::root_arity(t);
+    if children == 0 {
+        return leaf_value(t, vars, from, w);
+    }
+    let k = record::kind(t);
+    if children == 1 {
+        let x = value_from(record::body(t), vars, from, w);
+        return unary(w, k, record::amount(t), x);
+    }
+    let x = value_from(record::left(t), vars, from, w);
+    let y = value_from(record::right(t), vars, from, w);
+    binary(w, k, x, y)
 }
 
 // The value of the tree that t holds.
@@ -63,16 +88,5 @@ pub fn value_at(t: &[u8], vars: &[u64], w: u32) -> u64
     requires { ⌜ (sized (now t) ≡ true) × (w ≤ 64) ⌝ }
     ensures { λ r. ⌜ r ≡ value w (now (vars .entry)) (decode (now (t .entry))) ⌝ }
 {
-    let children = record::root_arity(t);
-    if children == 0 {
-        return leaf_value(t, vars, w);
-    }
-    let k = record::kind(t);
-    if children == 1 {
-        let x = value_at(record::body(t), vars, w);
-        return unary(w, k, record::amount(t), x);
-    }
-    let x = value_at(record::left(t), vars, w);
-    let y = value_at(record::right(t), vars, w);
-    binary(w, k, x, y)
+    value_from(t, vars, 0, w)
 }

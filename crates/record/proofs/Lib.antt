@@ -1,4 +1,5 @@
 -- The laws of the definitions, for the crates above.
+pub mod LoopLaws
 pub mod FieldsLaws
 pub mod SpanLaws
 pub mod SizedLaws

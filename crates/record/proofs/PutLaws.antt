@@ -3,8 +3,9 @@ use mathlib.Core.Path.{_≡_, refl, ap, sym, _∙_}
 use Prim.Native.Nat.{ℕ, zero, suc, _+_, _-_, _≤_, _<_}
 use native.Mathlib.Omega.{arith}
 use native.Mathlib.Nat.{add-assoc, suc-sub-suc, sub-zero, zero-sub}
-use mathlib.Core.List.{List, [], _++_, append-assoc}
+use mathlib.Core.List.{List, [], _++_, append-assoc, append-nil}
 use lib.ListN.{length, getD, take, drop, replicate, length-append, length-take, length-drop, length-replicate}
+use lib.ListN.{drop-of-length-le}
 use lib.Seq.{paste, take-at, drop-at, drop-drop, take-length, length-take-le, getD-take, getD-append-add}
 use Rattle.record.specs.Put.{put, padded}
 
@@ -112,3 +113,11 @@ put-padded len b x = rw (take-padded len b, drop-padded len b (length x), length
 -- the same, with its place as the code has it
 pub put-padded-at : (len : ℕ) (b x : List ℕ) (i : ℕ) → i ≡ length b → put (padded len b) i x ≡ padded len (b ++ x)
 put-padded-at len b x i e = rw e (put-padded len b x)
+
+-- zeros put one by one: where i has reached the end, all of it is zero
+pub filled : (d out : List ℕ) (i : ℕ) → i ≤ length d → length out ≡ length d → out ≡ replicate i 0 ++ drop i d
+    → length out ≤ i → out ≡ replicate (length d) 0
+filled d out i le len e past =
+    let at : i ≡ length d = omega arith in
+    let end : length d ≤ i = omega arith in
+    e ∙ rw (drop-of-length-le d end, append-nil, at)

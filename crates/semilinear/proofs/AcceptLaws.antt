@@ -197,7 +197,7 @@ module _ (s : List ℕ) (h : IsBytes s) (ok : isSemilinear s ≡ true) where
   front : FrontParts (width s) (body s)
   front = semilinear-parts s ok .1
 
-  written : Written (width s) 0 (body s) (afterAtoms (body s))
+  pub written : Written (width s) 0 (body s) (afterAtoms (body s))
   written =
       let hb = bytes-body s h in
       rows-written (width s) (body s) 0 (atomCount (body s)) (afterAtoms (body s)) (omega arith) hb

@@ -7,7 +7,6 @@ pub mod FormLaws
 pub mod ValidLaws
 pub mod AcceptLaws
 pub mod AtomLaws
-pub mod ViewLaws
 pub mod RowsLaws
 pub mod EncodeFormLaws
 mod ScanLaws
@@ -19,13 +18,7 @@ pub mod RenumberLaws
 pub mod CompactLaws
 pub mod CopyLaws
 pub mod PassLaws
-pub mod EntryLaws
-pub mod TotalLaws
-pub mod WorkLaws
-pub mod SearchLaws
-pub mod BasesLaws
-pub mod GroupsLaws
-pub mod GroupOfLaws
-pub mod SettleLaws
-pub mod ExtendsLaws
+pub mod ReadLaws
+pub mod TermsLaws
+pub mod FinishLaws
 pub mod MadeLaws

@@ -2,7 +2,7 @@
 use mathlib.Core.Path.{_≡_, refl, ap, _∙_}
 use Prim.Native.Nat.{ℕ}
 use mathlib.Core.List.{List, [], _∷_}
-use mathlib.Core.Bool.{Bool, false}
+use mathlib.Core.Bool.{Bool}
 use lib.ListN.{length, take, replicate}
 use lib.Seq.{take-take}
 use native.Mathlib.Omega.{arith}
@@ -11,12 +11,9 @@ use Rattle.semilinear.specs.declared.outcome.Answer.{Answer}
 use Rattle.semilinear.specs.Form.{Form, termCount, encodeForm}
 use Rattle.semilinear.specs.Outcome.{Outcome, accepted, refused, refusalOf, numbersOf, writtenOf, Gives}
 use Rattle.semilinear.specs.Outcome.{formOutcome}
-use Rattle.semilinear.specs.Answers.{GivesForm}
+use Rattle.semilinear.specs.Answers.{refusedAnswer, GivesForm}
 
--- the answer of a refusal, and of a form that was written
-abbrev pub refusedAnswer : ℕ → Answer
-refusedAnswer n = record { refusal = n; used = 0; terms = 0; flag = false }
-
+-- the answer of a form that was written
 abbrev pub formAnswer : Form → Bool → Answer
 formAnswer f flag =
     record { refusal = 0; used = length (encodeForm f); terms = termCount (f .rows); flag = flag }

@@ -11,8 +11,8 @@ use Rattle.semilinear.specs.declared.compact.Written.{Written}
 use Rattle.semilinear.specs.Form.{Row, Form, fitsTable, termCount, atomsBytes, termBytes, termsBytes}
 use Rattle.semilinear.specs.Items.{isTerm, frontWord}
 use Rattle.semilinear.specs.Valid.{lengthRefused, isSemilinear}
-use Rattle.semilinear.specs.DecodeForm.{decodeForm}
-use Rattle.semilinear.specs.Outcome.{Outcome, refused, formOutcome}
+use Rattle.semilinear.specs.DecodeForm.{readForm}
+use Rattle.semilinear.specs.Outcome.{Outcome, accepted, refused, formOutcome}
 
 -- the rows that have a term
 unfoldable pub usedRows : List Row → List Row
@@ -28,7 +28,11 @@ abbrev pub readOutcome : ℕ → (Form → Outcome) → List ℕ → ℕ → Out
 readOutcome whole given s len =
     when (lengthRefused s) (λ _. refused 1)
     (λ _. when (not (eqb len whole)) (λ _. refused 2)
-    (λ _. when (isSemilinear s) (λ _. given (decodeForm s)) (λ _. refused 10)))
+    (λ _. when (isSemilinear s) (λ _. given (readForm s)) (λ _. refused 10)))
+
+-- its refusals alone: an accepted call has written nothing yet
+unfoldable pub openOutcome : ℕ → List ℕ → ℕ → Outcome
+openOutcome whole = readOutcome whole (λ f. accepted [] [])
 
 -- a pass: the result slice has 57,360 bytes
 unfoldable pub passOutcome : (Form → Outcome) → List ℕ → ℕ → Outcome

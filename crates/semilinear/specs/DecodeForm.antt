@@ -39,3 +39,7 @@ rowsOf i r q = rowsF (length r) i r q
 unfoldable pub decodeForm : List ℕ → Form
 decodeForm s =
     record { bitwidth = width s; constant = literal s; rows = rowsOf 0 (body s) (afterAtoms (body s)) }
+
+-- the form that is read by what takes a form's bytes
+abbrev pub readForm : List ℕ → Form
+readForm s = decodeForm s

@@ -14,7 +14,23 @@ use Rattle.expr.specs.Utils.{hasVarDep, hasArith}
 use Rattle.expr.specs.Value.{value}
 use Rattle.expr.specs.Hash.{structuralHash}
 
--- an atom and its coefficient; the provenance is And 0, Or 1, Xor 2, Not 3, Mixed 4
+-- the provenances: what an atom was made of
+abbrev pub andFamily : ℕ
+andFamily = 0
+
+abbrev pub orFamily : ℕ
+orFamily = 1
+
+abbrev pub xorFamily : ℕ
+xorFamily = 2
+
+abbrev pub notFamily : ℕ
+notFamily = 3
+
+abbrev pub mixedFamily : ℕ
+mixedFamily = 4
+
+-- an atom and its coefficient
 pub record Row : Type 0 where
   pub provenance : ℕ
   pub tree : Tree

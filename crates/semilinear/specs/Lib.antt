@@ -8,9 +8,8 @@ pub mod Answers
 pub mod Table
 pub mod Value
 pub mod Compact
+pub mod Terms
 pub mod Decompose
 pub mod Basis
-pub mod Loop
-pub mod Group
 pub mod Scan
 pub mod Running

@@ -2,6 +2,7 @@
 use crate::items;
 use crate::outcome::Answer;
 use crate::outcome::{self};
+use crate::read;
 use crate::scan;
 use crate::table;
 ghost use mathlib.Core.Path.{_≡_};
@@ -13,7 +14,7 @@ ghost use mathlib.Core.List.{[]};
 ghost use Rattle.record.specs.Put.{padded};
 ghost use Rattle.semilinear.specs.Items.{afterAtoms};
 ghost use Rattle.semilinear.specs.Valid.{frontOk, isSemilinear};
-ghost use Rattle.semilinear.specs.DecodeForm.{rowsOf, decodeForm};
+ghost use Rattle.semilinear.specs.DecodeForm.{rowsOf, readForm};
 ghost use Rattle.semilinear.specs.Running.{usedBytes, RowCopied};
 ghost use Rattle.semilinear.specs.Outcome.{formOutcome};
 ghost use Rattle.semilinear.specs.Answers.{GivesForm};
@@ -107,12 +108,11 @@ fn copy_front(f: &[u8], w: u8, out: &mut [u8]) -> Written
     }
 }
 
-// Compacts a form into a slice of 57,360 bytes.
+// Compacts a form into a slice of 57,360 bytes, which is all zeros.
 fn compact_form(s: &[u8], out: &mut [u8]) -> Answer
-    requires { ⌜ (isSemilinear (now s) ≡ true) × (length (now s) ≤ 57360) × (length (now out) ≡ 57360) ⌝ }
-    ensures { λ r. ⌜ GivesForm (formOutcome (compactForm (decodeForm (now (s .entry)))) false) 57360 r (now (out .exit)) ⌝ }
+    requires { ⌜ (isSemilinear (now s) ≡ true) × (length (now s) ≤ 57360) × (now out ≡ padded 57360 []) ⌝ }
+    ensures { λ r. ⌜ GivesForm (formOutcome (compactForm (readForm (now (s .entry)))) false) 57360 r (now (out .exit)) ⌝ }
 {
-    record::write::clear(out);
     let w = record::width(s);
     let constant = record::literal(s);
     let copied = copy_front(record::body(s), w, out);
@@ -130,14 +130,9 @@ fn compact_form(s: &[u8], out: &mut [u8]) -> Answer
 pub fn compact_atom_table(s: &[u8], out: &mut [u8]) -> Answer
     ensures { λ r. ⌜ GivesForm (compactAtomTable (now (s .entry)) (length (now (out .entry)))) (length (now (out .entry))) r (now (out .exit)) ⌝ }
 {
-    if scan::length_refused(s) {
-        return outcome::refuse(out, 1);
-    }
-    if out.len() != 57360 {
-        return outcome::refuse(out, 2);
-    }
-    if !scan::is_semilinear(s) {
-        return outcome::refuse(out, 10);
+    let number = read::open_bytes(s, out);
+    if number != 0 {
+        return outcome::refusal(number);
     }
     compact_form(s, out)
 }

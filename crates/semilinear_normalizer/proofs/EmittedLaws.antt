@@ -21,7 +21,7 @@ use Rattle.expr.proofs.ValueLaws.{value-lt}
 use Rattle.expr.proofs.IsExprLaws.{unary-of-expr, binary-of-expr}
 use Rattle.semilinear.proofs.AtomLaws.{Atom, bitwise-one, Sides, sides, sides-atom, left-atom, right-atom}
 use Rattle.semilinear.proofs.AtomLaws.{literal-sides, masked-atom}
-use Rattle.semilinear.proofs.SearchLaws.{when-both}
+use Rattle.record.proofs.LoopLaws.{when-both}
 use Rattle.semilinear.proofs.RowsLaws.{word-lt}
 use Rattle.semilinear_normalizer.specs.Collect.{Emitted, Collected, nonlinear, linear, joinCollected, collectAtom}
 use Rattle.semilinear_normalizer.specs.Collect.{collectConstant, isNot, operand, collectNot, isMaskedNot}

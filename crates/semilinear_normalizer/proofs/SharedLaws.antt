@@ -21,7 +21,7 @@ use Rattle.expr.proofs.AcceptLaws.{accept-encode}
 use Rattle.truth.specs.Key.{isPure, sameTable, notPure, keyOf}
 use Rattle.truth.proofs.KeyLaws.{not-pure-same, not-pure-key, pure-key, same-table-key}
 use Rattle.semilinear.specs.Form.{Row, eqTree}
-use Rattle.semilinear.specs.Loop.{firstF, firstIn}
+use Rattle.record.specs.Loop.{firstF, firstIn}
 use Rattle.semilinear_normalizer.specs.Register.{sameSlot, newestRow, firstRow, hasTree}
 use Rattle.semilinear_normalizer.specs.Register.{sharedRow}
 use Rattle.semilinear_normalizer.specs.Spots.{spanOf}

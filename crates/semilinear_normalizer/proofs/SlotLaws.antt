@@ -14,8 +14,8 @@ use Rattle.record.specs.Decode.{decode}
 use Rattle.record.proofs.ListsLaws.{eq-of-eq-list, eq-list-self, eq-list-differ, eq-list-next, eq-list-end}
 use Rattle.expr.specs.Vars.{support, sameVars}
 use Rattle.truth.specs.Key.{notPure}
-use Rattle.semilinear.specs.Loop.{firstIn}
-use Rattle.semilinear.proofs.SearchLaws.{when-both}
+use Rattle.record.specs.Loop.{firstIn}
+use Rattle.record.proofs.LoopLaws.{when-both}
 use Rattle.semilinear_normalizer.specs.Spots.{spanOf}
 use Rattle.semilinear_normalizer.specs.Index.{entrySpan, lastF, slotAt, newestSlot, rowByHash, rowByKey}
 use Rattle.semilinear_normalizer.specs.Index.{Searchable}

@@ -21,7 +21,7 @@ use Rattle.semilinear.specs.declared.table.Table.{Table}
 use Rattle.semilinear.specs.declared.compact.Written.{Written}
 use Rattle.semilinear.specs.Form.{Row, fitsTable, termCount, termBytes, termsBytes}
 use Rattle.semilinear.specs.Table.{Holds, Clean}
-use Rattle.semilinear.specs.Loop.{firstIn}
+use Rattle.record.specs.Loop.{firstIn}
 use Rattle.semilinear_normalizer.specs.Collect.{Emitted}
 use Rattle.semilinear_normalizer.specs.Register.{familyOf, detectProvenance}
 use Rattle.semilinear_normalizer.specs.Spots.{spanOf}

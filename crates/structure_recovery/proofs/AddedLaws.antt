@@ -18,11 +18,11 @@ use Rattle.record.specs.Tree.{Tree}
 use Rattle.expr.specs.Value.{value}
 use Rattle.expr.proofs.ValueLaws.{value-lt}
 use Rattle.semilinear.specs.Form.{Row, sumRows, rowsOk}
-use Rattle.semilinear.specs.Group.{createMasked, addCoeff}
+use Rattle.group.specs.Group.{createMasked, addCoeff}
 use Rattle.semilinear.proofs.AtomLaws.{Atom, atom-tree}
-use Rattle.semilinear.proofs.WorkLaws.{rowValue, Grown, length-masked, row-value-masked, grown-masked}
-use Rattle.semilinear.proofs.SettleLaws.{add-sum, add-value, add-length, add-ok}
-use Rattle.semilinear.proofs.ExtendsLaws.{Extends}
+use Rattle.group.proofs.WorkLaws.{rowValue, Grown, length-masked, row-value-masked, grown-masked}
+use Rattle.group.proofs.SettleLaws.{add-sum, add-value, add-length, add-ok}
+use Rattle.group.proofs.ExtendsLaws.{Extends}
 use Rattle.structure_recovery.specs.RecoverStructure.{rowWith, withBare}
 use Rattle.structure_recovery.specs.CoalesceTerms.{Carried, carriedRows}
 use Rattle.structure_recovery.proofs.BareLaws.{with-bare}

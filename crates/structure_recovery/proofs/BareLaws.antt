@@ -10,10 +10,10 @@ use borrow.Author.Tests.{ltb-true, ltb-false}
 use Rattle.record.specs.Tree.{Tree}
 use Rattle.expr.specs.Value.{value}
 use Rattle.semilinear.specs.Form.{Row, eqTree, rowsOk}
-use Rattle.semilinear.specs.Group.{createRow}
+use Rattle.group.specs.Group.{createRow}
 use Rattle.semilinear.proofs.FormLaws.{Good, rows-cons}
 use Rattle.semilinear.proofs.AtomLaws.{Atom, atom-tree, tree-atom, eq-of-eq-tree}
-use Rattle.semilinear.proofs.WorkLaws.{rowValue, Grown, grown-refl, grown-create, length-create, row-value-create}
+use Rattle.group.proofs.WorkLaws.{rowValue, Grown, grown-refl, grown-create, length-create, row-value-create}
 use Rattle.structure_recovery.specs.RecoverStructure.{rowWith, withBare}
 
 module _ (w : ℕ) (vars : List ℕ) (t : Tree) (ht : Atom t) where

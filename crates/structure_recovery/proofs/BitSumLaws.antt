@@ -18,11 +18,11 @@ use Rattle.arith.proofs.MaskLaws.{and-split}
 use Rattle.arith.proofs.CongruenceLaws.{eqm-of-eq, eqm-refl, eqm-sym, eqm-trans, eqm-add, eqm-mul-r}
 use Rattle.arith.proofs.WidthLaws.{mod-add-eqm, mod-add-lt}
 use Rattle.record.specs.Choice.{when}
-use Rattle.semilinear.specs.declared.group.Group.{Group}
-use Rattle.semilinear.specs.Group.{at, isLive}
-use Rattle.semilinear.proofs.EntryLaws.{for-ind, for-keeps}
-use Rattle.semilinear.proofs.TotalLaws.{sumTo, sum-ext, worth, worth-live, total}
-use Rattle.semilinear.proofs.SettleLaws.{sum-next}
+use Rattle.record.proofs.LoopLaws.{for-ind, for-keeps}
+use Rattle.group.specs.declared.Group.{Group}
+use Rattle.group.specs.Group.{at, isLive}
+use Rattle.group.proofs.TotalLaws.{sumTo, sum-ext, worth, worth-live, total}
+use Rattle.group.proofs.SettleLaws.{sum-next}
 use Rattle.structure_recovery.specs.CoalesceTerms.{bitCoeffAt, bitCoeff}
 
 -- ---- one bit more

@@ -13,10 +13,10 @@ use Rattle.arith.specs.Congruence.{Eqm}
 use Rattle.arith.proofs.CongruenceLaws.{eqm-of-eq, eqm-trans, eqm-add, eqm-mul-r}
 use Rattle.record.specs.Choice.{when}
 use Rattle.record.proofs.SizedLaws.{and-true}
-use Rattle.semilinear.specs.declared.group.Group.{Group}
-use Rattle.semilinear.specs.Group.{at, isLive}
-use Rattle.semilinear.proofs.EntryLaws.{for-ind, for-keeps}
-use Rattle.semilinear.proofs.TotalLaws.{total}
+use Rattle.record.proofs.LoopLaws.{for-ind, for-keeps}
+use Rattle.group.specs.declared.Group.{Group}
+use Rattle.group.specs.Group.{at, isLive}
+use Rattle.group.proofs.TotalLaws.{total}
 use Rattle.structure_recovery.specs.CoalesceTerms.{Carried, bitCoeff, carry, carryAt, carriedOf}
 use Rattle.structure_recovery.proofs.BitSumLaws.{and-above, lowTotal, low-total-none, low-total-next}
 use Rattle.structure_recovery.proofs.BitSumLaws.{low-total-all, bit-coeff, bit-coeff-lt}

@@ -13,16 +13,16 @@ use Rattle.record.specs.Choice.{when}
 use Rattle.record.specs.Tree.{Tree}
 use Rattle.expr.specs.Hash.{structuralHash}
 use Rattle.expr.specs.Value.{value}
-use Rattle.semilinear.specs.declared.group.Group.{Group}
+use Rattle.group.specs.declared.Group.{Group}
 use Rattle.semilinear.specs.Form.{Row, Form, sumRows, formValue, rowsOk, fitsTable, validForm}
-use Rattle.semilinear.specs.Group.{at, emptyGroup, variableBasis, basesOf, groupOf, ungrouped, settle}
+use Rattle.group.specs.Group.{at, emptyGroup, variableBasis, basesOf, groupOf, ungrouped, settle}
 use Rattle.semilinear.proofs.FormLaws.{form-parts}
 use Rattle.semilinear.proofs.AtomLaws.{Atom}
-use Rattle.semilinear.proofs.TotalLaws.{total}
-use Rattle.semilinear.proofs.BasesLaws.{risingFrom, risen}
-use Rattle.semilinear.proofs.GroupsLaws.{basisSum, basesSum, groups-share, bases-rising}
-use Rattle.semilinear.proofs.GroupOfLaws.{Fresh, group-of}
-use Rattle.semilinear.proofs.ExtendsLaws.{Extends, extends-trans, ungrouped-extends}
+use Rattle.group.proofs.TotalLaws.{total}
+use Rattle.group.proofs.BasesLaws.{risingFrom, risen}
+use Rattle.group.proofs.GroupsLaws.{basisSum, basesSum, groups-share, bases-rising}
+use Rattle.group.proofs.GroupOfLaws.{Fresh, group-of}
+use Rattle.group.proofs.ExtendsLaws.{Extends, extends-trans, ungrouped-extends}
 use Rattle.structure_recovery.specs.CoalesceTerms.{carriedOf, carriedRows}
 use Rattle.structure_recovery.specs.CoalesceTerms.{coalesceGroup, coalesceAll, coalesceForm}
 use Rattle.structure_recovery.proofs.CarriedLaws.{carriedSum, carried-below, carried-sum}

@@ -24,10 +24,10 @@ use Rattle.expr.specs.Value.{value}
 use Rattle.expr.specs.Vars.{nextVar, support}
 use Rattle.expr.proofs.IsExprLaws.{occurs-lt, expr-of-variable}
 use Rattle.semilinear.specs.Form.{Row, sumRows, rowsOk}
-use Rattle.semilinear.specs.Group.{maskedTree}
+use Rattle.group.specs.Group.{maskedTree}
 use Rattle.semilinear.proofs.FormLaws.{Good, good-row, rows-cons}
 use Rattle.semilinear.proofs.AtomLaws.{Atom, atom-tree, tree-atom}
-use Rattle.semilinear.proofs.WorkLaws.{masked-value, masked-tree-atom}
+use Rattle.group.proofs.WorkLaws.{masked-value, masked-tree-atom}
 use Rattle.structure_recovery.specs.FlattenComplexAtoms.{isPlain, isComplex, atZero, atOnes, flatRow}
 use Rattle.structure_recovery.proofs.OneVarLaws.{one-var-occurs, at-zero-lt, at-ones-lt, flatten-atom}
 

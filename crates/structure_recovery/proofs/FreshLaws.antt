@@ -9,13 +9,13 @@ use lib.Dec.{eqb}
 use Rattle.arith.proofs.CongruenceLaws.{eqm-of-eq, eqm-trans}
 use Rattle.record.specs.Tree.{Tree}
 use Rattle.expr.specs.Value.{value}
-use Rattle.semilinear.specs.declared.group.Group.{Group}
+use Rattle.group.specs.declared.Group.{Group}
 use Rattle.semilinear.specs.Form.{Row, sumRows}
-use Rattle.semilinear.specs.Group.{Entry, at, isLive, settle}
-use Rattle.semilinear.proofs.TotalLaws.{sumTo, sum-ext, worth, worth-live, total}
-use Rattle.semilinear.proofs.SettleLaws.{owed, owed-live, settled}
-use Rattle.semilinear.proofs.GroupOfLaws.{Fresh}
-use Rattle.semilinear.proofs.ExtendsLaws.{Extends}
+use Rattle.group.specs.Group.{Entry, at, isLive, settle}
+use Rattle.group.proofs.TotalLaws.{sumTo, sum-ext, worth, worth-live, total}
+use Rattle.group.proofs.SettleLaws.{owed, owed-live, settled}
+use Rattle.group.proofs.GroupOfLaws.{Fresh}
+use Rattle.group.proofs.ExtendsLaws.{Extends}
 use Rattle.structure_recovery.proofs.AddedLaws.{Added}
 
 -- an entry without a mark is live

@@ -14,13 +14,13 @@ use Rattle.arith.specs.Congruence.{Eqm}
 use Rattle.arith.proofs.CongruenceLaws.{eqm-of-eq, eqm-refl, eqm-trans, eqm-add, eqm-cancel}
 use Rattle.record.specs.Tree.{Tree}
 use Rattle.expr.specs.Value.{value}
-use Rattle.semilinear.specs.declared.group.Group.{Group}
+use Rattle.group.specs.declared.Group.{Group}
 use Rattle.semilinear.specs.Form.{Row}
-use Rattle.semilinear.specs.Group.{Entry, at, putEntry, isLive}
-use Rattle.semilinear.proofs.EntryLaws.{Sized, sized-put, at-put, at-put-other}
-use Rattle.semilinear.proofs.TotalLaws.{sumTo, sum-ext, sum-but-one, len-put}
-use Rattle.semilinear.proofs.WorkLaws.{rowValue, Grown, grown-refl, grown-trans}
-use Rattle.semilinear.proofs.SettleLaws.{owed, owed-live, owed-consumed}
+use Rattle.group.specs.Group.{Entry, at, putEntry, isLive}
+use Rattle.group.proofs.EntryLaws.{Sized, sized-put, at-put, at-put-other}
+use Rattle.group.proofs.TotalLaws.{sumTo, sum-ext, sum-but-one, len-put}
+use Rattle.group.proofs.WorkLaws.{rowValue, Grown, grown-refl, grown-trans}
+use Rattle.group.proofs.SettleLaws.{owed, owed-live, owed-consumed}
 use Rattle.structure_recovery.specs.RecoverStructure.{Recovery}
 
 -- ---- the rows of entries

@@ -8,7 +8,7 @@ use lib.Dec.{leb}
 use borrow.Author.Tests.{eq-eqb}
 use Rattle.arith.specs.Width.{modAdd}
 use Rattle.record.specs.Tree.{Tree}
-use Rattle.semilinear.specs.Group.{at}
+use Rattle.group.specs.Group.{at}
 use Rattle.structure_recovery.specs.RecoverStructure.{Recovery, recoverXor, recoverPair}
 
 -- the mask of fewer ones is the literal; a tie takes the first entry's

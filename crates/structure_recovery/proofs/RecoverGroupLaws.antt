@@ -13,12 +13,11 @@ use Rattle.arith.specs.Width.{modAdd, modSub}
 use Rattle.arith.proofs.WidthLaws.{mod-add}
 use Rattle.record.specs.Tree.{Tree}
 use Rattle.record.proofs.SizedLaws.{and-true, or-false}
-use Rattle.semilinear.specs.declared.group.Group.{Group}
+use Rattle.group.specs.declared.Group.{Group}
 use Rattle.semilinear.specs.Form.{Row, rowsOk}
-use Rattle.semilinear.specs.Group.{Entry, at}
+use Rattle.group.specs.Group.{Entry, at}
 use Rattle.semilinear.proofs.AtomLaws.{Atom}
-use Rattle.semilinear.proofs.EntryLaws.{for-keeps}
-use Rattle.semilinear.proofs.SearchLaws.{when-both, first-from, first-true}
+use Rattle.record.proofs.LoopLaws.{when-both, first-from, first-true, for-keeps}
 use Rattle.structure_recovery.specs.RecoverStructure.{Recovery, recoverPair, isPartner, partnerOf, recoverAt}
 use Rattle.structure_recovery.specs.RecoverStructure.{recoverGroup}
 use Rattle.structure_recovery.proofs.HeldLaws.{Kept}

@@ -13,16 +13,16 @@ use Rattle.arith.proofs.CongruenceLaws.{eqm-of-eq, eqm-refl, eqm-trans, eqm-add
 use Rattle.record.specs.Tree.{Tree}
 use Rattle.record.proofs.SizedLaws.{and-true}
 use Rattle.expr.specs.Hash.{structuralHash}
-use Rattle.semilinear.specs.declared.group.Group.{Group}
+use Rattle.group.specs.declared.Group.{Group}
 use Rattle.semilinear.specs.Form.{Row, Form, sumRows, formValue, rowsOk, treeRecords, fitsTable, validForm}
-use Rattle.semilinear.specs.Group.{Entry, at, emptyGroup, anyBasis, basesOf, groupOf, ungrouped, settle}
+use Rattle.group.specs.Group.{Entry, at, emptyGroup, anyBasis, basesOf, groupOf, ungrouped, settle}
 use Rattle.semilinear.proofs.FormLaws.{form-parts, parts-form}
 use Rattle.semilinear.proofs.AtomLaws.{Atom}
-use Rattle.semilinear.proofs.SettleLaws.{settled}
-use Rattle.semilinear.proofs.BasesLaws.{risingFrom, risen}
-use Rattle.semilinear.proofs.GroupsLaws.{basisSum, basesSum, groups-share, bases-rising}
-use Rattle.semilinear.proofs.GroupOfLaws.{Fresh, group-of}
-use Rattle.semilinear.proofs.ExtendsLaws.{Extends, extends-trans, grown-extends, settled-extends, ungrouped-extends}
+use Rattle.group.proofs.SettleLaws.{settled}
+use Rattle.group.proofs.BasesLaws.{risingFrom, risen}
+use Rattle.group.proofs.GroupsLaws.{basisSum, basesSum, groups-share, bases-rising}
+use Rattle.group.proofs.GroupOfLaws.{Fresh, group-of}
+use Rattle.group.proofs.ExtendsLaws.{Extends, extends-trans, grown-extends, settled-extends, ungrouped-extends}
 use Rattle.structure_recovery.specs.RecoverStructure.{Recovery, recoverGroup, recoverAll, recoverForm}
 use Rattle.structure_recovery.proofs.HeldLaws.{Held, Kept, owedSum, kept-start}
 use Rattle.structure_recovery.proofs.RecoverGroupLaws.{recover-group-keeps}

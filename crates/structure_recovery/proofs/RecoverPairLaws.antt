@@ -23,13 +23,13 @@ use Rattle.expr.specs.Utils.{hasKind, hasArith}
 use Rattle.expr.specs.Value.{value, binary}
 use Rattle.expr.proofs.IsExprLaws.{expr-of-constant}
 use Rattle.expr.proofs.ValueLaws.{value-lt}
-use Rattle.semilinear.specs.declared.group.Group.{Group}
+use Rattle.group.specs.declared.Group.{Group}
 use Rattle.semilinear.specs.Form.{Row, rowsOk}
-use Rattle.semilinear.specs.Group.{Entry, at, isLive, consumed, createRow}
+use Rattle.group.specs.Group.{Entry, at, isLive, consumed, createRow}
 use Rattle.semilinear.proofs.AtomLaws.{Atom, atom-tree, sides-atom}
-use Rattle.semilinear.proofs.TotalLaws.{live-mark, live-consumed}
-use Rattle.semilinear.proofs.WorkLaws.{rowValue, Grown, grown-create, length-create, row-value-create}
-use Rattle.semilinear.proofs.SettleLaws.{owed, owed-live, owed-consumed}
+use Rattle.group.proofs.TotalLaws.{live-mark, live-consumed}
+use Rattle.group.proofs.WorkLaws.{rowValue, Grown, grown-create, length-create, row-value-create}
+use Rattle.group.proofs.SettleLaws.{owed, owed-live, owed-consumed}
 use Rattle.structure_recovery.specs.RecoverStructure.{Recovery, rowWith, withBare, recoverXor, eliminateMask}
 use Rattle.structure_recovery.proofs.BareLaws.{with-bare}
 use Rattle.structure_recovery.proofs.HeldLaws.{Held, Kept, held-grown, kept-two}

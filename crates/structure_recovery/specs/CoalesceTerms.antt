@@ -9,11 +9,11 @@ use Rattle.arith.specs.Bit.{bitAt}
 use Rattle.arith.specs.Width.{modAdd}
 use Rattle.record.specs.Choice.{when}
 use Rattle.record.specs.Tree.{Tree}
-use Rattle.semilinear.specs.declared.group.Group.{Group}
+use Rattle.group.specs.declared.Group.{Group}
 use Rattle.semilinear.specs.Form.{Row, Form}
-use Rattle.semilinear.specs.Loop.{forIn}
-use Rattle.semilinear.specs.Group.{at, emptyGroup, createMasked, addCoeff}
-use Rattle.semilinear.specs.Group.{variableBasis, basesOf, groupOf, ungrouped, settle}
+use Rattle.record.specs.Loop.{forIn}
+use Rattle.group.specs.Group.{at, emptyGroup, createMasked, addCoeff}
+use Rattle.group.specs.Group.{variableBasis, basesOf, groupOf, ungrouped, settle}
 use Rattle.semilinear.specs.Outcome.{Outcome}
 use Rattle.semilinear.specs.Compact.{passOutcome, limitOutcome}
 use Rattle.structure_recovery.specs.RecoverStructure.{rowWith, withBare}

@@ -15,7 +15,7 @@ use Rattle.expr.specs.Vars.{nextVar, support}
 use Rattle.expr.specs.Value.{value}
 use Rattle.semilinear.specs.Form.{Row, Form}
 use Rattle.semilinear.specs.Decompose.{Decomposed, opaque, masked, decomposeAtom}
-use Rattle.semilinear.specs.Group.{variableBasis, maskedTree}
+use Rattle.group.specs.Group.{variableBasis, maskedTree}
 use Rattle.semilinear.specs.Outcome.{Outcome}
 use Rattle.semilinear.specs.Compact.{passOutcome, limitOutcome}
 

@@ -10,11 +10,11 @@ use Rattle.arith.specs.Width.{modAdd, modSub, modMul}
 use Rattle.record.specs.Choice.{when}
 use Rattle.record.specs.Tree.{Tree}
 use Rattle.record.specs.Tree.Tree.{Constant, Binary}
-use Rattle.semilinear.specs.declared.group.Group.{Group}
+use Rattle.group.specs.declared.Group.{Group}
 use Rattle.semilinear.specs.Form.{Row, Form, eqTree}
-use Rattle.semilinear.specs.Loop.{forIn, firstIn}
-use Rattle.semilinear.specs.Group.{Entry, at, putEntry, consumed, emptyGroup, createRow}
-use Rattle.semilinear.specs.Group.{anyBasis, basesOf, groupOf, ungrouped, settle}
+use Rattle.record.specs.Loop.{forIn, firstIn}
+use Rattle.group.specs.Group.{Entry, at, putEntry, consumed, emptyGroup, createRow}
+use Rattle.group.specs.Group.{anyBasis, basesOf, groupOf, ungrouped, settle}
 use Rattle.semilinear.specs.Outcome.{Outcome}
 use Rattle.semilinear.specs.Compact.{passOutcome, limitOutcome}
 

@@ -1,110 +1,33 @@
--- Laws of specs/Collapse.antt: what the search has found, and that the collapse keeps what `Kept` says.
+-- Laws of the three-term collapse (group/specs/Collapse.antt): it keeps what `Kept` says.
 use mathlib.Core.Path.{_≡_, refl, ap₂, subst, _∙_}
-use mathlib.Core.Logic.{_≢_}
 use Prim.Native.Nat.{ℕ, _+_, _*_, _^_, _≤_, _<_}
 use native.Mathlib.Omega.{arith}
 use native.Mathlib.Nat.{add-zero}
 use mathlib.Core.List.{List}
-use mathlib.Core.Bool.{true, not}
+use mathlib.Core.Bool.{true}
 use lib.ListN.{length}
 use lib.Bits.{bitAnd, bitOr, or-lt}
-use lib.Dec.{eqb, ltb}
-use borrow.Author.Tests.{eqb-true, eqb-false, ltb-true, not-true}
+use lib.Dec.{ltb}
+use borrow.Author.Tests.{ltb-true}
 use Rattle.arith.specs.Congruence.{Eqm}
 use Rattle.arith.specs.Width.{modAdd}
 use Rattle.arith.proofs.CongruenceLaws.{eqm-of-eq, eqm-sym, eqm-trans}
 use Rattle.arith.proofs.MaskLaws.{terms-collapse}
 use Rattle.arith.proofs.WidthLaws.{mod-add-eqm}
 use Rattle.record.specs.Tree.{Tree}
-use Rattle.record.proofs.SizedLaws.{and-true}
 use Rattle.expr.specs.Value.{value}
-use Rattle.semilinear.specs.declared.group.Group.{Group}
+use Rattle.group.specs.declared.Group.{Group}
 use Rattle.semilinear.specs.Form.{Row, isAtomTree}
-use Rattle.semilinear.specs.Group.{Entry, at, isLive, consumed, Work, createMasked}
-use Rattle.semilinear.proofs.TotalLaws.{worth, worth-live, worth-consumed, live-mark}
-use Rattle.semilinear.proofs.WorkLaws.{grown-trans, length-masked}
-use Rattle.semilinear.proofs.SearchLaws.{first-from, first-true}
-use Rattle.semilinear.proofs.SearchLaws.{when-both}
-use Rattle.term_refiner.specs.Steps.{remasked}
-use Rattle.term_refiner.specs.Collapse.{thirdFits, findThird, secondFits, findSecond, firstFits, findFirst}
-use Rattle.term_refiner.specs.Collapse.{collapseAt, threeTermCollapse}
+use Rattle.group.specs.Group.{Entry, at, isLive, consumed, Work, createMasked}
+use Rattle.group.proofs.TotalLaws.{worth, worth-live, worth-consumed, live-mark}
+use Rattle.group.proofs.CollapseLaws.{Collapsible, found-collapsible}
+use Rattle.group.proofs.WorkLaws.{grown-trans, length-masked}
+use Rattle.record.proofs.LoopLaws.{when-both}
+use Rattle.group.specs.Steps.{remasked}
+use Rattle.group.specs.Collapse.{findFirst}
+use Rattle.group.specs.Collapse.{collapseAt, threeTermCollapse}
 use Rattle.term_refiner.proofs.KeptLaws.{Fits, Kept, fits-grown, fits-fresh, kept-three}
 use Rattle.term_refiner.proofs.StepsLaws.{consumed-any, grown-mask, live-fits}
-
--- ---- the search
-
--- three live entries: the third meets neither of the others, and its coefficient is their sum
-pub record Three (w : ℕ) (g : Group) (i j k : ℕ) : Type 0 where
-  pub i-lt : i < g .len
-  pub j-lt : j < g .len
-  pub k-lt : k < g .len
-  pub j-not-i : j ≢ i
-  pub k-not-i : k ≢ i
-  pub k-not-j : k ≢ j
-  pub live-i : isLive (at g i) ≡ true
-  pub live-j : isLive (at g j) ≡ true
-  pub live-k : isLive (at g k) ≡ true
-  pub sum : at g k .coeff ≡ modAdd (at g i .coeff) (at g j .coeff) w
-  pub apart-i : bitAnd (at g i .mask) (at g k .mask) ≡ 0
-  pub apart-j : bitAnd (at g j .mask) (at g k .mask) ≡ 0
-
-module _ (w : ℕ) (g : Group) where
-  three-of-tests : (i j k : ℕ) → i < j → i < g .len → j < g .len → k < g .len → isLive (at g i) ≡ true
-      → isLive (at g j) ≡ true → thirdFits w g i j k ≡ true → Three w g i j k
-  unfolding thirdFits
-  three-of-tests i j k l li lj lk live-i live-j t =
-      let p = and-true (not (eqb k i)) _ t in
-      let q = and-true (not (eqb k j)) _ (p .1) in
-      let r = and-true (isLive (at g k)) _ (q .1) in
-      let s = and-true (eqb (at g k .coeff) (modAdd (at g i .coeff) (at g j .coeff) w)) _ (r .1) in
-      let u = and-true (eqb (bitAnd (at g i .mask) (at g k .mask)) 0) _ (s .1) in
-      record {
-        i-lt = li;
-        j-lt = lj;
-        k-lt = lk;
-        j-not-i = λ (z : j ≡ i). omega arith;
-        k-not-i = eqb-false k i (not-true (eqb k i) (p .0));
-        k-not-j = eqb-false k j (not-true (eqb k j) (q .0));
-        live-i = live-i;
-        live-j = live-j;
-        live-k = r .0;
-        sum = eqb-true _ _ (s .0);
-        apart-i = eqb-true _ _ (u .0);
-        apart-j = eqb-true _ _ (u .1);
-      }
-
-  first-parts : findFirst w g < g .len
-      → (isLive (at g (findFirst w g)) ≡ true) × (ltb (findSecond w g (findFirst w g)) (g .len) ≡ true)
-  unfolding findFirst firstFits
-  first-parts l = and-true _ _ (first-true (firstFits w g) 0 (g .len) l)
-
-  second-parts : (i : ℕ) → findSecond w g i < g .len
-      → (isLive (at g (findSecond w g i)) ≡ true) × (ltb (findThird w g i (findSecond w g i)) (g .len) ≡ true)
-  unfolding findSecond secondFits
-  second-parts i l = and-true _ _ (first-true (secondFits w g i) (i + 1) (g .len) l)
-
-  second-after : (i : ℕ) → i + 1 ≤ findSecond w g i
-  unfolding findSecond
-  second-after i = first-from (secondFits w g i) (i + 1) (g .len)
-
-  third-fits : (i j : ℕ) → findThird w g i j < g .len → thirdFits w g i j (findThird w g i j) ≡ true
-  unfolding findThird
-  third-fits i j l = first-true (thirdFits w g i j) 0 (g .len) l
-
-  pub found-three : findFirst w g < g .len
-      → Three w g (findFirst w g) (findSecond w g (findFirst w g))
-      (findThird w g (findFirst w g) (findSecond w g (findFirst w g)))
-  found-three l =
-      let i = findFirst w g in
-      let j = findSecond w g i in
-      let k = findThird w g i j in
-      let p = first-parts l in
-      let lj : j < g .len = ltb-true j (g .len) (p .1) in
-      let q = second-parts i lj in
-      let lk : k < g .len = ltb-true k (g .len) (q .1) in
-      three-of-tests i j k (omega (arith, second-after i)) l lj lk (p .0) (q .0) (third-fits i j lk)
-
--- ---- the collapse
 
 module _ (w : ℕ) (hw : w ≤ 64) (vars : List ℕ) (b : Tree) (hb : isAtomTree b ≡ true) (g0 : Group)
     (rows0 : List Row) where
@@ -137,7 +60,7 @@ module _ (w : ℕ) (hw : w ≤ 64) (vars : List ℕ) (b : Tree) (hb : isAtomTree
       (terms-collapse (2 ^ w) v (c .mask) (d .mask) (e .mask) (c .coeff) (d .coeff) (e .coeff) hc hd
       (eqm-trans (eqm-of-eq sum) (mod-add-eqm (c .coeff) (d .coeff) w hw)))))
 
-  collapse-keeps : (i j k : ℕ) (x : Work) → Three w (x .group) i j k → Kept w vars b g0 rows0 x
+  collapse-keeps : (i j k : ℕ) (x : Work) → Collapsible w (x .group) i j k → Kept w vars b g0 rows0 x
       → Kept w vars b g0 rows0 (collapseAt w b i j k x)
   unfolding collapseAt remasked
   collapse-keeps i j k x t h =
@@ -176,5 +99,5 @@ module _ (w : ℕ) (hw : w ≤ 64) (vars : List ℕ) (b : Tree) (hb : isAtomTree
   three-term-keeps x h =
       let i = findFirst w (x .group) in
       when-both (λ (y : Work). Kept w vars b g0 rows0 y) (ltb i (x .group .len)) _ x
-      (λ t. collapse-keeps _ _ _ x (found-three w (x .group) (ltb-true i (x .group .len) t)) h)
+      (λ t. collapse-keeps _ _ _ x (found-collapsible w (x .group) (ltb-true i (x .group .len) t)) h)
       (λ t. h)

@@ -13,12 +13,12 @@ use Rattle.arith.specs.Congruence.{Eqm}
 use Rattle.arith.proofs.CongruenceLaws.{eqm-refl, eqm-trans}
 use Rattle.record.specs.Tree.{Tree}
 use Rattle.expr.specs.Value.{value}
-use Rattle.semilinear.specs.declared.group.Group.{Group}
+use Rattle.group.specs.declared.Group.{Group}
 use Rattle.semilinear.specs.Form.{Row, sumRows, rowsOk}
-use Rattle.semilinear.specs.Group.{Entry, at, putEntry, isLive, Work, work, createMasked}
-use Rattle.semilinear.proofs.EntryLaws.{Sized, sized-put, at-put, at-put-other}
-use Rattle.semilinear.proofs.TotalLaws.{worth, total, len-put, sum-one, sum-two, sum-three}
-use Rattle.semilinear.proofs.WorkLaws.{rowValue, Grown, grown-refl, grown-trans, length-masked, row-value-masked}
+use Rattle.group.specs.Group.{Entry, at, putEntry, isLive, Work, work, createMasked}
+use Rattle.group.proofs.EntryLaws.{Sized, sized-put, at-put, at-put-other}
+use Rattle.group.proofs.TotalLaws.{worth, total, len-put, sum-one, sum-two, sum-three}
+use Rattle.group.proofs.WorkLaws.{rowValue, Grown, grown-refl, grown-trans, length-masked, row-value-masked}
 
 -- ---- the atoms of entries
 

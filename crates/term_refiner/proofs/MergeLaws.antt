@@ -17,15 +17,14 @@ use Rattle.arith.proofs.EffectiveLaws.{coefficient-sound}
 use Rattle.record.specs.Tree.{Tree}
 use Rattle.record.proofs.SizedLaws.{false-true, and-true}
 use Rattle.expr.specs.Value.{value}
-use Rattle.semilinear.specs.declared.group.Group.{Group}
+use Rattle.group.specs.declared.Group.{Group}
 use Rattle.semilinear.specs.Form.{Row, isAtomTree}
-use Rattle.semilinear.specs.Loop.{forIn, firstIn}
-use Rattle.semilinear.specs.Group.{Entry, at, isLive, Work}
-use Rattle.semilinear.proofs.EntryLaws.{for-keeps}
-use Rattle.semilinear.proofs.SearchLaws.{first-true}
-use Rattle.semilinear.proofs.SearchLaws.{when-both}
-use Rattle.term_refiner.specs.Steps.{joinAt, slotFits, placeAt, leastCoeff, Sweep, sweepTurn, bucketMerge}
-use Rattle.term_refiner.specs.Steps.{pairAt, pairMerge}
+use Rattle.record.specs.Loop.{forIn, firstIn}
+use Rattle.group.specs.Group.{Entry, at, isLive, Work}
+use Rattle.record.proofs.LoopLaws.{first-true, for-keeps}
+use Rattle.record.proofs.LoopLaws.{when-both}
+use Rattle.group.specs.Steps.{joinAt, slotFits, placeAt, leastCoeff, Sweep, sweepTurn, bucketMerge}
+use Rattle.group.specs.Steps.{pairAt, pairMerge}
 use Rattle.term_refiner.proofs.KeptLaws.{Kept}
 use Rattle.term_refiner.proofs.StepsLaws.{CanJoin, live-fits, join-keeps}
 

@@ -11,18 +11,18 @@ use Rattle.arith.proofs.CongruenceLaws.{eqm-of-eq, eqm-refl, eqm-trans, eqm-add
 use Rattle.record.specs.Tree.{Tree}
 use Rattle.expr.specs.Hash.{structuralHash}
 use Rattle.expr.specs.Value.{value}
-use Rattle.semilinear.specs.declared.group.Group.{Group}
+use Rattle.group.specs.declared.Group.{Group}
 use Rattle.semilinear.specs.Form.{Row, Form, isAtomTree, sumRows, formValue, rowsOk, fitsTable, validForm}
-use Rattle.semilinear.specs.Group.{Entry, Work, work, at, isLive, emptyGroup, anyBasis, basesOf, groupOf, ungrouped}
-use Rattle.semilinear.specs.Group.{settle}
+use Rattle.group.specs.Group.{Entry, Work, work, at, isLive, emptyGroup, anyBasis, basesOf, groupOf, ungrouped}
+use Rattle.group.specs.Group.{settle}
 use Rattle.semilinear.proofs.FormLaws.{form-parts}
 use Rattle.semilinear.proofs.AtomLaws.{atom-tree, tree-atom}
-use Rattle.semilinear.proofs.TotalLaws.{sumTo, sum-ext, worth, worth-live, worth-dead, total}
-use Rattle.semilinear.proofs.BasesLaws.{risingFrom, risen}
-use Rattle.semilinear.proofs.GroupsLaws.{basisSum, basesSum, groups-share, bases-rising}
-use Rattle.semilinear.proofs.GroupOfLaws.{Fresh, group-of}
-use Rattle.semilinear.proofs.SettleLaws.{owed, owed-live, owed-consumed, settled}
-use Rattle.semilinear.proofs.ExtendsLaws.{Extends, extends-trans, grown-extends, settled-extends, ungrouped-extends}
+use Rattle.group.proofs.TotalLaws.{sumTo, sum-ext, worth, worth-live, worth-dead, total}
+use Rattle.group.proofs.BasesLaws.{risingFrom, risen}
+use Rattle.group.proofs.GroupsLaws.{basisSum, basesSum, groups-share, bases-rising}
+use Rattle.group.proofs.GroupOfLaws.{Fresh, group-of}
+use Rattle.group.proofs.SettleLaws.{owed, owed-live, owed-consumed, settled}
+use Rattle.group.proofs.ExtendsLaws.{Extends, extends-trans, grown-extends, settled-extends, ungrouped-extends}
 use Rattle.term_refiner.specs.RefineTerms.{refineGroup, refineAll, refineForm}
 use Rattle.term_refiner.proofs.KeptLaws.{Fits, AllFit, kept-start}
 use Rattle.term_refiner.proofs.RefineLaws.{refine-keeps}

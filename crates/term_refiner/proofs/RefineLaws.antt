@@ -5,10 +5,10 @@ use Prim.Native.Nat.{ℕ, _≤_}
 use mathlib.Core.List.{List}
 use mathlib.Core.Bool.{true}
 use Rattle.record.specs.Tree.{Tree}
-use Rattle.semilinear.specs.declared.group.Group.{Group}
+use Rattle.group.specs.declared.Group.{Group}
 use Rattle.semilinear.specs.Form.{Row, isAtomTree}
-use Rattle.semilinear.specs.Group.{Work, work}
-use Rattle.term_refiner.specs.Steps.{cutMasks, dropZero, bucketMerge, pairMerge, toMinusOne}
+use Rattle.group.specs.Group.{Work, work}
+use Rattle.group.specs.Steps.{cutMasks, dropZero, bucketMerge, pairMerge, toMinusOne}
 use Rattle.term_refiner.specs.RefineTerms.{refineGroup}
 use Rattle.term_refiner.proofs.KeptLaws.{Kept}
 use Rattle.term_refiner.proofs.StepsLaws.{cut-masks-keep, drop-zero-keeps, minus-one-keeps}

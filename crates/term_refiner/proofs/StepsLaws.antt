@@ -18,14 +18,13 @@ use Rattle.arith.proofs.EffectiveLaws.{reduce-eqm, coefficient-sound}
 use Rattle.record.specs.Tree.{Tree}
 use Rattle.record.proofs.SizedLaws.{false-true, and-true}
 use Rattle.expr.specs.Value.{value}
-use Rattle.semilinear.specs.declared.group.Group.{Group}
+use Rattle.group.specs.declared.Group.{Group}
 use Rattle.semilinear.specs.Form.{Row, isAtomTree}
-use Rattle.semilinear.specs.Group.{Entry, at, isLive, consumed, Work, work, createMasked}
-use Rattle.semilinear.proofs.EntryLaws.{for-keeps}
-use Rattle.semilinear.proofs.TotalLaws.{worth, worth-live, worth-consumed, live-mark, live-consumed}
-use Rattle.semilinear.proofs.WorkLaws.{Grown, grown-refl, grown-masked}
-use Rattle.semilinear.proofs.SearchLaws.{when-both}
-use Rattle.term_refiner.specs.Steps.{remasked, cutAt, cutMasks, dropAt, dropZero, joinAt, negateAt, toMinusOne}
+use Rattle.group.specs.Group.{Entry, at, isLive, consumed, Work, work, createMasked}
+use Rattle.group.proofs.TotalLaws.{worth, worth-live, worth-consumed, live-mark, live-consumed}
+use Rattle.group.proofs.WorkLaws.{Grown, grown-refl, grown-masked}
+use Rattle.record.proofs.LoopLaws.{when-both, for-keeps}
+use Rattle.group.specs.Steps.{remasked, cutAt, cutMasks, dropAt, dropZero, joinAt, negateAt, toMinusOne}
 use Rattle.term_refiner.proofs.KeptLaws.{Fits, Kept, fits-fresh, kept-one, kept-two}
 
 -- ---- entries

@@ -1,4 +1,2 @@
 -- Refining the terms of a semilinear form (document 01, "The shorter sheet"; term_refiner.rs).
-pub mod Steps
-pub mod Collapse
 pub mod RefineTerms

@@ -4,11 +4,11 @@ use mathlib.Core.List.{List, [], _∷_}
 use mathlib.Core.Bool.{false}
 use Rattle.record.specs.Tree.{Tree}
 use Rattle.semilinear.specs.Form.{Row, Form}
-use Rattle.semilinear.specs.Group.{Work, work, emptyGroup, anyBasis, basesOf, groupOf, ungrouped, settle}
+use Rattle.group.specs.Group.{Work, work, emptyGroup, anyBasis, basesOf, groupOf, ungrouped, settle}
 use Rattle.semilinear.specs.Outcome.{Outcome}
 use Rattle.semilinear.specs.Compact.{passOutcome, limitOutcome}
-use Rattle.term_refiner.specs.Steps.{cutMasks, dropZero, bucketMerge, pairMerge, toMinusOne}
-use Rattle.term_refiner.specs.Collapse.{threeTermCollapse}
+use Rattle.group.specs.Steps.{cutMasks, dropZero, bucketMerge, pairMerge, toMinusOne}
+use Rattle.group.specs.Collapse.{threeTermCollapse}
 
 -- the steps in the Rust's order; the second pair merge follows the change of coefficients (187-292)
 unfoldable pub refineGroup : ℕ → Tree → Work → Work

@@ -131,6 +131,16 @@ table-row w p vs n t b i hi h there =
     table-bit w p vs t n i hi
     ∙ bit-of-agree w p (rowBits 0 vs i) b t (λ v o. row-bits i vs b h v (there v o))
 
+-- without literals a table is the same at every width and place
+pub table-place : (w v p q : ℕ) → p < w → q < v → (vs : List ℕ) (n : ℕ) (t : Tree) → Bitwise t → hasLiteral t ≡ false
+    → table w p vs n t ≡ table v q vs n t
+table-place w v p q hp hq vs n t b e =
+    bits-below (2 ^ n) (table w p vs n t) (table v q vs n t) (table-lt w p vs t n) (table-lt v q vs t n)
+    (λ i h.
+    table-bit w p vs t n i h
+    ∙ bit-of-place w v p q hp hq (rowBits 0 vs i) t b e
+    ∙ sym (table-bit v q vs t n i h))
+
 -- ---- trees with the same table
 
 pub no-shift : (t : Tree) → hasShr t ≡ false → hasShift t ≡ false

@@ -13,15 +13,15 @@ use Rattle.arith.proofs.BitLaws.{bit-zero, bits-below}
 use Rattle.record.specs.Tree.{Tree}
 use Rattle.record.proofs.ListsLaws.{eq-of-eq-list}
 use Rattle.expr.specs.Refusal.{isExpr}
-use Rattle.expr.specs.Utils.{hasLiteral, hasArith}
+use Rattle.expr.specs.Utils.{hasArith}
 use Rattle.expr.specs.Value.{value}
 use Rattle.expr.specs.Vars.{occurs, support, sameVars}
 use Rattle.expr.proofs.IsExprLaws.{occurs-lt}
 use Rattle.truth.specs.Truth.{bitOf, rowBits, table}
 use Rattle.truth.specs.Key.{isPure}
 use Rattle.truth.proofs.BitwiseLaws.{Bitwise}
-use Rattle.truth.proofs.BitOfLaws.{bit-value, bit-of-agree, bit-of-place}
-use Rattle.truth.proofs.TruthLaws.{row-bits-lt, table-lt, table-bit, Pure, pure-parts}
+use Rattle.truth.proofs.BitOfLaws.{bit-value, bit-of-agree}
+use Rattle.truth.proofs.TruthLaws.{row-bits-lt, table-lt, table-bit, table-place, Pure, pure-parts}
 use Rattle.truth.proofs.TruthLaws.{pure-bitwise, SameTable, same-value}
 
 -- the assignment that gives the n low variables the words b
@@ -40,13 +40,11 @@ unfoldable pub rowWord : ℕ → List ℕ → ℕ → Tree → ℕ
 rowWord w vs i t = value w (wordsOf 256 (rowBits 0 vs i)) t
 
 module _ (w : ℕ) (vs : List ℕ) (hw : 1 ≤ w) where
-  row-word-bit : (t : Tree) → Bitwise t → hasLiteral t ≡ false → (i : ℕ)
-      → bitAt (rowWord w vs i t) 0 ≡ bitOf 1 0 (rowBits 0 vs i) t
+  row-word-bit : (t : Tree) → Bitwise t → (i : ℕ) → bitAt (rowWord w vs i t) 0 ≡ bitOf w 0 (rowBits 0 vs i) t
   unfolding rowWord
-  row-word-bit t b n i =
+  row-word-bit t b i =
       bit-value w 0 (omega arith) (wordsOf 256 (rowBits 0 vs i)) t b
       ∙ bit-of-agree w 0 (λ v. bitAt (getD (wordsOf 256 (rowBits 0 vs i)) v 0) 0) (rowBits 0 vs i) t same
-      ∙ bit-of-place w 1 0 0 (omega arith) (omega arith) (rowBits 0 vs i) t b n
     where
       same : (v : ℕ) → occurs v t ≡ true → bitAt (getD (wordsOf 256 (rowBits 0 vs i)) v 0) 0 ≡ rowBits 0 vs i v
       same v o =
@@ -54,17 +52,17 @@ module _ (w : ℕ) (vs : List ℕ) (hw : 1 ≤ w) where
           ∙ bit-zero (rowBits 0 vs i v)
           ∙ mod-eq-of-lt (row-bits-lt 0 vs i v)
 
-  -- equal rows of w-bit words make equal tables at width 1 and place 0
-  word-rows : (t u : Tree) → Bitwise t → Bitwise u → hasLiteral t ≡ false → hasLiteral u ≡ false → (n : ℕ)
-      → ((i : ℕ) → i < 2 ^ n → rowWord w vs i t ≡ rowWord w vs i u) → table 1 0 vs n t ≡ table 1 0 vs n u
-  word-rows t u bt bu lt lu n e =
-      bits-below (2 ^ n) (table 1 0 vs n t) (table 1 0 vs n u) (table-lt 1 0 vs t n) (table-lt 1 0 vs u n)
+  -- equal rows of w-bit words make equal tables at place 0
+  word-rows : (t u : Tree) → Bitwise t → Bitwise u → (n : ℕ)
+      → ((i : ℕ) → i < 2 ^ n → rowWord w vs i t ≡ rowWord w vs i u) → table w 0 vs n t ≡ table w 0 vs n u
+  word-rows t u bt bu n e =
+      bits-below (2 ^ n) (table w 0 vs n t) (table w 0 vs n u) (table-lt w 0 vs t n) (table-lt w 0 vs u n)
       (λ i h.
-      table-bit 1 0 vs t n i h
-      ∙ sym (row-word-bit t bt lt i)
+      table-bit w 0 vs t n i h
+      ∙ sym (row-word-bit t bt i)
       ∙ ap (λ (x : ℕ). bitAt x 0) (e i h)
-      ∙ row-word-bit u bu lu i
-      ∙ sym (table-bit 1 0 vs u n i h))
+      ∙ row-word-bit u bu i
+      ∙ sym (table-bit w 0 vs u n i h))
 
 -- the Rust's tables are equal exactly when those at width 1 and place 0 are
 pub word-tables : (w : ℕ) → 1 ≤ w → (t u : Tree) → isPure t ≡ true → isPure u ≡ true → sameVars t u ≡ true
@@ -80,11 +78,19 @@ word-tables w hw t u pt pu s et eu at au = (there, back)
     pure-r : Pure u
     pure-r = pure-parts u pu
 
+    bits-l : Bitwise t
+    bits-l = pure-bitwise t pure-l et at
+
+    bits-r : Bitwise u
+    bits-r = pure-bitwise u pure-r eu au
+
     there : ((i : ℕ) → i < 2 ^ length (support t) → rowWord w (support t) i t ≡ rowWord w (support t) i u)
         → table 1 0 (support t) (length (support t)) t ≡ table 1 0 (support t) (length (support t)) u
-    there =
-        word-rows w (support t) hw t u (pure-bitwise t pure-l et at) (pure-bitwise u pure-r eu au)
-        (pure-l .no-literal) (pure-r .no-literal) (length (support t))
+    there e =
+        let n : ℕ = length (support t) in
+        table-place 1 w 0 0 (omega arith) (omega arith) (support t) n t bits-l (pure-l .no-literal)
+        ∙ word-rows w (support t) hw t u bits-l bits-r n e
+        ∙ table-place w 1 0 0 (omega arith) (omega arith) (support t) n u bits-r (pure-r .no-literal)
 
     back : table 1 0 (support t) (length (support t)) t ≡ table 1 0 (support t) (length (support t)) u
         → (i : ℕ) → i < 2 ^ length (support t) → rowWord w (support t) i t ≡ rowWord w (support t) i u

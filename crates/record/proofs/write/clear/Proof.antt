@@ -1,11 +1,12 @@
 -- `clear` meets its contract: after i turns the first i bytes are zero and the rest is as it was.
-use mathlib.Core.Path.{_≡_, _∙_}
-use mathlib.Core.List.{List, _++_, append-nil}
-use Prim.Native.Nat.{ℕ, _≤_, _-_}
+use mathlib.Core.Path.{_≡_}
+use mathlib.Core.List.{_++_}
+use Prim.Native.Nat.{_≤_, _-_}
 use native.Mathlib.Omega.{arith}
-use lib.ListN.{length, drop, replicate, length-set, drop-of-length-le}
+use lib.ListN.{length, drop, replicate, length-set}
 use borrow.Author.Fill.{fill-more}
 use borrow.Author.Needs.{needs}
+use Rattle.record.proofs.PutLaws.{filled}
 use Rattle.record.proofs.write.clear.Statement.{statement}
 use Rattle.record.proofs.write.clear.Tie as tie
 
@@ -14,14 +15,6 @@ Inv-loop out₀ i₀ out i = (i ≤ length out₀) × (length out ≡ length out
 
 abbrev μ-loop : tie.MeasureT-loop
 μ-loop out₀ i₀ out i = length out₀ - i
-
--- where i has reached the end, all of it is zero
-filled : (d out : List ℕ) (i : ℕ) → i ≤ length d → length out ≡ length d → out ≡ replicate i 0 ++ drop i d
-    → length out ≤ i → out ≡ replicate (length d) 0
-filled d out i le len e past =
-    let at : i ≡ length d = omega arith in
-    let end : length d ≤ i = omega arith in
-    e ∙ rw (drop-of-length-le d end, append-nil, at)
 
 loop-holds : tie.Need-loop-holds Inv-loop μ-loop
 loop-holds c = search needs

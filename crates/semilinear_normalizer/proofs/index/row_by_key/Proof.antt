@@ -3,8 +3,8 @@ use Prim.Native.Nat.{_-_, _≤_}
 use mathlib.Core.Path.{_≡_, sym, _∙_}
 use native.Mathlib.Omega.{arith}
 use denote.Ref.{now}
-use Rattle.semilinear.specs.Loop.{firstIn}
-use Rattle.semilinear.proofs.SearchLaws.{first-next, first-here, first-end}
+use Rattle.record.specs.Loop.{firstIn}
+use Rattle.record.proofs.LoopLaws.{first-next, first-here, first-end}
 use Rattle.semilinear_normalizer.specs.Index.{rowByKey}
 use Rattle.semilinear_normalizer.proofs.SlotLaws.{keyAt, row-key-none, row-key-search}
 use Rattle.semilinear_normalizer.proofs.index.row_by_key.Statement.{statement}

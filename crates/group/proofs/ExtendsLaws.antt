@@ -1,0 +1,102 @@
+-- Tables that hold the rows of another, with the same trees under the same numbers, whatever the coefficients: what a
+-- pass makes of a form, group by group.
+use mathlib.Core.Path.{_≡_, refl, ap, _∙_}
+use Prim.Native.Nat.{ℕ, zero, suc, _≤_, _<_}
+use native.Mathlib.Omega.{arith}
+use lib.Pow.{pow-pos}
+use mathlib.Core.List.{List, [], _∷_}
+use mathlib.Core.Bool.{Bool, true}
+use lib.ListN.{length}
+use Rattle.record.specs.Tree.{Tree}
+use Rattle.expr.specs.Value.{value}
+use Rattle.group.specs.declared.Group.{Group}
+use Rattle.semilinear.specs.Form.{Row, rowsOk}
+use Rattle.semilinear.specs.Decompose.{Decomposed, opaque, masked}
+use Rattle.group.specs.Group.{viewRow, ungrouped}
+use Rattle.semilinear.proofs.FormLaws.{Good, good-row, rows-cons}
+use Rattle.group.proofs.WorkLaws.{rowValue, Grown}
+use Rattle.group.proofs.SettleLaws.{Settled}
+
+pub record Extends (w : ℕ) (vars : List ℕ) (before after : List Row) : Type 0 where
+  pub longer : length before ≤ length after
+  pub older : (j : ℕ) → j < length before → rowValue w vars after j ≡ rowValue w vars before j
+  pub ok : rowsOk w before ≡ true → rowsOk w after ≡ true
+
+module _ (w : ℕ) (vars : List ℕ) where
+  pub extends-trans : {l m n : List Row} → Extends w vars l m → Extends w vars m n → Extends w vars l n
+  extends-trans {l} {m} {n} p q =
+      record {
+        longer = omega (arith, p .longer, q .longer);
+        older = λ j h. q .older j (omega (arith, p .longer)) ∙ p .older j h;
+        ok = λ h. q .ok (p .ok h);
+      }
+
+  -- rows added
+  pub grown-extends : {l m : List Row} → Grown w vars l m → Extends w vars l m
+  grown-extends g = record { longer = g .longer; older = g .older; ok = g .rows-ok }
+
+  -- coefficients added
+  pub settled-extends : {le : w ≤ 64} {g : Group} {l m : List Row} {i : ℕ} → Settled w vars le g l i m
+      → Extends w vars l m
+  settled-extends {le} {g} {l} {m} s =
+      record { longer = omega (arith, s .count); older = λ j h. s .same j; ok = s .ok }
+
+-- ---- terms taken off
+
+-- a row without its term
+abbrev bare : Row → Row
+bare x = record { provenance = x .provenance; tree = x .tree; coeff = 0 }
+
+module _ (only : Tree → Bool) (w : ℕ) where
+  -- the first row is there with its term or without
+  record Head (x : Row) (l : List Row) : Type 0 where
+    first : Row
+    rest : ungrouped only w (x ∷ l) ≡ first ∷ ungrouped only w l
+    tree-same : first .tree ≡ x .tree
+    good : Good w x → Good w first
+
+  head : (x : Row) (l : List Row) → Head x l
+  unfolding ungrouped
+  head x l = go (viewRow only w x) refl
+    where
+      go : (d : Decomposed) → viewRow only w x ≡ d → Head x l
+      go opaque e = record { first = x; rest = simp e; tree-same = refl; good = λ g. g }
+      go (masked b m) e =
+          record {
+            first = bare x;
+            rest = simp e;
+            tree-same = refl;
+            good = λ g. record { known = g .known; atom = g .atom; fits = pow-pos w };
+          }
+
+  module _ (vars : List ℕ) where
+    ungrouped-value : (l : List Row) (j : ℕ) → rowValue w vars (ungrouped only w l) j ≡ rowValue w vars l j
+    unfolding rowValue ungrouped
+    ungrouped-value [] j = refl
+    ungrouped-value (x ∷ l) zero =
+        let h = head x l in
+        ap (λ (u : List Row). rowValue w vars u 0) (h .rest) ∙ ap (value w vars) (h .tree-same)
+    ungrouped-value (x ∷ l) (suc j) =
+        let h = head x l in
+        ap (λ (u : List Row). rowValue w vars u (suc j)) (h .rest) ∙ ungrouped-value l j
+
+    ungrouped-length : (l : List Row) → length (ungrouped only w l) ≡ length l
+    unfolding ungrouped
+    ungrouped-length [] = refl
+    ungrouped-length (x ∷ l) = ap suc (ungrouped-length l)
+
+    ungrouped-ok : (l : List Row) → rowsOk w l ≡ true → rowsOk w (ungrouped only w l) ≡ true
+    unfolding rowsOk ungrouped
+    ungrouped-ok [] e = refl
+    ungrouped-ok (x ∷ l) e =
+        let h = head x l in
+        let p = rows-cons w x l e in
+        ap (rowsOk w) (h .rest) ∙ simp (good-row w (h .first) (h .good (p .0)), ungrouped-ok l (p .1))
+
+    pub ungrouped-extends : (l : List Row) → Extends w vars l (ungrouped only w l)
+    ungrouped-extends l =
+        record {
+          longer = omega (arith, ungrouped-length l);
+          older = λ j h. ungrouped-value l j;
+          ok = ungrouped-ok l;
+        }

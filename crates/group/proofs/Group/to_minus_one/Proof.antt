@@ -1,0 +1,94 @@
+use mathlib.Core.Path.{_≡_, sym, _∙_}
+use mathlib.Core.Logic.{⊎-elim}
+use Prim.Native.Nat.{ℕ, _+_, _-_, _≤_, _<_}
+use native.Mathlib.Omega.{arith}
+use Rattle.record.specs.Loop.{forIn}
+use Rattle.record.proofs.LoopLaws.{for-none, for-turn, for-done}
+use Rattle.group.specs.Steps.{negateAt, toMinusOne}
+use Rattle.group.proofs.NegateLaws.{negate-at-same, negate-at-negate}
+use Rattle.group.proofs.Group.to_minus_one.Statement.{statement}
+use Rattle.group.proofs.Group.to_minus_one.Tie as tie
+use Rattle.group.proofs.Group.to_minus_one.Reads as reads
+use Rattle.group.proofs.Group.to_minus_one.Lts as lts
+use Rattle.arith.proofs.bitmask.Reads as bitmask-reads
+use Rattle.group.proofs.steps.negates.Reads as negates-reads
+
+abbrev Inv-loop : tie.InvT-loop
+Inv-loop w self₀ n minus i₀ self i = (i ≤ n) × (self ≡ forIn (negateAt w) 0 i self₀)
+
+abbrev μ-loop : tie.MeasureT-loop
+μ-loop w self₀ n minus i₀ self i = n - i
+
+bitmask-requires : tie.Need-bitmask-requires Inv-loop μ-loop
+bitmask-requires c κs = tt
+
+loop-holds : tie.Need-loop-holds Inv-loop μ-loop
+loop-holds c = (omega arith, sym (for-none _ 0 0 _ (omega arith)))
+
+element-copy-out-negates : tie.Need-element-copy-out-negates Inv-loop μ-loop
+element-copy-out-negates c = omega arith
+
+mul-negates : tie.Need-mul-negates Inv-loop μ-loop
+mul-negates c = omega arith
+
+element-copy-out-negates-2 : tie.Need-element-copy-out-negates-2 Inv-loop μ-loop
+element-copy-out-negates-2 c = omega arith
+
+mul-negates-2 : tie.Need-mul-negates-2 Inv-loop μ-loop
+mul-negates-2 c = omega arith
+
+element-copy-out-negates-3 : tie.Need-element-copy-out-negates-3 Inv-loop μ-loop
+element-copy-out-negates-3 c = omega arith
+
+negates-requires : tie.Need-negates-requires Inv-loop μ-loop
+negates-requires c κs = omega arith
+
+mul-self : tie.Need-mul-self Inv-loop μ-loop
+mul-self c = omega arith
+
+element-write-self : tie.Need-element-write-self Inv-loop μ-loop
+element-write-self c = omega arith
+
+add-i : tie.Need-add-i Inv-loop μ-loop
+add-i c = omega arith
+
+loop-less : tie.Need-loop-less Inv-loop μ-loop
+loop-less c = omega arith
+
+loop-again : tie.Need-loop-again Inv-loop μ-loop
+loop-again c =
+    let h = c .before .before .before .before .before .before .loop in
+    let w = c .before .before .before .before .before .before .before .before .args .w in
+    let test = c .before .negates .ensures in (
+      omega arith,
+      for-turn (negateAt w) (h .i) _ (h .inv .1)
+          (⊎-elim
+          (λ k. k .1 ∙ sym (negate-at-negate w (h .i) (h .self) (omega arith) (c .before .before .before .before .before .before .before .bitmask .ensures) (sym test ∙ k .0 .taken)))
+          (λ k. k .1 ∙ sym (negate-at-same w (h .i) (h .self) (sym test ∙ k .0 .left)))
+          (c .if1 .came)),
+    )
+
+returns : tie.Need-returns Inv-loop μ-loop
+unfolding toMinusOne
+returns c = for-done (negateAt (c .before .before .before .args .w)) _ (omega arith) (omega arith) (c .before .loop .inv .1)
+
+pub to-minus-one-spec : {M : Type 1} → statement M
+to-minus-one-spec =
+    tie.close
+    (tie.spec
+    Inv-loop
+    μ-loop
+    bitmask-requires
+    loop-holds
+    element-copy-out-negates
+    mul-negates
+    element-copy-out-negates-2
+    mul-negates-2
+    element-copy-out-negates-3
+    negates-requires
+    mul-self
+    element-write-self
+    add-i
+    loop-less
+    loop-again
+    returns)

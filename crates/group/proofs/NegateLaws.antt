@@ -1,0 +1,104 @@
+-- Laws of the change of coefficients to 2 ^ w - 1 (specs/Steps.antt) as the code does it.
+use mathlib.Core.Path.{_≡_, refl, ap, sym, _∙_}
+use Prim.Native.Nat.{ℕ, _-_, _^_, _≤_, _<_}
+use mathlib.Core.Bool.{Bool, true, false, not, _&&_}
+use lib.ListN.{getD, set}
+use lib.Seq.{set-getD}
+use lib.Dec.{eqb}
+use borrow.Author.Tests.{eq-eqb, ne-eqb}
+use Rattle.arith.specs.Width.{bitmask}
+use Rattle.arith.proofs.WidthLaws.{bitmask-ones}
+use Rattle.arith.specs.Effective.{canChangeCoefficientTo}
+use Rattle.record.specs.Choice.{when}
+use Rattle.group.specs.declared.Group.{Group}
+use Rattle.record.specs.Loop.{forIn}
+use Rattle.group.specs.Group.{Entry, at, putEntry, isLive}
+use Rattle.group.specs.Steps.{negateAt, toMinusOne}
+use Rattle.group.specs.Made.{negatesOf}
+use Rattle.record.proofs.LoopLaws.{when-both, for-same, for-keeps}
+
+abbrev pub negatesEntry : ℕ → Group → ℕ → Bool
+negatesEntry w g i = negatesOf (getD (g .marks) i 0) (getD (g .coeffs) i 0) (getD (g .masks) i 0) w
+
+test-negates : (w u c m : ℕ)
+    → (not (eqb u 1) && (not (eqb c (2 ^ w - 1)) && canChangeCoefficientTo c (2 ^ w - 1) m w)) ≡ negatesOf u c m w
+unfolding negatesOf
+test-negates w u c m = go (eqb u 1) (eqb c (2 ^ w - 1)) (canChangeCoefficientTo c (2 ^ w - 1) m w)
+  where
+    go : (a b t : Bool) → (not a && (not b && t)) ≡ when a (λ _. false) (λ _. when b (λ _. false) (λ _. t))
+    go true b t = refl
+    go false true t = refl
+    go false false t = refl
+
+-- the ways through `negates`
+module _ (u c m w : ℕ) where
+  pub negates-dead : u ≡ 1 → false ≡ negatesOf u c m w
+  unfolding negatesOf
+  negates-dead a = simp (eq-eqb u 1 a)
+
+  module _ (hw : w ≤ 64) (a : u ≡ 1 → ⊥) where
+    pub negates-there : c ≡ bitmask w → false ≡ negatesOf u c m w
+    unfolding negatesOf
+    negates-there e = simp (ne-eqb u 1 a, eq-eqb c (2 ^ w - 1) (e ∙ bitmask-ones w hw))
+
+    pub negates-may : {minus : ℕ} → minus ≡ bitmask w → (c ≡ minus → ⊥) → {r : Bool}
+        → r ≡ canChangeCoefficientTo c minus m w → r ≡ negatesOf u c m w
+    unfolding negatesOf
+    negates-may e d h =
+        let ones = e ∙ bitmask-ones w hw in
+        h ∙ ap (λ (x : ℕ). canChangeCoefficientTo c x m w) ones
+        ∙ sym (simp (ne-eqb u 1 a, ne-eqb c (2 ^ w - 1) (λ q. d (q ∙ sym ones))))
+
+module _ (w i : ℕ) (g : Group) where
+  entry-negates : (not (eqb (at g i .mark) 1)
+      && (not (eqb (at g i .coeff) (2 ^ w - 1)) && canChangeCoefficientTo (at g i .coeff) (2 ^ w - 1) (at g i .mask) w))
+      ≡ negatesEntry w g i
+  unfolding at
+  entry-negates = test-negates w (getD (g .marks) i 0) (getD (g .coeffs) i 0) (getD (g .masks) i 0)
+
+  pub negate-at-same : negatesEntry w g i ≡ false → negateAt w i g ≡ g
+  unfolding negateAt isLive
+  negate-at-same h = simp (entry-negates ∙ h)
+
+  -- the group with this coefficient, as the code has it
+  abbrev pub negateGroup : ℕ → Group
+  negateGroup minus =
+      record {
+        coeffs = set (g .coeffs) i minus;
+        masks = g .masks;
+        atoms = g .atoms;
+        marks = g .marks;
+        len = g .len;
+      }
+
+  -- the entry with this coefficient
+  abbrev negated : Entry
+  negated = record { coeff = 2 ^ w - 1; mask = at g i .mask; atom = at g i .atom; mark = at g i .mark }
+
+  put-negated : putEntry g i negated ≡ negateGroup (2 ^ w - 1)
+  unfolding putEntry at
+  put-negated = simp set-getD
+
+  pub negate-at-negate : w ≤ 64 → {minus : ℕ} → minus ≡ bitmask w → negatesEntry w g i ≡ true
+      → negateAt w i g ≡ negateGroup minus
+  unfolding negateAt isLive
+  negate-at-negate hw e h =
+      let done : negateAt w i g ≡ putEntry g i negated = simp (entry-negates ∙ h) in
+      done ∙ put-negated ∙ ap negateGroup (sym (e ∙ bitmask-ones w hw))
+
+pub negate-none : (w : ℕ) (g : Group) → ((i : ℕ) → i < g .len → negatesEntry w g i ≡ false) → g ≡ toMinusOne w g
+unfolding toMinusOne
+negate-none w g h = sym (for-same (negateAt w) 0 (g .len) g (λ i _ u. negate-at-same w i g (h i u)))
+
+len-negate-at : (w i : ℕ) (r : Group) → negateAt w i r .len ≡ r .len
+unfolding negateAt putEntry
+len-negate-at w i r =
+    let e = at r i in
+    when-both (λ (k : Group). k .len ≡ r .len)
+    (isLive e && (not (eqb (e .coeff) (2 ^ w - 1)) && canChangeCoefficientTo (e .coeff) (2 ^ w - 1) (e .mask) w))
+    (putEntry r i (negated w i r)) r (λ _. refl) (λ _. refl)
+
+pub len-to-minus-one : (w : ℕ) (g : Group) → toMinusOne w g .len ≡ g .len
+unfolding toMinusOne
+len-to-minus-one w g =
+    for-keeps (λ (r : Group). r .len ≡ g .len) (negateAt w) 0 (g .len) g (λ i r _ _ e. len-negate-at w i r ∙ e) refl

@@ -1,0 +1,128 @@
+-- Laws of the end of a pass (specs/Group.antt): every live entry is added to its row.
+use mathlib.Core.Path.{_≡_, refl, ap, _∙_}
+use Prim.Native.Nat.{ℕ, zero, suc, _+_, _*_, _^_, _≤_, _<_}
+use native.Mathlib.Omega.{arith}
+use mathlib.Core.List.{List, [], _∷_}
+use mathlib.Core.Bool.{Bool, true, false}
+use lib.ListN.{length}
+use Rattle.arith.specs.Congruence.{Eqm}
+use Rattle.arith.specs.Width.{modAdd}
+use Rattle.arith.proofs.CongruenceLaws.{eqm-of-eq, eqm-refl, eqm-trans, eqm-add, eqm-mul-r}
+use Rattle.arith.proofs.WidthLaws.{mod-add-eqm, mod-add-lt}
+use Rattle.record.specs.Choice.{when}
+use Rattle.record.proofs.LoopLaws.{for-ind}
+use Rattle.expr.specs.Value.{value}
+use Rattle.group.specs.declared.Group.{Group}
+use Rattle.semilinear.specs.Form.{Row, sumRows, rowsOk}
+use Rattle.group.specs.Group.{Entry, at, isLive, addCoeff, settleAt, settle}
+use Rattle.semilinear.proofs.FormLaws.{Good, good-row, rows-cons}
+use Rattle.group.proofs.TotalLaws.{sumTo}
+use Rattle.group.proofs.WorkLaws.{rowValue}
+
+pub sum-next : (f : ℕ → ℕ) (i : ℕ) → sumTo f (i + 1) ≡ sumTo f i + f i
+unfolding sumTo
+sum-next f i = ap (sumTo f) (let e : i + 1 ≡ suc i = omega arith in e)
+
+-- what an entry adds to the sum
+unfoldable pub owed : ℕ → List ℕ → List Row → Entry → ℕ
+owed w vars rows e = when (isLive e) (λ _. e .coeff * rowValue w vars rows (e .atom)) (λ _. 0)
+
+module _ (w : ℕ) (vars : List ℕ) (rows : List Row) (e : Entry) where
+  pub owed-live : isLive e ≡ true → owed w vars rows e ≡ e .coeff * rowValue w vars rows (e .atom)
+  unfolding owed
+  owed-live h = simp h
+
+  pub owed-consumed : isLive e ≡ false → owed w vars rows e ≡ 0
+  unfolding owed
+  owed-consumed h = simp h
+
+module _ (w : ℕ) (vars : List ℕ) (le : w ≤ 64) where
+  pub add-sum : (c j : ℕ) (l : List Row) → j < length l
+      → Eqm (2 ^ w) (sumRows w vars (addCoeff w c j l)) (sumRows w vars l + c * rowValue w vars l j)
+  unfolding sumRows addCoeff rowValue
+  add-sum c j [] lt = let z : ⊥ = omega (arith, lt) in absurd z
+  add-sum c zero (x ∷ l) lt =
+      let v : ℕ = value w vars (x .tree) in
+      eqm-trans (eqm-add (eqm-mul-r v (mod-add-eqm (x .coeff) c w le)) (eqm-refl (sumRows w vars l)))
+      (eqm-of-eq (omega arith))
+  add-sum c (suc j) (x ∷ l) lt =
+      eqm-trans (eqm-add (eqm-refl (x .coeff * value w vars (x .tree))) (add-sum c j l (omega (arith, lt))))
+      (eqm-of-eq (omega arith))
+
+  pub add-value : (c j : ℕ) (l : List Row) (k : ℕ) → rowValue w vars (addCoeff w c j l) k ≡ rowValue w vars l k
+  unfolding addCoeff rowValue
+  add-value c j [] k = refl
+  add-value c zero (x ∷ l) zero = refl
+  add-value c zero (x ∷ l) (suc k) = refl
+  add-value c (suc j) (x ∷ l) zero = refl
+  add-value c (suc j) (x ∷ l) (suc k) = add-value c j l k
+
+  pub add-length : (c j : ℕ) (l : List Row) → length (addCoeff w c j l) ≡ length l
+  unfolding addCoeff
+  add-length c j [] = refl
+  add-length c zero (x ∷ l) = refl
+  add-length c (suc j) (x ∷ l) = ap suc (add-length c j l)
+
+  pub add-ok : (c j : ℕ) (l : List Row) → rowsOk w l ≡ true → rowsOk w (addCoeff w c j l) ≡ true
+  unfolding addCoeff rowsOk
+  add-ok c j [] e = refl
+  add-ok c zero (x ∷ l) e =
+      let p = rows-cons w x l e in
+      let g : Good w (record { provenance = x .provenance; tree = x .tree; coeff = modAdd (x .coeff) c w }) =
+      record { known = p .0 .known; atom = p .0 .atom; fits = mod-add-lt (x .coeff) c w le } in
+      simp (good-row w _ g, p .1)
+  add-ok c (suc j) (x ∷ l) e = let p = rows-cons w x l e in simp (good-row w x (p .0), add-ok c j l (p .1))
+
+  -- ---- a group settled
+
+  -- after the first i entries
+  pub record Settled (g : Group) (rows : List Row) (i : ℕ) (t : List Row) : Type 0 where
+    pub sum : Eqm (2 ^ w) (sumRows w vars t) (sumRows w vars rows + sumTo (λ (k : ℕ). owed w vars rows (at g k)) i)
+    pub same : (k : ℕ) → rowValue w vars t k ≡ rowValue w vars rows k
+    pub count : length t ≡ length rows
+    pub ok : rowsOk w rows ≡ true → rowsOk w t ≡ true
+
+  settle-turn : (g : Group) (rows : List Row) (i : ℕ) (t : List Row)
+      → (isLive (at g i) ≡ true → at g i .atom < length rows)
+      → Settled g rows i t → Settled g rows (i + 1) (settleAt w g i t)
+  unfolding settleAt
+  settle-turn g rows i t has h = go (isLive (at g i)) refl
+    where
+      j : ℕ
+      j = at g i .atom
+
+      c : ℕ
+      c = at g i .coeff
+
+      next : sumTo (λ (k : ℕ). owed w vars rows (at g k)) (i + 1)
+          ≡ sumTo (λ (k : ℕ). owed w vars rows (at g k)) i + owed w vars rows (at g i)
+      next = sum-next (λ (k : ℕ). owed w vars rows (at g k)) i
+
+      go : (b : Bool) → isLive (at g i) ≡ b
+          → Settled g rows (i + 1) (when b (λ _. addCoeff w (at g i .coeff) (at g i .atom) t) (λ _. t))
+      go true e =
+          record {
+            sum =
+                eqm-trans (add-sum c j t (let n = has e in omega (arith, n, h .count)))
+                (eqm-trans (eqm-add (h .sum) (eqm-of-eq (ap (λ (v : ℕ). c * v) (h .same j))))
+                (eqm-of-eq (omega (arith, next, owed-live w vars rows (at g i) e))));
+            same = λ k. add-value c j t k ∙ h .same k;
+            count = add-length c j t ∙ h .count;
+            ok = λ o. add-ok c j t (h .ok o);
+          }
+      go false e =
+          record {
+            sum = eqm-trans (h .sum) (eqm-of-eq (omega (arith, next, owed-consumed w vars rows (at g i) e)));
+            same = h .same;
+            count = h .count;
+            ok = h .ok;
+          }
+
+  pub settled : (g : Group) (rows : List Row)
+      → ((i : ℕ) → i < g .len → isLive (at g i) ≡ true → at g i .atom < length rows)
+      → Settled g rows (g .len) (settle w g rows)
+  unfolding settle sumTo
+  settled g rows has =
+      for-ind (Settled g rows) (settleAt w g) 0 rows (g .len) (omega arith)
+      (λ i t a u h. settle-turn g rows i t (has i u) h)
+      (record { sum = eqm-of-eq (omega arith); same = λ k. refl; count = refl; ok = λ o. o })

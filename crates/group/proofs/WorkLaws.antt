@@ -1,0 +1,138 @@
+-- Laws of a pass's table without limits (specs/Group.antt): the value of a row's tree by the row's number, what stays
+-- where rows are added without a term, and the atoms `basis & mask`.
+use mathlib.Core.Path.{_≡_, refl, ap, sym, _∙_}
+use Prim.Native.Nat.{ℕ, zero, suc, _+_, _-_, _*_, _^_, _≤_, _<_}
+use native.Mathlib.Omega.{arith}
+use native.Mathlib.Nat.{mod-eq-of-lt}
+use native.Mathlib.Decide.{ℕ-discrete}
+use mathlib.Core.List.{List, [], _∷_, _++_}
+use mathlib.Core.Bool.{Bool, true, false}
+use lib.ListN.{length, length-append}
+use lib.Bits.{bitAnd}
+use lib.Dec.{eqb}
+use lib.Pow.{pow-pos}
+use borrow.Author.Tests.{eq-eqb, ne-eqb}
+use Rattle.arith.proofs.MaskLaws.{and-full}
+use Rattle.record.specs.Choice.{when}
+use Rattle.record.specs.Tree.{Tree}
+use Rattle.record.specs.Tree.Tree.{Constant, Binary}
+use Rattle.expr.specs.Value.{value, binary}
+use Rattle.expr.proofs.ValueLaws.{value-lt}
+use Rattle.semilinear.specs.Form.{Row, sumRows, isAtomTree, rowOk, rowsOk}
+use Rattle.group.specs.Group.{createRow, maskedTree, createMasked}
+use Rattle.semilinear.proofs.FormLaws.{good-row, rows-cons}
+use Rattle.semilinear.proofs.AtomLaws.{atom-tree, tree-atom, masked-atom}
+
+-- ---- the value of a row's tree
+
+-- of row j, 0 past the end
+unfoldable pub rowValue : ℕ → List ℕ → List Row → ℕ → ℕ
+rowValue w vars [] j = 0
+rowValue w vars (x ∷ l) zero = value w vars (x .tree)
+rowValue w vars (x ∷ l) (suc j) = rowValue w vars l j
+
+module _ (w : ℕ) (vars : List ℕ) where
+  row-value-before : (l m : List Row) (j : ℕ) → j < length l → rowValue w vars (l ++ m) j ≡ rowValue w vars l j
+  unfolding rowValue
+  row-value-before [] m j h = omega arith
+  row-value-before (x ∷ l) m zero h = refl
+  row-value-before (x ∷ l) m (suc j) h = row-value-before l m j (omega arith)
+
+  row-value-next : (l : List Row) (x : Row) → rowValue w vars (l ++ (x ∷ [])) (length l) ≡ value w vars (x .tree)
+  unfolding rowValue
+  row-value-next [] x = refl
+  row-value-next (y ∷ l) x = row-value-next l x
+
+  sum-rows-more : (l : List Row) (x : Row) → x .coeff ≡ 0 → sumRows w vars (l ++ (x ∷ [])) ≡ sumRows w vars l
+  unfolding sumRows
+  sum-rows-more [] x z = ap (λ (c : ℕ). c * value w vars (x .tree) + 0) z ∙ omega arith
+  sum-rows-more (y ∷ l) x z = ap (λ (n : ℕ). y .coeff * value w vars (y .tree) + n) (sum-rows-more l x z)
+
+rows-ok-more : (w : ℕ) (l : List Row) (x : Row) → rowOk w x ≡ true → rowsOk w l ≡ true → rowsOk w (l ++ (x ∷ [])) ≡ true
+unfolding rowsOk
+rows-ok-more w [] x h ok = simp h
+rows-ok-more w (y ∷ l) x h ok =
+    let p = rows-cons w y l ok in
+    simp (good-row w y (p .0), rows-ok-more w l x h (p .1))
+
+-- ---- rows added without a term
+
+-- after has the rows of before, perhaps others too, and the same sum
+pub record Grown (w : ℕ) (vars : List ℕ) (before after : List Row) : Type 0 where
+  pub longer : length before ≤ length after
+  pub older : (j : ℕ) → j < length before → rowValue w vars after j ≡ rowValue w vars before j
+  pub sum-same : sumRows w vars after ≡ sumRows w vars before
+  pub rows-ok : rowsOk w before ≡ true → rowsOk w after ≡ true
+
+module _ (w : ℕ) (vars : List ℕ) where
+  pub grown-refl : (l : List Row) → Grown w vars l l
+  grown-refl l = record { longer = omega arith; older = λ j h. refl; sum-same = refl; rows-ok = λ h. h }
+
+  pub grown-trans : {l m n : List Row} → Grown w vars l m → Grown w vars m n → Grown w vars l n
+  grown-trans {l} {m} {n} p q =
+      record {
+        longer = omega (arith, p .longer, q .longer);
+        older = λ j h. q .older j (omega (arith, p .longer)) ∙ p .older j h;
+        sum-same = q .sum-same ∙ p .sum-same;
+        rows-ok = λ h. q .rows-ok (p .rows-ok h);
+      }
+
+  module _ (p : ℕ) (t : Tree) (l : List Row) where
+    pub length-create : length (createRow p t l) ≡ length l + 1
+    unfolding createRow
+    length-create = length-append l (record { provenance = p; tree = t; coeff = 0 } ∷ [])
+
+    pub row-value-create : rowValue w vars (createRow p t l) (length l) ≡ value w vars t
+    unfolding createRow
+    row-value-create = row-value-next w vars l (record { provenance = p; tree = t; coeff = 0 })
+
+    pub grown-create : p ≤ 4 → isAtomTree t ≡ true → Grown w vars l (createRow p t l)
+    unfolding createRow
+    grown-create hp ht =
+        let x : Row = record { provenance = p; tree = t; coeff = 0 } in
+        record {
+          longer = omega (arith, length-create);
+          older = row-value-before w vars l (x ∷ []);
+          sum-same = sum-rows-more w vars l x refl;
+          rows-ok = rows-ok-more w l x (good-row w x (record { known = hp; atom = ht; fits = pow-pos w }));
+        }
+
+-- ---- the basis under a mask
+
+and-value : (w : ℕ) (vars : List ℕ) (b : Tree) (m : ℕ) → m < 2 ^ w
+    → value w vars (Binary 4 b (Constant m)) ≡ bitAnd (value w vars b) m
+unfolding value binary
+and-value w vars b m hm = ap (bitAnd (value w vars b)) (mod-eq-of-lt hm)
+
+pub masked-value : (w : ℕ) (vars : List ℕ) (b : Tree) (m : ℕ) → m < 2 ^ w
+    → value w vars (maskedTree w b m) ≡ bitAnd (value w vars b) m
+unfolding maskedTree
+masked-value w vars b m hm = go (ℕ-discrete m (2 ^ w - 1))
+  where
+    go : Dec (m ≡ 2 ^ w - 1) → value w vars (maskedTree w b m) ≡ bitAnd (value w vars b) m
+    go (yes e) =
+        simp (eq-eqb m (2 ^ w - 1) e)
+        (sym (ap (bitAnd (value w vars b)) e ∙ and-full w (value w vars b) (value-lt w vars b)))
+    go (no e) = simp (ne-eqb m (2 ^ w - 1) e) (and-value w vars b m hm)
+
+pub masked-tree-atom : (w : ℕ) (b : Tree) (m : ℕ) → isAtomTree b ≡ true → m < 2 ^ 64
+    → isAtomTree (maskedTree w b m) ≡ true
+unfolding maskedTree
+masked-tree-atom w b m hb hm = go (eqb m (2 ^ w - 1))
+  where
+    go : (full : Bool) → isAtomTree (when full (λ _. b) (λ _. Binary 4 b (Constant m))) ≡ true
+    go true = hb
+    go false = atom-tree (Binary 4 b (Constant m)) (masked-atom b m hm (tree-atom b hb))
+
+module _ (w : ℕ) (vars : List ℕ) (b : Tree) (m : ℕ) (l : List Row) where
+  pub length-masked : length (createMasked w b m l) ≡ length l + 1
+  unfolding createMasked
+  length-masked = length-create w vars 0 (maskedTree w b m) l
+
+  pub row-value-masked : m < 2 ^ w → rowValue w vars (createMasked w b m l) (length l) ≡ bitAnd (value w vars b) m
+  unfolding createMasked
+  row-value-masked hm = row-value-create w vars 0 (maskedTree w b m) l ∙ masked-value w vars b m hm
+
+  pub grown-masked : isAtomTree b ≡ true → m < 2 ^ 64 → Grown w vars l (createMasked w b m l)
+  unfolding createMasked
+  grown-masked hb hm = grown-create w vars 0 (maskedTree w b m) l (omega arith) (masked-tree-atom w b m hb hm)

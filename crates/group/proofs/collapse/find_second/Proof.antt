@@ -1,0 +1,111 @@
+use mathlib.Core.Path.{_≡_, refl, sym, _∙_}
+use Prim.Native.Nat.{ℕ, _+_, _-_, _≤_, _<_}
+use native.Mathlib.Omega.{arith}
+use borrow.Author.Tests.{not-true}
+use denote.Ref.{now}
+use Rattle.record.specs.Loop.{firstIn}
+use Rattle.group.specs.Collapse.{secondFits, findSecond}
+use Rattle.group.specs.Links.{lent}
+use Rattle.group.proofs.FindLaws.{two-dead, two-apart, two-end, two-found, two-next}
+use Rattle.group.proofs.collapse.find_second.Statement.{statement}
+use Rattle.group.proofs.collapse.find_second.Tie as tie
+use Rattle.group.proofs.collapse.find_second.Reads as reads
+use Rattle.group.proofs.collapse.find_second.Lts as lts
+use Rattle.group.proofs.links.any_apart.Reads as any-apart-reads
+use Rattle.group.proofs.links.put_links.Reads as put-links-reads
+use Rattle.group.proofs.links.third_for.Reads as third-for-reads
+
+abbrev Inv-loop : tie.InvT-loop
+Inv-loop coeffs masks marks n w i m none first next j₀ j =
+    (i + 1 ≤ j) × (j ≤ n)
+    × (findSecond w (lent coeffs masks marks n) i ≡ firstIn (secondFits w (lent coeffs masks marks n) i) j n)
+
+abbrev μ-loop : tie.MeasureT-loop
+μ-loop coeffs masks marks n w i m none first next j₀ j = n - j
+
+element-copy-out-if1 : tie.Need-element-copy-out-if1 Inv-loop μ-loop
+element-copy-out-if1 c = omega arith
+
+returns : tie.Need-returns Inv-loop μ-loop
+returns c = two-dead _ _ _ (c .if1 .taken)
+
+mul-m : tie.Need-mul-m Inv-loop μ-loop
+mul-m c = omega arith
+
+element-copy-out-m : tie.Need-element-copy-out-m Inv-loop μ-loop
+element-copy-out-m c = omega arith
+
+any-apart-requires : tie.Need-any-apart-requires Inv-loop μ-loop
+any-apart-requires c κs = omega arith
+
+returns-2 : tie.Need-returns-2 Inv-loop μ-loop
+returns-2 c =
+    let a = c .before .before .before .before .before .args in
+    two-apart (a .w) (lent (now (a .coeffs)) (now (a .masks)) (now (a .marks)) (a .n)) (a .i) (c .before .before .before .if1 .left) (c .before .before .before .before .before .pre .1)
+    (c .before .any-apart .ensures (not-true _ (c .if2 .taken)))
+
+cast-none : tie.Need-cast-none Inv-loop μ-loop
+cast-none c = omega arith
+
+put-links-requires : tie.Need-put-links-requires Inv-loop μ-loop
+put-links-requires c κs = (omega arith, refl, refl)
+
+add-j : tie.Need-add-j Inv-loop μ-loop
+add-j c = omega arith
+
+loop-holds : tie.Need-loop-holds Inv-loop μ-loop
+unfolding findSecond
+loop-holds c = (omega arith, omega arith, refl)
+
+third-for-requires : tie.Need-third-for-requires Inv-loop μ-loop
+third-for-requires c κs = (omega arith, omega arith, omega arith, c .before .before .before .before .put-links .ensures)
+
+returns-3 : tie.Need-returns-3 Inv-loop μ-loop
+returns-3 c =
+    let a = c .before .before .before .before .before .before .before .before .before .before .before .before .before .before .args in
+    two-found (a .w) (lent (now (a .coeffs)) (now (a .masks)) (now (a .marks)) (a .n)) (a .i) (c .before .before .before .before .before .before .before .before .before .before .before .before .if1 .left) (c .before .before .before .before .before .loop .j)
+    (c .before .before .before .before .before .loop .inv .2) (omega arith) (c .before .third-for .ensures) (c .if3 .taken)
+
+add-j-2 : tie.Need-add-j-2 Inv-loop μ-loop
+add-j-2 c = omega arith
+
+loop-less : tie.Need-loop-less Inv-loop μ-loop
+loop-less c = omega arith
+
+loop-again : tie.Need-loop-again Inv-loop μ-loop
+loop-again c =
+    let a = c .before .before .before .before .before .before .before .before .before .before .before .before .before .before .args in (
+      omega arith,
+      omega arith,
+      two-next (a .w) (lent (now (a .coeffs)) (now (a .masks)) (now (a .marks)) (a .n)) (a .i) (c .before .before .before .before .before .before .before .before .before .before .before .before .if1 .left)
+          (c .before .before .before .before .before .loop .j) (c .before .before .before .before .before .loop .inv .2) (omega arith) (c .before .third-for .ensures) (omega arith),
+    )
+
+returns-4 : tie.Need-returns-4 Inv-loop μ-loop
+returns-4 c =
+    let a = c .before .before .before .before .before .before .before .before .before .before .args in
+    two-end (a .w) (lent (now (a .coeffs)) (now (a .masks)) (now (a .marks)) (a .n)) (a .i) (c .before .before .before .before .before .before .before .before .if1 .left) (c .before .loop .j)
+    (c .before .loop .inv .2) (omega arith) (omega arith)
+
+pub find-second-spec : {M : Type 1} → statement M
+find-second-spec =
+    tie.close
+    (tie.spec
+    Inv-loop
+    μ-loop
+    element-copy-out-if1
+    returns
+    mul-m
+    element-copy-out-m
+    any-apart-requires
+    returns-2
+    cast-none
+    put-links-requires
+    add-j
+    loop-holds
+    third-for-requires
+    returns-3
+    add-j-2
+    loop-less
+    loop-again
+    returns-4)
