@@ -78,7 +78,8 @@ module _ (at : ℕ) (t : Tree) where
       unfolding firstVars
       words-few e h {m} hm =
           ap₂ (λ (y : ℕ) (l : List ℕ). at ∷ bitOr y 1 ∷ l) edges-of
-          (ap₂ (λ (y : ℕ) (l : List ℕ). y ∷ getD l 0 0 ∷ getD l 1 0 ∷ getD l 2 0 ∷ getD l 3 0 ∷ getD l 4 0 ∷ getD l 5 0 ∷ [])
+          (ap₂
+          (λ (y : ℕ) (l : List ℕ). y ∷ getD l 0 0 ∷ getD l 1 0 ∷ getD l 2 0 ∷ getD l 3 0 ∷ getD l 4 0 ∷ getD l 5 0 ∷ [])
           (hm ∙ ones-of h) hv)
           ∙ words-tabled (table-of e h)
 

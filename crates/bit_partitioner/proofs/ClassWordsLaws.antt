@@ -3,10 +3,11 @@
 use mathlib.Core.Path.{_≡_, refl, ap, sym, _∙_}
 use Prim.Native.Nat.{ℕ, suc, _+_, _-_, _*_, _%_, _^_, _≤_, _<_}
 use native.Mathlib.Omega.{arith}
+use native.Mathlib.Decide.{decLt}
 use native.Mathlib.Nat.{mul-le-mul-right, zero-add, suc-add}
 use mathlib.Core.List.{List, [], _∷_, _++_, append-assoc, append-nil}
 use mathlib.Core.Bool.{Bool, true, false}
-use lib.ListN.{length, getD, take, drop, set, replicate, length-set, List·getD-append}
+use lib.ListN.{length, getD, take, drop, set, replicate, length-append, length-set, List·getD-append}
 use lib.Seq.{getD-append-add, set-append-left}
 use lib.Bits.{bitOr}
 use lib.Pow.{shl-exact}
@@ -14,7 +15,7 @@ use Rattle.record.specs.Choice.{when}
 use Rattle.record.specs.Lists.{eqList}
 use Rattle.record.specs.Put.{padded}
 use Rattle.record.proofs.ListsLaws.{eq-list-self}
-use Rattle.semilinear.specs.Loop.{firstF}
+use Rattle.record.specs.Loop.{firstF}
 use Rattle.bit_partitioner.specs.Partition.{PartitionClass, joinClass, classWords}
 use Rattle.bit_partitioner.specs.Classes.{Each, HasWords, classNumber, hasProfile, addPlace}
 use Rattle.bit_partitioner.proofs.PartitionLaws.{classAt}
@@ -52,7 +53,8 @@ set-append-add [] ys i a = ap (λ (j : ℕ). set ys j a) (zero-add i)
 set-append-add (x ∷ xs) ys i a = rw suc-add (ap (λ (m : List ℕ). x ∷ m) (set-append-add xs ys i a))
 
 -- and one in the first list, with zeros behind
-pub add-place-padded : (at p len : ℕ) (l : List ℕ) → at < length l → addPlace at p (padded len l) ≡ padded len (addPlace at p l)
+pub add-place-padded : (at p len : ℕ) (l : List ℕ) → at < length l
+    → addPlace at p (padded len l) ≡ padded len (addPlace at p l)
 unfolding addPlace padded
 add-place-padded at p len l h =
     let v : ℕ = bitOr (getD l at 0) (2 ^ p) in
@@ -155,7 +157,17 @@ module _ (q : List ℕ) where
         go true e below = simp e
         go false e below = simp e (ap (λ (m : ℕ). m + 1) below)
 
-    -- a class is found where the one before it has another profile
+    pub number-lt : (l : List PartitionClass) → classNumber q (joinClass p q l) < length (joinClass p q l)
+    number-lt l = go (decLt (classNumber q l) (length l))
+      where
+        go : Dec (classNumber q l < length l) → classNumber q (joinClass p q l) < length (joinClass p q l)
+        go (yes h) = omega (arith, join-number l, join-old-length l h)
+        go (no h) =
+            let new : PartitionClass = record { mask = 2 ^ p; profile = q } in
+            let e = join-new l (omega (arith, number-le l)) in
+            omega (arith, join-number l, number-le l, ap length e, length-append l (new ∷ []))
+
+    -- the words of the class that is found change in the mask alone
     pub words-old : (n : ℕ) (l : List PartitionClass) → Each (HasWords n) l → classNumber q l < length l
         → classWords (joinClass p q l) ≡ addPlace (classNumber q l * (n + 1)) p (classWords l)
     unfolding Each classNumber joinClass classWords addPlace

@@ -130,7 +130,9 @@ module _ (f index : List ℕ) (edges at i : ℕ) (h : Indexing f index edges at 
         record {
           bytes = rw (← e) (bytes-drop (atomLength (drop at f)) (drop at f) (h .valid .bytes));
           width = h .valid .width;
-          ok = ap (atomsOk (h .valid .width)) (sym e) ∙ later-atoms-ok (h .valid .width) (drop at f) (h .valid .ok) front;
+          ok =
+              ap (atomsOk (h .valid .width)) (sym e)
+              ∙ later-atoms-ok (h .valid .width) (drop at f) (h .valid .ok) front;
         }
 
     module _ {words : List ℕ} (ew : words ≡ atomWords at (decode (treeSpan r))) (room : 9 * (i + 1) ≤ length index)

@@ -11,14 +11,42 @@ use borrow.Author.Tests.{eq-eqb, ne-eqb}
 use Rattle.record.specs.Lists.{eqList}
 use Rattle.record.specs.Put.{put, padded}
 use Rattle.record.proofs.PutLaws.{put-then, put-padded-at, length-put}
-use Rattle.semilinear.specs.Loop.{firstF, firstIn}
-use Rattle.semilinear.proofs.SearchLaws.{first-le}
+use Rattle.record.specs.Loop.{firstF, firstIn}
+use Rattle.record.proofs.LoopLaws.{first-le}
 use Rattle.bit_partitioner.specs.Partition.{PartitionClass, joinClass, classWords}
 use Rattle.bit_partitioner.specs.Classes.{HasWords, classNumber, hasProfile, addPlace, ClassesIn, countAfter}
 use Rattle.bit_partitioner.specs.Classes.{Joins}
 use Rattle.bit_partitioner.proofs.PartitionLaws.{classAt, each-at}
 use Rattle.bit_partitioner.proofs.ProfileLaws.{class-words-length, class-words-at, getD-padded}
-use Rattle.bit_partitioner.proofs.ClassWordsLaws.{class-inside, one-shl, length-add-place, add-place-padded, number-first, join-new, join-old-length, join-words, words-old, words-new}
+use Rattle.bit_partitioner.proofs.ClassWordsLaws.{class-inside, one-shl, length-add-place, add-place-padded}
+use Rattle.bit_partitioner.proofs.ClassWordsLaws.{number-first, join-new, join-old-length, join-words, words-old}
+use Rattle.bit_partitioner.proofs.ClassWordsLaws.{words-new}
+
+-- the words of k classes have their place
+words-length : (n : ℕ) (out : List ℕ) (k : ℕ) (l : List PartitionClass) → ClassesIn n out k l
+    → length (classWords l) ≡ k * (n + 1)
+words-length n out k l h = class-words-length n l (h .each) ∙ ap (λ (m : ℕ). m * (n + 1)) (sym (h .count))
+
+-- the place p joins class r of the words, which is that of its profile
+pub classes-old : (q out : List ℕ) (k p : ℕ) (l : List PartitionClass) → ClassesIn (length q) out k l
+    → {r : ℕ} → r ≡ classNumber q l → r < k → {after : List ℕ} → after ≡ addPlace (r * (length q + 1)) p out
+    → ClassesIn (length q) after k (joinClass p q l)
+classes-old q out k p l h {r} e old {after} ha =
+    let low : classNumber q l < length l = omega (arith, h .count) in
+    let at : ℕ = r * (length q + 1) in
+    let inside : at < length (classWords l) =
+    omega (arith, words-length (length q) out k l h, class-inside (length q) old) in
+    let long : length after ≡ length out = ap length ha ∙ length-add-place at p out in
+    record {
+      count = h .count ∙ sym (join-old-length q p l low);
+      each = join-words q p (length q) refl l (h .each);
+      words =
+          ha
+          ∙ ap (addPlace at p) (h .words)
+          ∙ add-place-padded at p (length out) (classWords l) inside
+          ∙ ap (λ (i : ℕ). padded (length out) (addPlace (i * (length q + 1)) p (classWords l))) e
+          ∙ ap₂ padded (sym long) (sym (words-old q p (length q) l (h .each) low));
+    }
 
 -- r: the class that the search finds
 module _ (q out : List ℕ) (k p : ℕ) (room : (k + 1) * (length q + 1) ≤ length out) {r : ℕ}
@@ -62,35 +90,21 @@ module _ (q out : List ℕ) (k p : ℕ) (room : (k + 1) * (length q + 1) ≤ len
         ap (hasProfile out q) e ∙ ap (λ (m : List ℕ). eqList m q) (profile-in j hj))
         ∙ zero-add (classNumber q l)
 
-    words-length : length (classWords l) ≡ k * (n + 1)
-    words-length = class-words-length n l (h .each) ∙ ap (λ (m : ℕ). m * (n + 1)) (sym (h .count))
-
   module _ (old : r < k) {after : List ℕ} (ha : after ≡ addPlace (r * (length q + 1)) p out) where
-    old-long : length after ≡ length out
-    old-long = ap length ha ∙ length-add-place (r * (length q + 1)) p out
-
     old-classes : (l : List PartitionClass) → ClassesIn (length q) out k l
         → ClassesIn (length q) after (countAfter k r) (joinClass p q l)
     unfolding countAfter
     old-classes l h =
-        let e : r ≡ classNumber q l = number-found l h in
-        let low : classNumber q l < length l = omega (arith, h .count) in
-        let at : ℕ = r * (length q + 1) in
-        let inside : at < length (classWords l) =
-        omega (arith, words-length l h, class-inside (length q) old) in
-        record {
-          count = simp (ne-eqb r k (omega arith)) (h .count ∙ sym (join-old-length q p l low));
-          each = join-words q p (length q) refl l (h .each);
-          words =
-              ha
-              ∙ ap (addPlace at p) (h .words)
-              ∙ add-place-padded at p (length out) (classWords l) inside
-              ∙ ap (λ (i : ℕ). padded (length out) (addPlace (i * (length q + 1)) p (classWords l))) e
-              ∙ ap₂ padded (sym old-long) (sym (words-old q p (length q) l (h .each) low));
-        }
+        simp (ne-eqb r k (omega arith)) (classes-old q out k p l h (number-found l h) old ha)
 
     pub joins-old : Joins p q out k after r
-    joins-old = record { class-le = found-le; long = old-long; classes = old-classes; class = number-found }
+    joins-old =
+        record {
+          class-le = found-le;
+          long = ap length ha ∙ length-add-place (r * (length q + 1)) p out;
+          classes = old-classes;
+          class = number-found;
+        }
 
   module _ (new : k ≤ r) {after : List ℕ} (hp : p < 64)
       (ha : after ≡ put (put out (r * (length q + 1)) (1 * 2 ^ p % 2 ^ 64 ∷ [])) (r * (length q + 1) + 1) q) where
@@ -122,7 +136,8 @@ module _ (q out : List ℕ) (k p : ℕ) (room : (k + 1) * (length q + 1) ≤ len
           words =
               new-put
               ∙ ap (λ (o : List ℕ). put o (k * (length q + 1)) (2 ^ p ∷ q)) (h .words)
-              ∙ put-padded-at (length out) (classWords l) (2 ^ p ∷ q) (k * (length q + 1)) (sym (words-length l h))
+              ∙ put-padded-at (length out) (classWords l) (2 ^ p ∷ q) (k * (length q + 1))
+              (sym (words-length (length q) out k l h))
               ∙ ap₂ padded (sym new-long) (sym (words-new q p l) ∙ ap classWords (sym j));
         }
 

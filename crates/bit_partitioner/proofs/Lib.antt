@@ -12,3 +12,5 @@ mod EdgesLaws
 mod AtomWordsLaws
 mod IndexLaws
 mod MoveLaws
+mod PlacesLaws
+pub mod EntryLaws

@@ -5,3 +5,4 @@ pub mod Classes
 pub mod Edges
 pub mod Index
 pub mod Profile
+pub mod Places

@@ -3,7 +3,7 @@ ghost use mathlib.Core.Path.{_≡_};
 ghost use Prim.Native.Nat.{ℕ, _+_, _*_, _<_, _≤_};
 ghost use lib.ListN.{length};
 ghost use Rattle.record.specs.Lists.{eqList};
-ghost use Rattle.semilinear.specs.Loop.{firstIn};
+ghost use Rattle.record.specs.Loop.{firstIn};
 ghost use Rattle.bit_partitioner.specs.Classes.{hasProfile, addPlace, Joins};
 
 // Whether a and b hold the same words.

@@ -28,8 +28,10 @@ fn profile_word(f: &[u8], index: &[u64], i: usize, p: u32, w: u32) -> u64
 // The profile of place p of w, made from that of the place before: the word of an atom is made anew
 // where it may have changed.
 pub fn move_profile(f: &[u8], index: &[u64], p: u32, w: u32, profile: &mut [u64])
-    requires { ⌜ Readable (now f) (now index) × (length (now profile) ≡ length (atomTrees (now f))) ⌝ }
-    ensures { λ _. ⌜ WordsMoved (now (f .entry)) w p (now (profile .entry)) (now (profile .exit)) ⌝ }
+    requires { ⌜ Readable (now f) (now index)
+        × (length (now profile) ≡ length (atomTrees (now f))) ⌝ }
+    ensures { λ _. ⌜ WordsMoved (now (f .entry)) w p (now (profile .entry))
+        (now (profile .exit)) ⌝ }
 {
     let mut i = 0;
     while i < profile.len() {

@@ -4,8 +4,8 @@ use mathlib.Core.Path.{_≡_, refl, sym, _∙_}
 use native.Mathlib.Omega.{arith}
 use lib.ListN.{length}
 use denote.Ref.{now}
-use Rattle.semilinear.specs.Loop.{firstIn}
-use Rattle.semilinear.proofs.SearchLaws.{first-next, first-here, first-end}
+use Rattle.record.specs.Loop.{firstIn}
+use Rattle.record.proofs.LoopLaws.{first-next, first-here, first-end}
 use Rattle.bit_partitioner.specs.Classes.{hasProfile}
 use Rattle.bit_partitioner.proofs.ClassWordsLaws.{class-inside, profile-read}
 use Rattle.bit_partitioner.proofs.classes.find_class.Statement.{statement}
@@ -24,19 +24,26 @@ loop-holds c = (omega arith, omega arith, refl)
 
 add-to : tie.Need-add-to Inv-loop μ-loop
 add-to c =
-    omega (arith, c .before .before .before .before .pre, class-inside (length (now (c .before .before .before .before .args .profile))) (c .loop-test .taken))
+    let at-start = c .before .before .before .before in
+    omega (arith, at-start .pre, class-inside (length (now (at-start .args .profile))) (c .loop-test .taken))
 
 mul-same-words : tie.Need-mul-same-words Inv-loop μ-loop
-mul-same-words c = omega (arith, c .before .before .before .before .pre, class-inside (length (now (c .before .before .before .before .args .profile))) (c .loop-test .taken))
+mul-same-words c =
+    let at-start = c .before .before .before .before in
+    omega (arith, at-start .pre, class-inside (length (now (at-start .args .profile))) (c .loop-test .taken))
 
 sub-same-words : tie.Need-sub-same-words Inv-loop μ-loop
 sub-same-words c = omega arith
 
 part-same-words-start : tie.Need-part-same-words-start Inv-loop μ-loop
-part-same-words-start c = omega (arith, c .before .before .before .before .pre, class-inside (length (now (c .before .before .before .before .args .profile))) (c .loop-test .taken))
+part-same-words-start c =
+    let at-start = c .before .before .before .before in
+    omega (arith, at-start .pre, class-inside (length (now (at-start .args .profile))) (c .loop-test .taken))
 
 part-same-words-end : tie.Need-part-same-words-end Inv-loop μ-loop
-part-same-words-end c = omega (arith, c .before .before .before .before .pre, class-inside (length (now (c .before .before .before .before .args .profile))) (c .loop-test .taken))
+part-same-words-end c =
+    let at-start = c .before .before .before .before in
+    omega (arith, at-start .pre, class-inside (length (now (at-start .args .profile))) (c .loop-test .taken))
 
 same-words-requires : tie.Need-same-words-requires Inv-loop μ-loop
 same-words-requires c κs = tt
@@ -55,8 +62,9 @@ returns c =
 
 add-from : tie.Need-add-from Inv-loop μ-loop
 add-from c =
-    let at-start = c .before .before .before .before .before .before .before in
-    omega (arith, at-start .pre, class-inside (length (now (at-start .args .profile))) (c .before .before .before .loop-test .taken))
+    let at-loop-test = c .before .before .before in
+    let at-start = at-loop-test .before .before .before .before in
+    omega (arith, at-start .pre, class-inside (length (now (at-start .args .profile))) (at-loop-test .loop-test .taken))
 
 add-j : tie.Need-add-j Inv-loop μ-loop
 add-j c = omega arith

@@ -12,10 +12,14 @@ use Rattle.bit_partitioner.proofs.classes.join_class.Statement.{stateme
 use Rattle.bit_partitioner.proofs.classes.join_class.Tie as tie
 
 find-class-requires : tie.Need-find-class-requires
-find-class-requires c κs = omega (arith, c .before .before .before .pre .0)
+find-class-requires c κs =
+    let at-start = c .before .before .before in
+    omega (arith, at-start .pre .0)
 
 add-at : tie.Need-add-at
-add-at c = omega (arith, c .before .before .before .before .pre .0)
+add-at c =
+    let at-start = c .before .before .before .before in
+    omega (arith, at-start .pre .0)
 
 mul-at : tie.Need-mul-at
 mul-at c =
@@ -27,77 +31,106 @@ mul-at c =
 
 add-place-requires : tie.Need-add-place-requires
 add-place-requires c κs =
-    let at-start = c .before .before .before .before .before .before in
+    let at-find-class = c .before .before in
+    let at-start = at-find-class .before .before .before .before in
     let q = now (at-start .args .profile) in
     let out = now (at-start .args .out) in
-    let room = found-room q out (at-start .args .k) (at-start .args .p) (at-start .pre .0) (c .before .before .find-class .ensures) in
+    let room =
+    found-room q out (at-start .args .k) (at-start .args .p) (at-start .pre .0) (at-find-class .find-class .ensures) in
     (omega (arith, room), at-start .pre .1)
 
 same-length : tie.Need-same-length
 same-length c =
-    let at-start = c .before .before .before .before .before .before .before .before .before in
+    let at-add-place = c .before .before in
+    let at-if1 = at-add-place .before .before in
+    let at-find-class = at-if1 .before in
+    let at-start = at-find-class .before .before .before .before in
     joins-old (now (at-start .args .profile)) (now (at-start .args .out)) (at-start .args .k) (at-start .args .p)
-    (at-start .pre .0) (c .before .before .before .before .before .find-class .ensures) (c .before .before .before .before .if1 .taken) (c .before .before .add-place .ensures) .long
+    (at-start .pre .0) (at-find-class .find-class .ensures) (at-if1 .if1 .taken)
+    (at-add-place .add-place .ensures) .long
 
 returns : tie.Need-returns
 returns c =
-    let at-start = c .before .before .before .before .before .before .before .before .before in
-    joins-old _ _ _ _ (at-start .pre .0) (c .before .before .before .before .before .find-class .ensures) (c .before .before .before .before .if1 .taken) (c .before .before .add-place .ensures)
+    let at-add-place = c .before .before in
+    let at-if1 = at-add-place .before .before in
+    let at-find-class = at-if1 .before in
+    let at-start = at-find-class .before .before .before .before in
+    joins-old _ _ _ _ (at-start .pre .0) (at-find-class .find-class .ensures) (at-if1 .if1 .taken)
+    (at-add-place .add-place .ensures)
 
 shl-t20 : tie.Need-shl-t20
-shl-t20 c = c .before .before .before .before .before .before .pre .1
+shl-t20 c =
+    let at-start = c .before .before .before .before .before .before in
+    at-start .pre .1
 
 slice-aggregate-put-words : tie.Need-slice-aggregate-put-words
 slice-aggregate-put-words c = refl
 
 put-words-requires : tie.Need-put-words-requires
 put-words-requires c κs =
-    let at-start = c .before .before .before .before .before .before .before in
+    let at-find-class = c .before .before .before in
+    let at-start = at-find-class .before .before .before .before in
     let q = now (at-start .args .profile) in
     let out = now (at-start .args .out) in
-    let room = found-room q out (at-start .args .k) (at-start .args .p) (at-start .pre .0) (c .before .before .before .find-class .ensures) in
+    let room =
+    found-room q out (at-start .args .k) (at-start .args .p) (at-start .pre .0) (at-find-class .find-class .ensures) in
     omega (arith, room)
 
 add-put-words : tie.Need-add-put-words
 add-put-words c =
-    let at-start = c .before .before .before .before .before .before .before .before .before .before .before in
+    let at-find-class = c .before .before .before .before .before .before .before in
+    let at-start = at-find-class .before .before .before .before in
     let q = now (at-start .args .profile) in
     let out = now (at-start .args .out) in
-    let room = found-room q out (at-start .args .k) (at-start .args .p) (at-start .pre .0) (c .before .before .before .before .before .before .before .find-class .ensures) in
+    let room =
+    found-room q out (at-start .args .k) (at-start .args .p) (at-start .pre .0) (at-find-class .find-class .ensures) in
     omega (arith, room)
 
 put-words-requires-2 : tie.Need-put-words-requires-2
 put-words-requires-2 c κs =
-    let at-start = c .before .before .before .before .before .before .before .before .before .before .before in
+    let at-put-words = c .before .before .before in
+    let at-find-class = at-put-words .before .before .before .before in
+    let at-start = at-find-class .before .before .before .before in
     let q = now (at-start .args .profile) in
     let out = now (at-start .args .out) in
-    let room = found-room q out (at-start .args .k) (at-start .args .p) (at-start .pre .0) (c .before .before .before .before .before .before .before .find-class .ensures) in
+    let room =
+    found-room q out (at-start .args .k) (at-start .args .p) (at-start .pre .0) (at-find-class .find-class .ensures) in
     omega (
       arith,
       room,
-      ap length (c .before .before .before .put-words .ensures),
-      length-put out (c .before .before .before .before .before .before .before .find-class .result * (length q + 1)) (1 * 2 ^ at-start .args .p % 2 ^ 64 ∷ []) (omega (arith, room)),
+      ap length (at-put-words .put-words .ensures),
+      length-put out (at-find-class .find-class .result * (length q + 1)) (1 * 2 ^ at-start .args .p % 2 ^ 64 ∷ [])
+          (omega (arith, room)),
     )
 
 same-length-2 : tie.Need-same-length-2
 same-length-2 c =
-    let at-start = c .before .before .before .before .before .before .before .before .before .before .before .before .before .before in
+    let at-put-words2 = c .before .before in
+    let at-put-words = at-put-words2 .before .before .before .before in
+    let at-if1 = at-put-words .before .before .before in
+    let at-find-class = at-if1 .before in
+    let at-start = at-find-class .before .before .before .before in
     let q = now (at-start .args .profile) in
     let out = now (at-start .args .out) in
-    let at = c .before .before .before .before .before .before .before .before .before .before .find-class .result * (length q + 1) in
-    joins-new q out (at-start .args .k) (at-start .args .p) (at-start .pre .0) (c .before .before .before .before .before .before .before .before .before .before .find-class .ensures)
-    (c .before .before .before .before .before .before .before .before .before .if1 .left) (at-start .pre .1)
-    (c .before .before .put-words2 .ensures ∙ ap (λ (o : List ℕ). put o (at + 1) q) (c .before .before .before .before .before .before .put-words .ensures)) .long
+    let at = at-find-class .find-class .result * (length q + 1) in
+    joins-new q out (at-start .args .k) (at-start .args .p) (at-start .pre .0) (at-find-class .find-class .ensures)
+    (at-if1 .if1 .left) (at-start .pre .1)
+    (at-put-words2 .put-words2 .ensures ∙ ap (λ (o : List ℕ). put o (at + 1) q)
+    (at-put-words .put-words .ensures)) .long
 
 returns-2 : tie.Need-returns-2
 returns-2 c =
-    let at-start = c .before .before .before .before .before .before .before .before .before .before .before .before .before .before in
+    let at-put-words2 = c .before .before in
+    let at-put-words = at-put-words2 .before .before .before .before in
+    let at-if1 = at-put-words .before .before .before in
+    let at-find-class = at-if1 .before in
+    let at-start = at-find-class .before .before .before .before in
     let q = now (at-start .args .profile) in
     let out = now (at-start .args .out) in
-    let at = c .before .before .before .before .before .before .before .before .before .before .find-class .result * (length q + 1) in
-    joins-new q out (at-start .args .k) (at-start .args .p) (at-start .pre .0) (c .before .before .before .before .before .before .before .before .before .before .find-class .ensures)
-    (c .before .before .before .before .before .before .before .before .before .if1 .left) (at-start .pre .1)
-    (c .before .before .put-words2 .ensures ∙ ap (λ (o : List ℕ). put o (at + 1) q) (c .before .before .before .before .before .before .put-words .ensures))
+    let at = at-find-class .find-class .result * (length q + 1) in
+    joins-new q out (at-start .args .k) (at-start .args .p) (at-start .pre .0) (at-find-class .find-class .ensures)
+    (at-if1 .if1 .left) (at-start .pre .1)
+    (at-put-words2 .put-words2 .ensures ∙ ap (λ (o : List ℕ). put o (at + 1) q) (at-put-words .put-words .ensures))
 
 pub join-class-spec : {M : Type 1} → statement M
 join-class-spec =

@@ -31,16 +31,19 @@ mul-if2-2 : tie.Need-mul-if2-2 Inv-loop μ-loop
 mul-if2-2 c = omega arith
 
 shared-slice-read-if2-2 : tie.Need-shared-slice-read-if2-2 Inv-loop μ-loop
-shared-slice-read-if2-2 c = omega (arith, c .before .before .before .before .if1 .left)
+shared-slice-read-if2-2 c =
+    let at-if1 = c .before .before .before .before in
+    omega (arith, at-if1 .if1 .left)
 
 returns-2 : tie.Need-returns-2 Inv-loop μ-loop
 returns-2 c =
     let at-loop = c .before .before .before .before in
-    let at-start = at-loop .before .before in
+    let at-if1 = at-loop .before in
+    let at-start = at-if1 .before in
     sym
     (at-loop .loop .inv .1
     ∙ eq-list-differ (now (at-start .args .a)) (now (at-start .args .b)) (at-loop .loop .i) (omega arith)
-    (omega (arith, at-loop .before .if1 .left)) (c .if2 .taken))
+    (omega (arith, at-if1 .if1 .left)) (c .if2 .taken))
 
 add-i : tie.Need-add-i Inv-loop μ-loop
 add-i c = omega arith
@@ -51,20 +54,22 @@ loop-less c = omega arith
 loop-again : tie.Need-loop-again Inv-loop μ-loop
 loop-again c =
     let at-loop = c .before .before .before .before in
-    let at-start = at-loop .before .before in (
+    let at-if1 = at-loop .before in
+    let at-start = at-if1 .before in (
       omega arith,
       at-loop .loop .inv .1
           ∙ eq-list-next (now (at-start .args .a)) (now (at-start .args .b)) (at-loop .loop .i) (omega arith)
-          (omega (arith, at-loop .before .if1 .left)) (c .if2 .left),
+          (omega (arith, at-if1 .if1 .left)) (c .if2 .left),
     )
 
 returns-3 : tie.Need-returns-3 Inv-loop μ-loop
 returns-3 c =
-    let at-start = c .before .before .before in
+    let at-if1 = c .before .before in
+    let at-start = at-if1 .before in
     sym
     (c .before .loop .inv .1
     ∙ eq-list-end (now (at-start .args .a)) (now (at-start .args .b)) (c .before .loop .i) (omega arith)
-    (omega (arith, c .before .before .if1 .left)))
+    (omega (arith, at-if1 .if1 .left)))
 
 pub same-words-spec : {M : Type 1} → statement M
 same-words-spec =

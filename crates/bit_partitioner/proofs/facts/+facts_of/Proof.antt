@@ -37,19 +37,43 @@ facts-of-below t =
     and 1 facts-of-kinds.ps (falls 1 facts-of-kinds.ps _<_ μ-facts-of t) facts-of.Pre
 
 abbrev claims : ℕ → facts-of-lts.Claims
-claims t = (root-arity-reads.Asked, root-arity-reads.Learnt, leaf-facts-reads.Asked, leaf-facts-reads.Learnt, body-reads.Asked, body-reads.Learnt, facts-of-below t, facts-of.Post, kind-reads.Asked, kind-reads.Learnt, amount-reads.Asked, amount-reads.Learnt, node-facts-reads.Asked, node-facts-reads.Learnt, left-reads.Asked, left-reads.Learnt, right-reads.Asked, right-reads.Learnt, join-facts-reads.Asked, join-facts-reads.Learnt)
+claims t = (
+  root-arity-reads.Asked,
+  root-arity-reads.Learnt,
+  leaf-facts-reads.Asked,
+  leaf-facts-reads.Learnt,
+  body-reads.Asked,
+  body-reads.Learnt,
+  facts-of-below t,
+  facts-of.Post,
+  kind-reads.Asked,
+  kind-reads.Learnt,
+  amount-reads.Asked,
+  amount-reads.Learnt,
+  node-facts-reads.Asked,
+  node-facts-reads.Learnt,
+  left-reads.Asked,
+  left-reads.Learnt,
+  right-reads.Asked,
+  right-reads.Learnt,
+  join-facts-reads.Asked,
+  join-facts-reads.Learnt,
+)
 
 facts-of-root-arity-requires : (t : ℕ) → facts-of-lts.Need-root-arity-requires (claims t) (facts-of-at t) facts-of.Post
 facts-of-root-arity-requires t c κs = sized-big _ (c .before .pre .1)
 
 facts-of-leaf-facts-requires : (t : ℕ) → facts-of-lts.Need-leaf-facts-requires (claims t) (facts-of-at t) facts-of.Post
-facts-of-leaf-facts-requires t c κs = sized-big _ (c .before .before .before .pre .1)
+facts-of-leaf-facts-requires t c κs =
+    let at-start = c .before .before .before in
+    sized-big _ (at-start .pre .1)
 
 facts-of-returns : (t : ℕ) → facts-of-lts.Need-returns (claims t) (facts-of-at t) facts-of.Post
 facts-of-returns t c =
-    let at-start = c .before .before .before .before in
+    let at-root-arity = c .before .before in
+    let at-start = at-root-arity .before .before in
     rw
-    (decode-leaf (now (at-start .args .t)) (at-start .pre .1) (c .before .before .root-arity .ensures)
+    (decode-leaf (now (at-start .args .t)) (at-start .pre .1) (at-root-arity .root-arity .ensures)
     (c .before .if1 .taken)) (c .leaf-facts .ensures)
 
 facts-of-body-requires : (t : ℕ) → facts-of-lts.Need-body-requires (claims t) (facts-of-at t) facts-of.Post
@@ -65,25 +89,34 @@ facts-of-facts-of-requires t c κs =
     (omega (arith, r .falls), r .ok)
 
 facts-of-kind-requires : (t : ℕ) → facts-of-lts.Need-kind-requires (claims t) (facts-of-at t) facts-of.Post
-facts-of-kind-requires t c κs = sized-big _ (c .before .before .before .before .before .before .pre .1)
+facts-of-kind-requires t c κs =
+    let at-start = c .before .before .before .before .before .before in
+    sized-big _ (at-start .pre .1)
 
 facts-of-amount-requires : (t : ℕ) → facts-of-lts.Need-amount-requires (claims t) (facts-of-at t) facts-of.Post
-facts-of-amount-requires t c κs = sized-big _ (c .before .before .before .before .before .before .before .pre .1)
+facts-of-amount-requires t c κs =
+    let at-start = c .before .before .before .before .before .before .before in
+    sized-big _ (at-start .pre .1)
 
 facts-of-node-facts-requires : (t : ℕ) → facts-of-lts.Need-node-facts-requires (claims t) (facts-of-at t) facts-of.Post
 facts-of-node-facts-requires t c κs = tt
 
 facts-of-returns-2 : (t : ℕ) → facts-of-lts.Need-returns-2 (claims t) (facts-of-at t) facts-of.Post
 facts-of-returns-2 t c =
-    let at-if2 = c .before .before .before .before .before in
+    let at-kind = c .before .before in
+    let at-facts-of = at-kind .before in
+    let at-body = at-facts-of .before in
+    let at-if2 = at-body .before in
     let at-root-arity = at-if2 .before .before in
     let at-start = at-root-arity .before .before in
     rw
     (decode-one (now (at-start .args .t)) (at-start .pre .1) (at-root-arity .root-arity .ensures) (at-if2 .if2 .taken)
-    (c .before .before .before .before .body .ensures))
+    (at-body .body .ensures))
     (c .node-facts .ensures
-    ∙ ap₂ (λ (k a : ℕ). nodeFacts k a (c .before .before .before .facts-of .result)) (c .before .before .kind .ensures) (c .before .amount .ensures .0)
-    ∙ ap (nodeFacts (kind (now (at-start .args .t))) (amount (now (at-start .args .t)))) (c .before .before .before .facts-of .ensures)
+    ∙ ap₂ (λ (k a : ℕ). nodeFacts k a (at-facts-of .facts-of .result)) (at-kind .kind .ensures)
+    (c .before .amount .ensures .0)
+    ∙ ap (nodeFacts (kind (now (at-start .args .t))) (amount (now (at-start .args .t))))
+    (at-facts-of .facts-of .ensures)
     ∙ facts-one _ _ _)
 
 facts-of-left-requires : (t : ℕ) → facts-of-lts.Need-left-requires (claims t) (facts-of-at t) facts-of.Post
@@ -92,9 +125,10 @@ facts-of-left-requires t c κs = tt
 facts-of-facts-of-requires-2 : (t : ℕ) → facts-of-lts.Need-facts-of-requires-2 (claims t) (facts-of-at t) facts-of.Post
 facts-of-facts-of-requires-2 t c κs =
     let at-if1 = c .before .before in
-    let at-start = at-if1 .before .before .before in
+    let at-root-arity = at-if1 .before in
+    let at-start = at-root-arity .before .before in
     let r =
-    child-left (now (at-start .args .t)) (at-start .pre .1) (at-if1 .before .root-arity .ensures) (at-if1 .if1 .left)
+    child-left (now (at-start .args .t)) (at-start .pre .1) (at-root-arity .root-arity .ensures) (at-if1 .if1 .left)
     (c .before .if2 .left) (c .left .ensures) in
     (omega (arith, r .falls), r .ok)
 
@@ -104,11 +138,12 @@ facts-of-right-requires t c κs = tt
 facts-of-facts-of-requires-3 : (t : ℕ) → facts-of-lts.Need-facts-of-requires-3 (claims t) (facts-of-at t) facts-of.Post
 facts-of-facts-of-requires-3 t c κs =
     let at-if2 = c .before .before .before in
-    let at-root-arity = at-if2 .before .before in
+    let at-if1 = at-if2 .before in
+    let at-root-arity = at-if1 .before in
     let at-start = at-root-arity .before .before in
     let r =
     child-right (now (at-start .args .t)) (at-start .pre .1) (at-root-arity .root-arity .ensures)
-    (at-if2 .before .if1 .left) (at-if2 .if2 .left) (c .right .ensures) in
+    (at-if1 .if1 .left) (at-if2 .if2 .left) (c .right .ensures) in
     (omega (arith, r .falls), r .ok)
 
 facts-of-join-facts-requires : (t : ℕ) → facts-of-lts.Need-join-facts-requires (claims t) (facts-of-at t) facts-of.Post
@@ -116,15 +151,18 @@ facts-of-join-facts-requires t c κs = tt
 
 facts-of-returns-3 : (t : ℕ) → facts-of-lts.Need-returns-3 (claims t) (facts-of-at t) facts-of.Post
 facts-of-returns-3 t c =
-    let at-if2 = c .before .before .before .before .before in
+    let at-right = c .before .before in
+    let at-facts-of2 = at-right .before in
+    let at-left = at-facts-of2 .before in
+    let at-if2 = at-left .before in
     let at-if1 = at-if2 .before in
     let at-root-arity = at-if1 .before in
     let at-start = at-root-arity .before .before in
     rw
     (decode-two (now (at-start .args .t)) (at-start .pre .1) (at-root-arity .root-arity .ensures) (at-if1 .if1 .left)
-    (at-if2 .if2 .left) (c .before .before .before .before .left .ensures) (c .before .before .right .ensures))
+    (at-if2 .if2 .left) (at-left .left .ensures) (at-right .right .ensures))
     (c .join-facts .ensures
-    ∙ ap₂ joinFacts (c .before .before .before .facts-of2 .ensures) (c .before .facts-of3 .ensures)
+    ∙ ap₂ joinFacts (at-facts-of2 .facts-of2 .ensures) (c .before .facts-of3 .ensures)
     ∙ facts-two _ _ _)
 
 pub +facts-of-spec : {M : Type 1} → statement M

@@ -12,7 +12,9 @@ literal-requires : tie.Need-literal-requires
 literal-requires c κs = search needs
 
 returns : tie.Need-returns
-returns c = facts-constant _ (c .before .before .kind .ensures) (c .before .if1 .taken) (c .literal .ensures)
+returns c =
+    let at-kind = c .before .before in
+    facts-constant _ (at-kind .kind .ensures) (c .before .if1 .taken) (c .literal .ensures)
 
 returns-2 : tie.Need-returns-2
 returns-2 c = facts-variable _ (c .before .kind .ensures) (c .if1 .left)

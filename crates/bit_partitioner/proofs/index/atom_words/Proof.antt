@@ -3,12 +3,6 @@ use Rattle.bit_partitioner.proofs.AtomWordsLaws.{words-shift, words-man
 use borrow.Author.Needs.{needs}
 use Rattle.bit_partitioner.proofs.index.atom_words.Statement.{statement}
 use Rattle.bit_partitioner.proofs.index.atom_words.Tie as tie
-use Rattle.bit_partitioner.proofs.index.atom_words.Reads as reads
-use Rattle.bit_partitioner.proofs.index.atom_words.Lts as lts
-use Rattle.arith.proofs.bitmask.Reads as bitmask-reads
-use Rattle.bit_partitioner.proofs.facts.facts_of.Reads as facts-of-reads
-use Rattle.expr.proofs.vars.collect_vars.Reads as collect-vars-reads
-use Rattle.truth.proofs.place_of.Reads as place-of-reads
 
 facts-of-requires : tie.Need-facts-of-requires
 facts-of-requires c κs = search needs
@@ -31,7 +25,8 @@ place-of-requires c κs = search needs
 returns-2 : tie.Need-returns-2
 returns-2 c =
     let at-collect-vars = c .before .before .before .before in
-    words-many _ _ (at-collect-vars .before .before .before .facts-of .ensures) (at-collect-vars .collect-vars .ensures)
+    let at-facts-of = at-collect-vars .before .before .before in
+    words-many _ _ (at-facts-of .facts-of .ensures) (at-collect-vars .collect-vars .ensures)
     (c .before .place-of .ensures) (c .if2 .taken)
 
 cast-bitmask : tie.Need-cast-bitmask
@@ -63,10 +58,13 @@ array-read-t34 c = search needs
 
 returns-3 : tie.Need-returns-3
 returns-3 c =
-    let at-collect-vars = c .before .before .before .before .before .before in
+    let at-if2 = c .before .before in
+    let at-place-of = at-if2 .before in
+    let at-collect-vars = at-place-of .before .before .before in
     let at-if1 = at-collect-vars .before .before in
-    words-few _ _ (at-if1 .before .facts-of .ensures) (at-collect-vars .collect-vars .ensures)
-    (c .before .before .before .place-of .ensures) (at-if1 .if1 .left) (c .before .before .if2 .left) (c .bitmask .ensures)
+    let at-facts-of = at-if1 .before in
+    words-few _ _ (at-facts-of .facts-of .ensures) (at-collect-vars .collect-vars .ensures)
+    (at-place-of .place-of .ensures) (at-if1 .if1 .left) (at-if2 .if2 .left) (c .bitmask .ensures)
 
 pub atom-words-spec : {M : Type 1} → statement M
 atom-words-spec =

@@ -17,14 +17,6 @@ use Rattle.bit_partitioner.proofs.IndexLaws.{trees-count, Indexing, ind
 use Rattle.bit_partitioner.proofs.IndexLaws.{here-sized, here-count, here-inside}
 use Rattle.bit_partitioner.proofs.index.put_index.Statement.{statement}
 use Rattle.bit_partitioner.proofs.index.put_index.Tie as tie
-use Rattle.bit_partitioner.proofs.index.put_index.Reads as reads
-use Rattle.bit_partitioner.proofs.index.put_index.Lts as lts
-use Rattle.bit_partitioner.proofs.index.atom_words.Reads as atom-words-reads
-use Rattle.record.proofs.write.put_words.Reads as put-words-reads
-use Rattle.semilinear.proofs.items.atom_length.Reads as atom-length-reads
-use Rattle.semilinear.proofs.items.is_atom.Reads as is-atom-reads
-use Rattle.semilinear.proofs.items.rest_from.Reads as rest-from-reads
-use Rattle.semilinear.proofs.items.tree_span.Reads as tree-span-reads
 
 abbrev Inv-loop : tie.InvT-loop
 Inv-loop f index₀ edges₀ at₀ i₀ index edges at i =
@@ -34,7 +26,9 @@ abbrev μ-loop : tie.MeasureT-loop
 μ-loop f index₀ edges₀ at₀ i₀ index edges at i = length f - at
 
 loop-holds : tie.Need-loop-holds Inv-loop μ-loop
-loop-holds c = (indexing-none (now (c .before .before .args .f)) (now (c .before .before .args .index)) (c .before .before .pre .0), refl)
+loop-holds c =
+    let at-start = c .before .before in
+    (indexing-none (now (at-start .args .f)) (now (at-start .args .index)) (at-start .pre .0), refl)
 
 rest-from-requires : tie.Need-rest-from-requires Inv-loop μ-loop
 rest-from-requires c κs = c .loop .inv .0 .inside
@@ -43,16 +37,20 @@ is-atom-requires : tie.Need-is-atom-requires Inv-loop μ-loop
 is-atom-requires c κs = tt
 
 same-length : tie.Need-same-length Inv-loop μ-loop
-same-length c = c .before .before .before .loop .inv .1
+same-length c =
+    let at-loop = c .before .before .before in
+    at-loop .loop .inv .1
 
 returns : tie.Need-returns Inv-loop μ-loop
 returns c =
-    let at-loop = c .before .before .before in
-    let at-start = c .before .before .before .before .before .before in
+    let at-rest-from = c .before .before in
+    let at-loop = at-rest-from .before in
+    let at-start = at-loop .before .before .before in
     let f = now (at-start .args .f) in
     indexing-all f (at-loop .loop .index) (at-loop .loop .edges) (at-loop .loop .at) (at-loop .loop .i)
     (at-loop .loop .inv .0)
-    (ap isAtom (sym (c .before .before .rest-from .ensures)) ∙ sym (c .before .is-atom .ensures) ∙ not-true _ (c .if1 .taken))
+    (ap isAtom (sym (at-rest-from .rest-from .ensures)) ∙ sym (c .before .is-atom .ensures) ∙ not-true _
+    (c .if1 .taken))
     (omega (arith, trees-count f, at-start .pre .1, at-loop .loop .inv .1))
 
 tree-span-requires : tie.Need-tree-span-requires Inv-loop μ-loop
@@ -60,97 +58,130 @@ tree-span-requires c κs = sym (c .before .is-atom .ensures) ∙ not-false _ (c 
 
 atom-words-requires : tie.Need-atom-words-requires Inv-loop μ-loop
 atom-words-requires c κs =
-    let at-loop = c .before .before .before .before in
+    let at-is-atom = c .before .before in
+    let at-rest-from = at-is-atom .before in
+    let at-loop = at-rest-from .before in
+    let at-start = at-loop .before .before .before in
     ap sized (c .tree-span .ensures)
-    ∙ here-sized (now (c .before .before .before .before .before .before .before .args .f)) (at-loop .loop .index) (at-loop .loop .edges) (at-loop .loop .at)
-    (at-loop .loop .i) (at-loop .loop .inv .0) _ (c .before .before .before .rest-from .ensures)
-    (sym (c .before .before .is-atom .ensures) ∙ not-false _ (c .before .if1 .left))
+    ∙ here-sized (now (at-start .args .f)) (at-loop .loop .index) (at-loop .loop .edges) (at-loop .loop .at)
+    (at-loop .loop .i) (at-loop .loop .inv .0) _ (at-rest-from .rest-from .ensures)
+    (sym (at-is-atom .is-atom .ensures) ∙ not-false _ (c .before .if1 .left))
 
 mul-put-words : tie.Need-mul-put-words Inv-loop μ-loop
 mul-put-words c =
-    let at-loop = c .before .before .before .before .before .before in
-    let at-start = c .before .before .before .before .before .before .before .before .before in
+    let at-if1 = c .before .before .before in
+    let at-is-atom = at-if1 .before in
+    let at-rest-from = at-is-atom .before in
+    let at-loop = at-rest-from .before in
+    let at-start = at-loop .before .before .before in
     let f = now (at-start .args .f) in
     let index = at-loop .loop .index in
-    let ea = sym (c .before .before .before .before .is-atom .ensures) ∙ not-false _ (c .before .before .before .if1 .left) in
+    let ea = sym (at-is-atom .is-atom .ensures) ∙ not-false _ (at-if1 .if1 .left) in
     let more =
     here-count f index (at-loop .loop .edges) (at-loop .loop .at) (at-loop .loop .i) (at-loop .loop .inv .0) _
-    (c .before .before .before .before .before .rest-from .ensures) ea in
+    (at-rest-from .rest-from .ensures) ea in
     omega (arith, more, trees-count f, at-start .pre .1)
 
 slice-aggregate-put-words : tie.Need-slice-aggregate-put-words Inv-loop μ-loop
-slice-aggregate-put-words c = sym (ap length (c .before .before .atom-words .ensures) ∙ length-words _ _)
+slice-aggregate-put-words c =
+    let at-atom-words = c .before .before in
+    sym (ap length (at-atom-words .atom-words .ensures) ∙ length-words _ _)
 
 put-words-requires : tie.Need-put-words-requires Inv-loop μ-loop
 put-words-requires c κs =
-    let at-loop = c .before .before .before .before .before .before .before in
-    let at-start = c .before .before .before .before .before .before .before .before .before .before in
+    let at-atom-words = c .before .before in
+    let at-if1 = at-atom-words .before .before in
+    let at-is-atom = at-if1 .before in
+    let at-rest-from = at-is-atom .before in
+    let at-loop = at-rest-from .before in
+    let at-start = at-loop .before .before .before in
     let f = now (at-start .args .f) in
     let index = at-loop .loop .index in
-    let ea = sym (c .before .before .before .before .before .is-atom .ensures) ∙ not-false _ (c .before .before .before .before .if1 .left) in
+    let ea = sym (at-is-atom .is-atom .ensures) ∙ not-false _ (at-if1 .if1 .left) in
     let more =
     here-count f index (at-loop .loop .edges) (at-loop .loop .at) (at-loop .loop .i) (at-loop .loop .inv .0) _
-    (c .before .before .before .before .before .before .rest-from .ensures) ea in
-    let nine = ap length (c .before .before .atom-words .ensures) ∙ length-words _ _ in
+    (at-rest-from .rest-from .ensures) ea in
+    let nine = ap length (at-atom-words .atom-words .ensures) ∙ length-words _ _ in
     omega (arith, more, nine, trees-count f, at-start .pre .1, at-loop .loop .inv .1)
 
 array-read-edges : tie.Need-array-read-edges Inv-loop μ-loop
 array-read-edges c = search needs
 
 atom-length-requires : tie.Need-atom-length-requires Inv-loop μ-loop
-atom-length-requires c κs = sym (c .before .before .before .before .before .before .before .before .is-atom .ensures) ∙ not-false _ (c .before .before .before .before .before .before .before .if1 .left)
+atom-length-requires c κs =
+    let at-if1 = c .before .before .before .before .before .before .before in
+    let at-is-atom = at-if1 .before in
+    sym (at-is-atom .is-atom .ensures) ∙ not-false _ (at-if1 .if1 .left)
 
 add-at : tie.Need-add-at Inv-loop μ-loop
 add-at c =
-    let at-loop = c .before .before .before .before .before .before .before .before .before .before .before in
-    let f = now (c .before .before .before .before .before .before .before .before .before .before .before .before .before .before .args .f) in
-    let ea = sym (c .before .before .before .before .before .before .before .before .before .is-atom .ensures) ∙ not-false _ (c .before .before .before .before .before .before .before .before .if1 .left) in
+    let at-if1 = c .before .before .before .before .before .before .before .before in
+    let at-is-atom = at-if1 .before in
+    let at-rest-from = at-is-atom .before in
+    let at-loop = at-rest-from .before in
+    let at-start = at-loop .before .before .before in
+    let f = now (at-start .args .f) in
+    let ea = sym (at-is-atom .is-atom .ensures) ∙ not-false _ (at-if1 .if1 .left) in
     let inside =
     here-inside f (at-loop .loop .index) (at-loop .loop .edges) (at-loop .loop .at) (at-loop .loop .i)
-    (at-loop .loop .inv .0) _ (c .before .before .before .before .before .before .before .before .before .before .rest-from .ensures) ea in
+    (at-loop .loop .inv .0) _ (at-rest-from .rest-from .ensures) ea in
     omega (arith, inside, c .atom-length .ensures .0)
 
 add-i : tie.Need-add-i Inv-loop μ-loop
 add-i c =
-    let at-loop = c .before .before .before .before .before .before .before .before .before .before .before in
-    let f = now (c .before .before .before .before .before .before .before .before .before .before .before .before .before .before .args .f) in
-    let ea = sym (c .before .before .before .before .before .before .before .before .before .is-atom .ensures) ∙ not-false _ (c .before .before .before .before .before .before .before .before .if1 .left) in
+    let at-if1 = c .before .before .before .before .before .before .before .before in
+    let at-is-atom = at-if1 .before in
+    let at-rest-from = at-is-atom .before in
+    let at-loop = at-rest-from .before in
+    let at-start = at-loop .before .before .before in
+    let f = now (at-start .args .f) in
+    let ea = sym (at-is-atom .is-atom .ensures) ∙ not-false _ (at-if1 .if1 .left) in
     let more =
     here-count f (at-loop .loop .index) (at-loop .loop .edges) (at-loop .loop .at) (at-loop .loop .i)
-    (at-loop .loop .inv .0) _ (c .before .before .before .before .before .before .before .before .before .before .rest-from .ensures) ea in
-    omega (arith, more, trees-count f, c .before .before .before .before .before .before .before .before .before .before .before .before .before .before .pre .1)
+    (at-loop .loop .inv .0) _ (at-rest-from .rest-from .ensures) ea in
+    omega (arith, more, trees-count f, at-start .pre .1)
 
 loop-less : tie.Need-loop-less Inv-loop μ-loop
 loop-less c =
-    let at-loop = c .before .before .before .before .before .before .before .before .before .before .before in
-    let f = now (c .before .before .before .before .before .before .before .before .before .before .before .before .before .before .args .f) in
-    let ea = sym (c .before .before .before .before .before .before .before .before .before .is-atom .ensures) ∙ not-false _ (c .before .before .before .before .before .before .before .before .if1 .left) in
+    let at-if1 = c .before .before .before .before .before .before .before .before in
+    let at-is-atom = at-if1 .before in
+    let at-rest-from = at-is-atom .before in
+    let at-loop = at-rest-from .before in
+    let at-start = at-loop .before .before .before in
+    let f = now (at-start .args .f) in
+    let ea = sym (at-is-atom .is-atom .ensures) ∙ not-false _ (at-if1 .if1 .left) in
     let inside =
     here-inside f (at-loop .loop .index) (at-loop .loop .edges) (at-loop .loop .at) (at-loop .loop .i)
-    (at-loop .loop .inv .0) _ (c .before .before .before .before .before .before .before .before .before .before .rest-from .ensures) ea in
+    (at-loop .loop .inv .0) _ (at-rest-from .rest-from .ensures) ea in
     omega (arith, inside, c .atom-length .ensures .0, c .atom-length .ensures .1)
 
 loop-again : tie.Need-loop-again Inv-loop μ-loop
 loop-again c =
-    let at-loop = c .before .before .before .before .before .before .before .before .before .before .before in
-    let at-start = c .before .before .before .before .before .before .before .before .before .before .before .before .before .before in
+    let at-put-words = c .before .before .before in
+    let at-atom-words = at-put-words .before .before .before in
+    let at-tree-span = at-atom-words .before in
+    let at-if1 = at-tree-span .before in
+    let at-is-atom = at-if1 .before in
+    let at-rest-from = at-is-atom .before in
+    let at-loop = at-rest-from .before in
+    let at-start = at-loop .before .before .before in
     let f = now (at-start .args .f) in
     let index = at-loop .loop .index in
-    let ea = sym (c .before .before .before .before .before .before .before .before .before .is-atom .ensures) ∙ not-false _ (c .before .before .before .before .before .before .before .before .if1 .left) in
-    let er = c .before .before .before .before .before .before .before .before .before .before .rest-from .ensures in
+    let ea = sym (at-is-atom .is-atom .ensures) ∙ not-false _ (at-if1 .if1 .left) in
+    let er = at-rest-from .rest-from .ensures in
     let more =
     here-count f index (at-loop .loop .edges) (at-loop .loop .at) (at-loop .loop .i) (at-loop .loop .inv .0) _ er ea in
     let ew =
-    c .before .before .before .before .before .before .atom-words .ensures
-    ∙ ap (λ (s : List ℕ). atomWords (at-loop .loop .at) (decode s)) (c .before .before .before .before .before .before .before .tree-span .ensures) in
+    at-atom-words .atom-words .ensures
+    ∙ ap (λ (s : List ℕ). atomWords (at-loop .loop .at) (decode s)) (at-tree-span .tree-span .ensures) in
     let room : 9 * (at-loop .loop .i + 1) ≤ length index =
     omega (arith, more, trees-count f, at-start .pre .1, at-loop .loop .inv .1) in
-    let nine = ap length (c .before .before .before .before .before .before .atom-words .ensures) ∙ length-words _ _ in
+    let nine = ap length (at-atom-words .atom-words .ensures) ∙ length-words _ _ in
     rw (c .atom-length .ensures .0) (
       indexing-atom f index (at-loop .loop .edges) (at-loop .loop .at) (at-loop .loop .i) (at-loop .loop .inv .0) _ er
-          ea ew room (c .before .before .before .put-words .ensures),
-      ap length (c .before .before .before .put-words .ensures)
-          ∙ length-put index (9 * at-loop .loop .i) (c .before .before .before .before .before .before .atom-words .result) (omega (arith, nine))
+          ea ew room (at-put-words .put-words .ensures),
+      ap length (at-put-words .put-words .ensures)
+          ∙ length-put index (9 * at-loop .loop .i) (at-atom-words .atom-words .result) (omega (arith, nine))
           ∙ at-loop .loop .inv .1,
     )
 

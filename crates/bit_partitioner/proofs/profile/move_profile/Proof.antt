@@ -7,14 +7,9 @@ use mathlib.Core.Path.{_≡_, refl, ap, sym, _∙_}
 use native.Mathlib.Omega.{arith}
 use lib.ListN.{length}
 use denote.Ref.{now}
-use borrow.Author.Needs.{needs}
 use Rattle.bit_partitioner.proofs.MoveLaws.{Moving, moving-none, moving-all, moving-edge, moving-still}
 use Rattle.bit_partitioner.proofs.profile.move_profile.Statement.{statement}
 use Rattle.bit_partitioner.proofs.profile.move_profile.Tie as tie
-use Rattle.bit_partitioner.proofs.profile.move_profile.Reads as reads
-use Rattle.bit_partitioner.proofs.profile.move_profile.Lts as lts
-use Rattle.arith.proofs.bit.Reads as bit-reads
-use Rattle.bit_partitioner.proofs.profile.profile_word.Reads as profile-word-reads
 
 abbrev Inv-loop : tie.InvT-loop
 Inv-loop f index p w profile₀ i₀ profile i =
@@ -27,28 +22,42 @@ loop-holds : tie.Need-loop-holds Inv-loop μ-loop
 loop-holds c = (omega arith, moving-none _ _ _ _)
 
 mul-edges : tie.Need-mul-edges Inv-loop μ-loop
-mul-edges c = omega (arith, c .before .before .before .before .before .pre .0 .room, c .before .before .before .before .before .pre .1)
+mul-edges c =
+    let at-start = c .before .before .before .before .before in
+    omega (arith, at-start .pre .0 .room, at-start .pre .1)
 
 add-edges : tie.Need-add-edges Inv-loop μ-loop
-add-edges c = omega (arith, c .before .before .before .before .before .pre .0 .room, c .before .before .before .before .before .pre .1)
+add-edges c =
+    let at-start = c .before .before .before .before .before in
+    omega (arith, at-start .pre .0 .room, at-start .pre .1)
 
 mul-edges-2 : tie.Need-mul-edges-2 Inv-loop μ-loop
-mul-edges-2 c = omega (arith, c .before .before .before .before .before .pre .0 .room, c .before .before .before .before .before .pre .1)
+mul-edges-2 c =
+    let at-start = c .before .before .before .before .before in
+    omega (arith, at-start .pre .0 .room, at-start .pre .1)
 
 shared-slice-read-edges : tie.Need-shared-slice-read-edges Inv-loop μ-loop
-shared-slice-read-edges c = omega (arith, c .before .before .before .before .before .before .pre .0 .room, c .before .before .before .before .before .before .pre .1)
+shared-slice-read-edges c =
+    let at-start = c .before .before .before .before .before .before in
+    omega (arith, at-start .pre .0 .room, at-start .pre .1)
 
 bit-requires : tie.Need-bit-requires Inv-loop μ-loop
 bit-requires c κs = tt
 
 profile-word-requires : tie.Need-profile-word-requires Inv-loop μ-loop
-profile-word-requires c κs = (c .before .before .before .before .before .before .before .before .pre .0, omega (arith, c .before .before .before .before .before .before .before .before .pre .1))
+profile-word-requires c κs =
+    let at-start = c .before .before .before .before .before .before .before .before in
+    (at-start .pre .0, omega (arith, at-start .pre .1))
 
 mul-profile : tie.Need-mul-profile Inv-loop μ-loop
-mul-profile c = omega (arith, c .before .before .before .before .before .loop .inv .1 .long)
+mul-profile c =
+    let at-loop = c .before .before .before .before .before in
+    omega (arith, at-loop .loop .inv .1 .long)
 
 slice-write-profile : tie.Need-slice-write-profile Inv-loop μ-loop
-slice-write-profile c = omega (arith, c .before .before .before .before .before .loop .inv .1 .long)
+slice-write-profile c =
+    let at-loop = c .before .before .before .before .before in
+    omega (arith, at-loop .loop .inv .1 .long)
 
 add-i : tie.Need-add-i Inv-loop μ-loop
 add-i c = omega arith
@@ -59,7 +68,7 @@ loop-less c = omega arith
 loop-again : tie.Need-loop-again Inv-loop μ-loop
 loop-again c =
     let at-loop = c .before .before .before .before in
-    let at-start = c .before .before .before .before .before .before .before .before in
+    let at-start = at-loop .before .before .before .before in
     let f = now (at-start .args .f) in
     let index = now (at-start .args .index) in
     let i = at-loop .loop .i in

@@ -12,11 +12,6 @@ use Rattle.bit_partitioner.proofs.AtomWordsLaws.{word-none, word-some, 
 use borrow.Author.Needs.{needs}
 use Rattle.bit_partitioner.proofs.profile.profile_word.Statement.{statement}
 use Rattle.bit_partitioner.proofs.profile.profile_word.Tie as tie
-use Rattle.bit_partitioner.proofs.profile.profile_word.Reads as reads
-use Rattle.bit_partitioner.proofs.profile.profile_word.Lts as lts
-use Rattle.semilinear.proofs.items.rest_from.Reads as rest-from-reads
-use Rattle.semilinear.proofs.items.tree_span.Reads as tree-span-reads
-use Rattle.truth.proofs.rows_at.Reads as rows-at-reads
 
 mul-from : tie.Need-mul-from
 mul-from c = search needs
@@ -82,32 +77,39 @@ part-rows-at-end c = search needs
 
 rows-at-requires : tie.Need-rows-at-requires
 rows-at-requires c κs =
-    let at-start = c .before .before .before .before .before .before .before .before in
+    let at-rest-from = c .before .before in
+    let at-start = at-rest-from .before .before .before .before .before .before in
     let f = now (at-start .args .f) in
     let index = now (at-start .args .index) in
     let i = at-start .args .i in
     let e = at-start .pre .0 .entry i (at-start .pre .1) in
     ap sized
     (c .before .tree-span .ensures
-    ∙ ap treeSpan (c .before .before .rest-from .ensures ∙ ap (λ (k : ℕ). drop k f) (index-start index i (e .at) _ (e .words))))
+    ∙ ap treeSpan
+    (at-rest-from .rest-from .ensures ∙ ap (λ (k : ℕ). drop k f) (index-start index i (e .at) _ (e .words))))
     ∙ e .shape
 
 returns-2 : tie.Need-returns-2
 returns-2 c =
-    let at-start = c .before .before .before .before .before .before .before .before .before in
+    let at-tree-span = c .before .before in
+    let at-rest-from = at-tree-span .before in
+    let at-if1 = at-rest-from .before .before in
+    let at-start = at-if1 .before .before .before .before in
     let f = now (at-start .args .f) in
     let index = now (at-start .args .index) in
     let i = at-start .args .i in
     let e = at-start .pre .0 .entry i (at-start .pre .1) in
     let tree =
     ap decode
-    (c .before .before .tree-span .ensures
-    ∙ ap treeSpan (c .before .before .before .rest-from .ensures ∙ ap (λ (k : ℕ). drop k f) (index-start index i (e .at) _ (e .words))))
+    (at-tree-span .tree-span .ensures
+    ∙ ap treeSpan
+    (at-rest-from .rest-from .ensures ∙ ap (λ (k : ℕ). drop k f) (index-start index i (e .at) _ (e .words))))
     ∙ e .tree in
-    word-some (e .at) _ _ _ i (index-word index i (e .at) _ (e .words) 2 (omega arith)) (c .before .before .before .before .before .if1 .left)
+    word-some (e .at) _ _ _ i (index-word index i (e .at) _ (e .words) 2 (omega arith)) (at-if1 .if1 .left)
     (index-vars index i (e .at) _ (e .words))
     (c .rows-at .ensures
-    ∙ ap (tableF 64 (at-start .args .w) (at-start .args .p) (take (9 * i + 9 - (9 * i + 3)) (drop (9 * i + 3) index))) tree)
+    ∙ ap (tableF 64 (at-start .args .w) (at-start .args .p) (take (9 * i + 9 - (9 * i + 3)) (drop (9 * i + 3) index)))
+    tree)
 
 pub profile-word-spec : {M : Type 1} → statement M
 profile-word-spec =
