@@ -46,7 +46,7 @@ same-length c =
     let at-find-class = at-if1 .before in
     let at-start = at-find-class .before .before .before .before in
     joins-old (now (at-start .args .profile)) (now (at-start .args .out)) (at-start .args .k) (at-start .args .p)
-    (at-start .pre .0) (at-find-class .find-class .ensures) (at-if1 .if1 .taken)
+    (at-start .pre .0) (at-find-class .find-class .ensures) (omega (arith, at-if1 .if1 .taken))
     (at-add-place .add-place .ensures) .long
 
 returns : tie.Need-returns
@@ -55,7 +55,7 @@ returns c =
     let at-if1 = at-add-place .before .before in
     let at-find-class = at-if1 .before in
     let at-start = at-find-class .before .before .before .before in
-    joins-old _ _ _ _ (at-start .pre .0) (at-find-class .find-class .ensures) (at-if1 .if1 .taken)
+    joins-old _ _ _ _ (at-start .pre .0) (at-find-class .find-class .ensures) (omega (arith, at-if1 .if1 .taken))
     (at-add-place .add-place .ensures)
 
 shl-t20 : tie.Need-shl-t20
@@ -114,7 +114,7 @@ same-length-2 c =
     let out = now (at-start .args .out) in
     let at = at-find-class .find-class .result * (length q + 1) in
     joins-new q out (at-start .args .k) (at-start .args .p) (at-start .pre .0) (at-find-class .find-class .ensures)
-    (at-if1 .if1 .left) (at-start .pre .1)
+    (omega (arith, at-if1 .if1 .left)) (at-start .pre .1)
     (at-put-words2 .put-words2 .ensures ∙ ap (λ (o : List ℕ). put o (at + 1) q)
     (at-put-words .put-words .ensures)) .long
 
@@ -129,7 +129,7 @@ returns-2 c =
     let out = now (at-start .args .out) in
     let at = at-find-class .find-class .result * (length q + 1) in
     joins-new q out (at-start .args .k) (at-start .args .p) (at-start .pre .0) (at-find-class .find-class .ensures)
-    (at-if1 .if1 .left) (at-start .pre .1)
+    (omega (arith, at-if1 .if1 .left)) (at-start .pre .1)
     (at-put-words2 .put-words2 .ensures ∙ ap (λ (o : List ℕ). put o (at + 1) q) (at-put-words .put-words .ensures))
 
 pub join-class-spec : {M : Type 1} → statement M
