@@ -5,7 +5,7 @@ use Prim.Native.Nat.{ℕ, zero, suc, _+_, _-_, _*_, _%_, _^_, _≤_, _<_, min}
 use native.Mathlib.Omega.{arith}
 use native.Mathlib.Nat.{zero-add, suc-add}
 use mathlib.Core.List.{List, [], _∷_}
-use mathlib.Core.Bool.{Bool, true, false, _||_}
+use mathlib.Core.Bool.{Bool, true, false}
 use lib.ListN.{length, getD, take, drop, replicate}
 use lib.Seq.{getD-take, getD-drop, drop-drop, take-nil}
 use lib.Bits.{bitAnd, bitOr, and-mask}
@@ -15,7 +15,7 @@ use borrow.Author.Tests.{lt-ltb, le-ltb}
 use Rattle.arith.specs.Width.{bitmask}
 use Rattle.record.specs.Choice.{when}
 use Rattle.record.specs.Tree.{Tree}
-use Rattle.record.proofs.SizedLaws.{false-true, or-of-r}
+use Rattle.record.proofs.SizedLaws.{or-of-r}
 use Rattle.expr.specs.Vars.{noVar, firstVars, support}
 use Rattle.truth.specs.Truth.{hasShift, placeOf, tableF}
 use Rattle.truth.proofs.FirstVarsLaws.{place-first, table-first}

@@ -1,15 +1,14 @@
 -- Laws of edges (specs/Edges.antt): where an atom has no edge its profile word is that of the place before.
 use mathlib.Core.Path.{_≡_, refl, ap, ap₂, sym, _∙_}
-use Prim.Native.Nat.{ℕ, zero, suc, _+_, _-_, _*_, _/_, _%_, _^_, _≤_, _<_, min, max}
+use Prim.Native.Nat.{ℕ, zero, suc, _+_, _-_, _*_, _/_, _%_, _^_, _≤_, _<_}
 use native.Mathlib.Omega.{arith}
-use native.Mathlib.Nat.{add-zero}
 use native.Mathlib.Decide.{ℕ-discrete}
 use mathlib.Core.List.{List}
-use mathlib.Core.Bool.{Bool, true, false, not, _&&_, _||_}
+use mathlib.Core.Bool.{Bool, true, false, not, _&&_}
 use lib.ListN.{length}
 use lib.Dec.{eqb, ltb}
 use lib.Bits.{bitOr, bitXor, differ}
-use borrow.Author.Tests.{eq-eqb, ne-eqb, lt-ltb, eqb-true}
+use borrow.Author.Tests.{eq-eqb, ne-eqb, lt-ltb}
 use Rattle.arith.specs.Bit.{bitAt}
 use Rattle.arith.proofs.BitLaws.{bit-or, bit-xor, bit-suc, bit-mod, bit-zero, bit-lt}
 use Rattle.record.specs.Choice.{when}
@@ -20,7 +19,7 @@ use Rattle.expr.specs.Refusal.{isExpr}
 use Rattle.expr.specs.Vars.{support}
 use Rattle.expr.proofs.IsExprLaws.{unary-of-expr, binary-of-expr}
 use Rattle.truth.specs.Truth.{hasShift, bitBinary, bitOf, rowBits, tableF, table}
-use Rattle.bit_partitioner.specs.Partition.{isOpaque, opaqueWord, profileWord}
+use Rattle.bit_partitioner.specs.Partition.{isOpaque, profileWord}
 use Rattle.bit_partitioner.specs.Edges.{edgesOf, atomEdges}
 use Rattle.bit_partitioner.proofs.ProfileLaws.{tabled, profile-word-tabled, profile-word-opaque}
 

@@ -1,7 +1,7 @@
 -- Laws of the entry point: the atoms of a form are as the loop over places wants them, what the loop gives are the
 -- form's classes, and what the call hands over is `computePartitions`.
 use mathlib.Core.Path.{_≡_, refl, ap, ap₂, sym, _∙_}
-use Prim.Native.Nat.{ℕ, _+_, _*_, _≤_, _<_}
+use Prim.Native.Nat.{ℕ, _≤_}
 use native.Mathlib.Omega.{arith}
 use mathlib.Core.List.{List, [], _∷_}
 use mathlib.Core.Bool.{true}
@@ -15,7 +15,7 @@ use Rattle.record.proofs.PutLaws.{padded-nil, length-padded}
 use Rattle.semilinear.specs.Items.{atomCount, afterAtoms}
 use Rattle.semilinear.specs.Valid.{isSemilinear}
 use Rattle.semilinear.specs.DecodeForm.{decodeForm}
-use Rattle.semilinear.specs.Outcome.{Outcome, refused, refusalOf, numbersOf, writtenOf, Gives}
+use Rattle.semilinear.specs.Outcome.{Outcome, refusalOf, numbersOf, writtenOf, Gives}
 use Rattle.semilinear.specs.Compact.{openOutcome}
 use Rattle.semilinear.proofs.ValidLaws.{semilinear-parts}
 use Rattle.semilinear.proofs.AcceptLaws.{form-valid}
@@ -23,7 +23,7 @@ use Rattle.semilinear.proofs.ReadLaws.{Opened, Read, read-given, read-refused, 
 use Rattle.bit_partitioner.specs.Partition.{PartitionClass, classesF, classesOf, classWords}
 use Rattle.bit_partitioner.specs.Partition.{partitionsOutcome, computePartitions}
 use Rattle.bit_partitioner.specs.Columns.{Columns}
-use Rattle.bit_partitioner.specs.Index.{atomTrees, AtomsValid}
+use Rattle.bit_partitioner.specs.Index.{AtomsValid}
 use Rattle.bit_partitioner.specs.Places.{rowsIn, AllPlaced, FormPlaced}
 use Rattle.bit_partitioner.proofs.ClassesLaws.{classes-none, classes-some}
 use Rattle.bit_partitioner.proofs.ColumnsLaws.{columns}

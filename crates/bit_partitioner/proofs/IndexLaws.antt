@@ -1,16 +1,16 @@
 -- Laws of the index of a form's atoms (specs/Index.antt): what holds of it after some atoms were put.
-use mathlib.Core.Path.{_≡_, refl, ap, ap₂, sym, subst, _∙_}
-use Prim.Native.Nat.{ℕ, zero, suc, _+_, _-_, _*_, _≤_, _<_}
+use mathlib.Core.Path.{_≡_, ap, sym, _∙_}
+use Prim.Native.Nat.{ℕ, suc, _+_, _*_, _≤_, _<_}
 use native.Mathlib.Omega.{arith}
 use native.Mathlib.Nat.{zero-add}
-use native.Mathlib.Decide.{ℕ-discrete, decLt}
-use mathlib.Core.List.{List, [], _∷_, _++_}
-use mathlib.Core.Bool.{Bool, true, false}
+use native.Mathlib.Decide.{ℕ-discrete}
+use mathlib.Core.List.{List, _∷_, _++_}
+use mathlib.Core.Bool.{true, false}
 use lib.ListN.{length, getD, take, drop, length-append, length-drop}
 use lib.Seq.{drop-drop, drop-at, take-take, take-append-le, length-take-le}
 use lib.Bits.{bitOr}
 use Rattle.arith.specs.Bit.{bitAt}
-use Rattle.arith.proofs.BitLaws.{bit-lt, bit-or, bit-of-zero}
+use Rattle.arith.proofs.BitLaws.{bit-lt, bit-or}
 use Rattle.record.specs.Put.{put}
 use Rattle.record.specs.Span.{sized}
 use Rattle.record.specs.Tree.{Tree}
@@ -26,7 +26,7 @@ use Rattle.semilinear.proofs.ValidLaws.{atom-parts}
 use Rattle.semilinear.proofs.SumLaws.{first-atom-ok, later-atoms-ok, first-tree-sized}
 use Rattle.semilinear.proofs.AcceptLaws.{bytes-tree-span}
 use Rattle.bit_partitioner.specs.Edges.{atomEdges}
-use Rattle.bit_partitioner.specs.Index.{atomTrees, treeOf, AtomsValid, atomWords, EntryFor, Readable, Indexed}
+use Rattle.bit_partitioner.specs.Index.{atomTrees, treeOf, AtomsValid, atomWords, EntryFor, Indexed}
 use Rattle.bit_partitioner.proofs.EdgesLaws.{edge-start}
 use Rattle.bit_partitioner.proofs.AtomWordsLaws.{drop-take, length-words, word-edges}
 

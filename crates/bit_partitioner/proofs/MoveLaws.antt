@@ -1,32 +1,26 @@
 -- Laws of moving a profile on by one place (specs/Profile.antt): what holds after the words of some atoms, and that the
 -- moved profile of the place before is that of the place.
-use mathlib.Core.Path.{_≡_, refl, ap, ap₂, sym, _∙_}
-use Prim.Native.Nat.{ℕ, zero, suc, _+_, _-_, _*_, _≤_, _<_}
+use mathlib.Core.Path.{_≡_, refl, ap, sym, _∙_}
+use Prim.Native.Nat.{ℕ, zero, suc, _+_, _≤_, _<_}
 use native.Mathlib.Omega.{arith}
-use native.Mathlib.Nat.{zero-add}
 use native.Mathlib.Decide.{ℕ-discrete}
 use mathlib.Core.List.{List, [], _∷_}
 use mathlib.Core.Bool.{true, false}
 use lib.ListN.{length, getD, set, length-set}
-use lib.Seq.{ext-getD, getD-set-same, getD-set-other}
+use lib.Seq.{getD-set-same, getD-set-other}
 use borrow.Author.Tests.{eq-eqb, ne-eqb}
 use Rattle.arith.specs.Bit.{bitAt}
-use Rattle.arith.proofs.BitLaws.{bit-lt}
 use Rattle.record.specs.Tree.{Tree}
 use Rattle.record.specs.Tree.Tree.{Constant}
 use Rattle.record.specs.Decode.{decode}
-use Rattle.expr.specs.Refusal.{isExpr}
-use Rattle.semilinear.specs.Form.{Row}
 use Rattle.semilinear.specs.Items.{isAtom, treeSpan, afterAtom}
 use Rattle.semilinear.specs.DecodeForm.{afterTerm, rowAt, rowsOf}
 use Rattle.semilinear.proofs.ItemsLaws.{fold-atom, fold-done, atoms-ind, rows-atom, rows-end}
-use Rattle.bit_partitioner.specs.Partition.{profileWord, profileFrom}
+use Rattle.bit_partitioner.specs.Partition.{profileWord}
 use Rattle.bit_partitioner.specs.Columns.{treeAt}
 use Rattle.bit_partitioner.specs.Edges.{atomEdges}
 use Rattle.bit_partitioner.specs.Index.{atomTrees, treeOf}
 use Rattle.bit_partitioner.specs.Profile.{movedWord, WordsMoved}
-use Rattle.bit_partitioner.proofs.ProfileLaws.{profile-length, profile-at}
-use Rattle.bit_partitioner.proofs.EdgesLaws.{word-still, edge-start}
 
 module _ (w p i : ℕ) (t : Tree) (x : ℕ) where
   pub moved-edge : bitAt (atomEdges t) p ≡ 1 → movedWord w p i t x ≡ profileWord w p i t

@@ -6,21 +6,20 @@ use native.Mathlib.Omega.{arith}
 use native.Mathlib.Nat.{zero-add, mul-le-mul-right}
 use native.Mathlib.Numerals.{add-one}
 use native.Mathlib.Decide.{ℕ-discrete}
-use mathlib.Core.List.{List, [], _∷_}
+use mathlib.Core.List.{List, []}
 use lib.ListN.{length, getD}
 use lib.Seq.{ext-getD}
 use borrow.Author.Tests.{eq-eqb, ne-eqb}
 use Rattle.arith.specs.Bit.{bitAt}
 use Rattle.arith.proofs.BitLaws.{bit-lt}
 use Rattle.record.specs.Put.{padded}
-use Rattle.record.specs.Tree.{Tree}
 use Rattle.semilinear.specs.Form.{Row}
 use Rattle.semilinear.specs.Items.{afterAtoms}
 use Rattle.bit_partitioner.specs.declared.places.Places.{Places}
 use Rattle.bit_partitioner.specs.Partition.{PartitionClass, profileWord, profileFrom, joinClass}
 use Rattle.bit_partitioner.specs.Partition.{classesF, classWords}
 use Rattle.bit_partitioner.specs.Edges.{atomEdges}
-use Rattle.bit_partitioner.specs.Classes.{Each, HasWords, classNumber, addPlace, ClassesIn, countAfter, Joins}
+use Rattle.bit_partitioner.specs.Classes.{Each, classNumber, addPlace, ClassesIn, countAfter, Joins}
 use Rattle.bit_partitioner.specs.Index.{atomTrees, treeOf, Readable, Indexed}
 use Rattle.bit_partitioner.specs.Profile.{movedWord, WordsMoved}
 use Rattle.bit_partitioner.specs.Places.{rowsIn, Placed, PlacedNext, AllPlaced}

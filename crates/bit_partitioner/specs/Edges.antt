@@ -1,7 +1,7 @@
 -- The places at which an atom's profile word may differ from that of the place before: bit p of a word is set where a
 -- literal has unlike bits at p and p - 1. Bit 0 is always set.
 use Prim.Native.Nat.{ℕ, _*_, _%_, _^_}
-use mathlib.Core.Bool.{Bool, not, _&&_, _||_}
+use mathlib.Core.Bool.{not, _&&_, _||_}
 use lib.Dec.{eqb}
 use lib.Bits.{bitOr, bitXor}
 use Rattle.record.specs.Choice.{when}

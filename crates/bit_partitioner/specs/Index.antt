@@ -1,7 +1,7 @@
 -- What the columns keep of each atom, in nine words of a lent index: where the atom starts in the form's bytes, its
 -- edges, the rows of its table as ones, and its variables; an opaque atom has no rows.
 use mathlib.Core.Path.{_≡_}
-use Prim.Native.Nat.{ℕ, _+_, _-_, _*_, _^_, _≤_, _<_}
+use Prim.Native.Nat.{ℕ, _-_, _*_, _^_, _≤_, _<_}
 use mathlib.Core.List.{List, [], _∷_}
 use mathlib.Core.Bool.{true}
 use lib.ListN.{length, getD, take, drop, replicate}

@@ -2,7 +2,7 @@
 use crate::index;
 use semilinear::items;
 ghost use mathlib.Core.Path.{_≡_};
-ghost use Prim.Native.Nat.{ℕ, _<_, _≤_};
+ghost use Prim.Native.Nat.{ℕ, _<_};
 ghost use lib.ListN.{length};
 ghost use Rattle.bit_partitioner.specs.Partition.{profileWord};
 ghost use Rattle.bit_partitioner.specs.Index.{atomTrees, treeOf, Readable};

@@ -1,5 +1,4 @@
 -- `add_place` meets its contract: the shifted 1 is the place's power of two.
-use native.Mathlib.Omega.{arith}
 use borrow.Author.Needs.{needs}
 use Rattle.bit_partitioner.proofs.ClassWordsLaws.{add-place-set}
 use Rattle.bit_partitioner.proofs.classes.add_place.Statement.{statement}

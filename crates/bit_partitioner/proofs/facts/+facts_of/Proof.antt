@@ -5,8 +5,7 @@ use Rattle.record.specs.Fields.{size, kind, amount}
 use denote.Ref.{now}
 use mathlib.Core.Path.{ap, ap₂, _∙_}
 use native.Mathlib.Omega.{arith}
-use Rattle.bit_partitioner.specs.declared.facts.Facts.{Facts}
-use Rattle.bit_partitioner.specs.Edges.{factsOf, nodeFacts, joinFacts}
+use Rattle.bit_partitioner.specs.Edges.{nodeFacts, joinFacts}
 use Rattle.bit_partitioner.proofs.FactsLaws.{facts-one, facts-two}
 use Prim.Native.Nat.{ℕ, _<_}
 use borrow.Fn.Kinds.{In}

@@ -1,5 +1,4 @@
 -- `leaf_facts` meets its contract: the edges of a literal, and none.
-use denote.Ref.{now}
 use borrow.Author.Needs.{needs}
 use Rattle.bit_partitioner.proofs.FactsLaws.{facts-constant, facts-variable}
 use Rattle.bit_partitioner.proofs.facts.leaf_facts.Statement.{statement}
