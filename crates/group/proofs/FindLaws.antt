@@ -17,7 +17,7 @@ use Rattle.group.specs.Group.{at, isLive}
 use Rattle.group.specs.Collapse.{thirdFits, findThird, secondFits, findSecond, firstFits, findFirst}
 use Rattle.group.specs.Links.{lent, apartAt, thirdIn, secondIn, FoundTwo, FoundThree}
 use Rattle.group.proofs.SearchLaws.{false-of-implied, first-none, when-ltb, when-found}
-use Rattle.group.proofs.LinksLaws.{third-apart}
+use Rattle.group.proofs.ThirdLaws.{third-apart}
 
 -- ---- the second entry
 

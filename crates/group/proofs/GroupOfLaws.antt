@@ -40,6 +40,23 @@ record Tail (w : ℕ) (vars : List ℕ) (rows : List Row) (i : ℕ) (l : List Ro
   counted : i + length l ≡ length rows
   valued : (k : ℕ) → rowValue w vars rows (i + k) ≡ rowValue w vars l k
 
+-- a row of no basis, of this one and of another
+module _ (only : Tree → Bool) (w : ℕ) (b : Tree) where
+  pub group-opaque : (i : ℕ) (x : Row) (l : List Row) (g : Group) → viewRow only w x ≡ opaque
+      → groupOf only w b i (x ∷ l) g ≡ groupOf only w b (i + 1) l g
+  unfolding groupOf
+  group-opaque i x l g e = simp e
+
+  pub group-same : (i : ℕ) (x : Row) (l : List Row) (g : Group) {c : Tree} {m : ℕ} → viewRow only w x ≡ masked c m
+      → eqTree w c b ≡ true → groupOf only w b i (x ∷ l) g ≡ groupOf only w b (i + 1) l (pushEntry g (x .coeff) m i)
+  unfolding groupOf
+  group-same i x l g e q = simp (e, q)
+
+  pub group-other : (i : ℕ) (x : Row) (l : List Row) (g : Group) {c : Tree} {m : ℕ} → viewRow only w x ≡ masked c m
+      → eqTree w c b ≡ false → groupOf only w b i (x ∷ l) g ≡ groupOf only w b (i + 1) l g
+  unfolding groupOf
+  group-other i x l g e q = simp (e, q)
+
 module _ (only : Tree → Bool) (w : ℕ) (vars : List ℕ) (b : Tree) (eb : isExpr b ≡ true) (rows : List Row)
     (most : length rows ≤ 256) where
   tail-next : (i : ℕ) (x : Row) (l : List Row) → Tail w vars rows i (x ∷ l) → Tail w vars rows (i + 1) l
@@ -54,21 +71,6 @@ module _ (only : Tree → Bool) (w : ℕ) (vars : List ℕ) (b : Tree) (eb : isE
       → rowValue w vars rows i ≡ value w vars (x .tree)
   unfolding rowValue
   tail-head i x l t = ap (rowValue w vars rows) (let e : i ≡ i + 0 = omega arith in e) ∙ t .valued 0
-
-  group-opaque : (i : ℕ) (x : Row) (l : List Row) (g : Group) → viewRow only w x ≡ opaque
-      → groupOf only w b i (x ∷ l) g ≡ groupOf only w b (i + 1) l g
-  unfolding groupOf
-  group-opaque i x l g e = simp e
-
-  group-same : (i : ℕ) (x : Row) (l : List Row) (g : Group) {c : Tree} {m : ℕ} → viewRow only w x ≡ masked c m
-      → eqTree w c b ≡ true → groupOf only w b i (x ∷ l) g ≡ groupOf only w b (i + 1) l (pushEntry g (x .coeff) m i)
-  unfolding groupOf
-  group-same i x l g e q = simp (e, q)
-
-  group-other : (i : ℕ) (x : Row) (l : List Row) (g : Group) {c : Tree} {m : ℕ} → viewRow only w x ≡ masked c m
-      → eqTree w c b ≡ false → groupOf only w b i (x ∷ l) g ≡ groupOf only w b (i + 1) l g
-  unfolding groupOf
-  group-other i x l g e q = simp (e, q)
 
   sum-opaque : (x : Row) (l : List Row) → viewRow only w x ≡ opaque
       → basisSum only w vars b (x ∷ l) ≡ basisSum only w vars b l
@@ -141,7 +143,7 @@ module _ (only : Tree → Bool) (w : ℕ) (vars : List ℕ) (b : Tree) (eb : isE
           → (p : Bool) → eqTree w c b ≡ p → Over (x ∷ l) g (groupOf only w b i (x ∷ l) g)
       by-test ok c m e v below false q =
           let o = below g (later h) in
-          subst (Over (x ∷ l) g) (sym (group-other i x l g e q))
+          subst (Over (x ∷ l) g) (sym (group-other only w b i x l g e q))
           (record { good = o .good; sum = omega (arith, o .sum, sum-other x l e q) })
       by-test ok c m e v below true q =
           let same : c ≡ b = eq-of-eq-tree w c b (v .basis .expr) eb q in
@@ -150,7 +152,7 @@ module _ (only : Tree → Bool) (w : ℕ) (vars : List ℕ) (b : Tree) (eb : isE
           let room : g .len < 256 = omega (arith, h .few, t .counted) in
           let more = total-push (value w vars b) g (x .coeff) m i (h .sized) room in
           let row = ap (λ (n : ℕ). x .coeff * n) (v′ .value-is vars) in
-          subst (Over (x ∷ l) g) (sym (group-same i x l g e q))
+          subst (Over (x ∷ l) g) (sym (group-same only w b i x l g e q))
           (record { good = o .good; sum = omega (arith, o .sum, sum-same x l e q, more, row) })
 
       go : Good w x → (d : Decomposed) → viewRow only w x ≡ d → Seen w (x .tree) d
@@ -158,7 +160,7 @@ module _ (only : Tree → Bool) (w : ℕ) (vars : List ℕ) (b : Tree) (eb : isE
           → Over (x ∷ l) g (groupOf only w b i (x ∷ l) g)
       go ok opaque e v below =
           let o = below g (later h) in
-          subst (Over (x ∷ l) g) (sym (group-opaque i x l g e))
+          subst (Over (x ∷ l) g) (sym (group-opaque only w b i x l g e))
           (record { good = o .good; sum = omega (arith, o .sum, sum-opaque x l e) })
       go ok (masked c m) e v below = by-test ok c m e v below (eqTree w c b) refl
 

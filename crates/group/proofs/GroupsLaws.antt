@@ -124,12 +124,12 @@ module _ (only : Tree → Bool) (w : ℕ) where
     pub rising : risingFrom 0 bases ≡ true
     pub once : (c : Tree) → isExpr c ≡ true → hits w c bases ≤ 1
 
-  bases-of-opaque : (x : Row) (rows : List Row) (found : List Tree) → viewRow only w x ≡ opaque
+  pub bases-of-opaque : (x : Row) (rows : List Row) (found : List Tree) → viewRow only w x ≡ opaque
       → basesOf only w (x ∷ rows) found ≡ basesOf only w rows found
   unfolding basesOf
   bases-of-opaque x rows found e = simp e
 
-  bases-of-masked : (x : Row) (rows : List Row) (found : List Tree) {c : Tree} {m : ℕ} → viewRow only w x ≡ masked c m
+  pub bases-of-masked : (x : Row) (rows : List Row) (found : List Tree) {c : Tree} {m : ℕ} → viewRow only w x ≡ masked c m
       → basesOf only w (x ∷ rows) found ≡ basesOf only w rows (insertBasis w c found)
   unfolding basesOf
   bases-of-masked x rows found e = simp e

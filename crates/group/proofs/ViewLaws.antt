@@ -88,11 +88,11 @@ module _ (only : Tree → Bool) (w : ℕ) (x : Row) where
   view-none e = simp (eq-eqb (x .coeff) 0 e)
 
   module _ (ne : x .coeff ≡ 0 → ⊥) where
-    view-opaque : decomposeAtom w (x .tree) ≡ opaque → viewRow only w x ≡ opaque
+    pub view-opaque : decomposeAtom w (x .tree) ≡ opaque → viewRow only w x ≡ opaque
     unfolding viewRow
     view-opaque e = simp (ne-eqb (x .coeff) 0 ne, e)
 
-    view-only : {b : Tree} {m : ℕ} → decomposeAtom w (x .tree) ≡ masked b m
+    pub view-only : {b : Tree} {m : ℕ} → decomposeAtom w (x .tree) ≡ masked b m
         → viewRow only w x ≡ when (only b) (λ _. masked b m) (λ _. opaque)
     unfolding viewRow
     view-only e = simp (ne-eqb (x .coeff) 0 ne, e)

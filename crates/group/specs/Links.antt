@@ -26,10 +26,10 @@ unfoldable pub foldOf : ℕ → ℕ
 foldOf c = bitAnd (bitXor b (b / 2 ^ 10)) 1023
   where
     a : ℕ
-    a = bitXor c (c / 2 ^ 32)
+    a = bitXor c (c / 2 ^ 35)
 
     b : ℕ
-    b = bitXor a (a / 2 ^ 16)
+    b = bitXor a (a / 2 ^ 19)
 
 -- an entry of the mark u and the mask p is live and shares no bit with m
 unfoldable pub apartOf : (u m p : ℕ) → Bool

@@ -10,8 +10,8 @@ ghost use Rattle.group.specs.Links.{foldOf, apartOf, restOf, lent, Linke
 fn fold(c: u64) -> usize
     ensures { λ r. ⌜ r ≡ foldOf c ⌝ }
 {
-    let a = c ^ (c >> 32);
-    let b = a ^ (a >> 16);
+    let a = c ^ (c >> 35);
+    let b = a ^ (a >> 19);
     ((b ^ (b >> 10)) & 1023) as usize
 }
 
@@ -56,9 +56,10 @@ pub fn put_links<'a>(
     ensures { λ _. ⌜ Linked (lent (now (coeffs .entry)) (now (masks .entry)) (now (marks .entry)) n)
         m 0 (now (first .exit)) (now (next .exit)) ⌝ }
 {
-    let mut k = n;
-    while 0 < k {
-        k -= 1;
+    let mut t = 0;
+    while t < n {
+        t += 1;
+        let k = n - t;
         if apart(marks[k], m, masks[k]) {
             let h = fold(coeffs[k]);
             next[k] = first[h];

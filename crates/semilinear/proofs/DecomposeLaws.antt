@@ -21,6 +21,7 @@ use Rattle.record.proofs.SizedLaws.{sized-left, sized-right, false-true}
 use Rattle.record.proofs.DecodeLaws.{decode-leaf, decode-one, decode-two}
 use Rattle.expr.specs.Utils.{isConstantSubtree}
 use Rattle.expr.specs.Value.{value}
+use Rattle.expr.proofs.RefusalLaws.{accepted-left, accepted-right}
 use Rattle.semilinear.specs.declared.decompose.Basis.{Basis}
 use Rattle.semilinear.specs.Decompose.{opaque, masked, decomposeAnd, decomposeAtom}
 use Rattle.semilinear.specs.Basis.{basisSpan, viewOf, IsDecomposed}
@@ -33,7 +34,13 @@ module _ (w : ℕ) (s : List ℕ) (ok : sized s ≡ true) where
   pub decomposed-none : decomposeAtom w (decode s) ≡ opaque → IsDecomposed w s none
   unfolding viewOf
   decomposed-none e =
-      record { view = sym e; start-le = omega arith; end-le = omega arith; ok = λ h. false-true h }
+      record {
+        view = sym e;
+        start-le = omega arith;
+        end-le = omega arith;
+        ok = λ h. false-true h;
+        accepted = λ h. false-true h;
+      }
 
   -- a variable
   pub decomposed-variable : w ≤ 64 → kind s ≡ 1 → {m : ℕ} → m ≡ bitmask w
@@ -48,6 +55,7 @@ module _ (w : ℕ) (s : List ℕ) (ok : sized s ≡ true) where
         start-le = omega arith;
         end-le = omega arith;
         ok = λ h. rw p ok;
+        accepted = λ h e. rw p e;
       }
 
   -- a root that is neither
@@ -98,6 +106,7 @@ module _ (w : ℕ) (s : List ℕ) (ok : sized s ≡ true) where
           start-le = omega arith;
           end-le = omega (arith, cut-le s);
           ok = λ h. rw p (sized-sides .0);
+          accepted = λ h e. rw p (accepted-left w s e not-zero not-one);
         }
 
     pub decomposed-right : {c m : ℕ} → isConstantSubtree (decode (left s)) ≡ true
@@ -111,4 +120,5 @@ module _ (w : ℕ) (s : List ℕ) (ok : sized s ≡ true) where
           start-le = omega (arith, cut-le s);
           end-le = omega arith;
           ok = λ h. rw p (sized-sides .1);
+          accepted = λ h e. rw p (accepted-right w s e not-zero not-one);
         }

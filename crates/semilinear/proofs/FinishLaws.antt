@@ -29,7 +29,7 @@ use Rattle.semilinear.specs.Answers.{GivesForm}
 use Rattle.semilinear.specs.Compact.{limitOutcome}
 use Rattle.semilinear.specs.Scan.{IsAtomTable}
 use Rattle.semilinear.specs.Table.{Placed, Kept, Holds, Clean}
-use Rattle.semilinear.specs.Terms.{coeffsOf, coeffsIn, coeffTerms, coeffCount, TermsPut, Copied, Finished}
+use Rattle.semilinear.specs.Terms.{coeffsOf, coeffsIn, coeffTerms, coeffCount, TermsPut, Copied, Finished, Ends}
 use Rattle.semilinear.proofs.AcceptLaws.{written}
 use Rattle.semilinear.proofs.FormLaws.{length-atoms, length-terms, term-count-le}
 use Rattle.semilinear.proofs.HoldsLaws.{padded-holds, at-holds}
@@ -145,8 +145,7 @@ module _ (w c step : ℕ) (words : List ℕ) (flag : Bool) (tab : Table) (out : 
   unfolding limitOutcome
   finished-full full en r {e} h =
       record {
-        gives = λ l holds clean coeffs.
-            gives-same (nine l (holds .past full)) 57360 r e (rw en at h);
+        gives = λ l ends. gives-same (nine l (ends .past full)) 57360 r e (rw en at h);
       }
     where
       nine : (l : List Row) → fitsTable l ≡ false
@@ -182,7 +181,7 @@ module _ (w c step : ℕ) (words : List ℕ) (flag : Bool) (tab : Table) (out : 
       pub finished-form : {e : List ℕ} → e ≡ put d (r .used) (sumBytes w c)
           → Finished w tab step words c flag out answer e
       unfolding encodeForm limitOutcome
-      finished-form {e} p = record { gives = λ l holds clean coeffs. form l holds clean (coeffs more) }
+      finished-form {e} p = record { gives = λ l ends. form l (ends .holds more) (ends .clean more) (ends .coeffs more) }
         where
           form : (l : List Row) → Holds w tab out l → Clean tab out → coeffsIn step words (length l) ≡ coeffsOf l
               → GivesForm (limitOutcome (record { bitwidth = w; constant = c; rows = l }) flag) 57360 answer e

@@ -7,6 +7,7 @@ use lib.ListN.{length, take, drop}
 use Rattle.record.specs.Choice.{when}
 use Rattle.record.specs.Span.{sized}
 use Rattle.record.specs.Decode.{decode}
+use Rattle.expr.specs.Refusal.{treeRefusal}
 use Rattle.semilinear.specs.declared.decompose.Basis.{Basis}
 use Rattle.semilinear.specs.Decompose.{Decomposed, opaque, masked, decomposeAtom}
 
@@ -18,9 +19,10 @@ basisSpan s r = take (r .end - r .start) (drop (r .start) s)
 unfoldable pub viewOf : List ℕ → Basis → Decomposed
 viewOf s r = when (r .valid) (λ _. masked (decode (basisSpan s r)) (r .mask)) (λ _. opaque)
 
--- r is the view of the tree of s at w bits, and its part is a tree's span
+-- r is the view of the tree of s at w bits, and its part is a tree's span, accepted where s is
 pub record IsDecomposed (w : ℕ) (s : List ℕ) (r : Basis) : Type 0 where
   pub view : viewOf s r ≡ decomposeAtom w (decode s)
   pub start-le : r .start ≤ r .end
   pub end-le : r .end ≤ length s
   pub ok : r .valid ≡ true → sized (basisSpan s r) ≡ true
+  pub accepted : r .valid ≡ true → treeRefusal w s ≡ 0 → treeRefusal w (basisSpan s r) ≡ 0

@@ -3,7 +3,7 @@
 use mathlib.Core.Path.{_≡_}
 use Prim.Native.Nat.{ℕ, zero, suc, _+_, _*_}
 use mathlib.Core.List.{List, [], _∷_, _++_}
-use mathlib.Core.Bool.{Bool, false}
+use mathlib.Core.Bool.{Bool, true, false}
 use lib.ListN.{length, getD}
 use lib.Dec.{eqb}
 use Rattle.record.specs.Choice.{when}
@@ -11,7 +11,7 @@ use Rattle.record.specs.Put.{put}
 use Rattle.semilinear.specs.declared.compact.Written.{Written}
 use Rattle.semilinear.specs.declared.outcome.Answer.{Answer}
 use Rattle.semilinear.specs.declared.table.Table.{Table}
-use Rattle.semilinear.specs.Form.{Row, Form, termBytes}
+use Rattle.semilinear.specs.Form.{Row, Form, termBytes, fitsTable}
 use Rattle.semilinear.specs.Answers.{GivesForm}
 use Rattle.semilinear.specs.Compact.{limitOutcome}
 use Rattle.semilinear.specs.Table.{Holds, Clean}
@@ -68,9 +68,16 @@ pub record Copied (f : Form) (tab : Table) (out : List ℕ) : Type 0 where
   pub more : tab .full ≡ false
   pub long : length out ≡ 57360
 
--- for every rows that the table and the words stand for: their form, or 9 where they pass a limit
+-- a table at its end, the words with the coefficients and the bytes stand for the rows l; where it is full, these
+-- pass a limit
+pub record Ends (w : ℕ) (tab : Table) (step : ℕ) (words out : List ℕ) (l : List Row) : Type 0 where
+  pub holds : tab .full ≡ false → Holds w tab out l
+  pub clean : tab .full ≡ false → Clean tab out
+  pub coeffs : tab .full ≡ false → coeffsIn step words (length l) ≡ coeffsOf l
+  pub past : tab .full ≡ true → fitsTable l ≡ false
+
+-- for every rows that they stand for: their form, or 9 where they pass a limit
 pub record Finished (w : ℕ) (tab : Table) (step : ℕ) (words : List ℕ) (c : ℕ) (flag : Bool) (out : List ℕ) (r : Answer)
     (out′ : List ℕ) : Type 0 where
-  pub gives : (l : List Row) → Holds w tab out l → Clean tab out
-      → (tab .full ≡ false → coeffsIn step words (length l) ≡ coeffsOf l)
+  pub gives : (l : List Row) → Ends w tab step words out l
       → GivesForm (limitOutcome (record { bitwidth = w; constant = c; rows = l }) flag) 57360 r out′

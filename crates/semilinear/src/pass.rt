@@ -78,7 +78,7 @@ pub fn finish(
     flag: bool,
     out: &mut [u8],
 ) -> Answer
-    requires { ⌜ Placed tab (length (now out)) × (length (now out) ≡ 57360)
+    requires { ⌜ (tab .full ≡ false → Placed tab (length (now out))) × (length (now out) ≡ 57360)
         × (tab .full ≡ false → step * tab .count ≤ length (now words)) × (1 ≤ step) × (step ≤ 16) ⌝ }
     ensures { λ r. ⌜ Finished w tab step (now (words .entry)) constant flag
         (now (out .entry)) r (now (out .exit)) ⌝ }

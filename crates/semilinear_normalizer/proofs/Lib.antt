@@ -37,6 +37,5 @@ mod BuiltLaws
 mod AppendedLaws
 mod StepLaws
 mod ReachedLaws
-mod PutTermsLaws
 mod WrittenLaws
 mod WholeTreeLaws

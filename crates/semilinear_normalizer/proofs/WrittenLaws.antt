@@ -1,107 +1,53 @@
--- The form that is written (specs/Index.antt, Registers and TermsPut): a full table is refusal 9, and the atoms, the
--- terms and the sum record of any other are the bytes of the collected form.
-use mathlib.Core.Path.{_≡_, refl, ap, ap₂, _∙_}
-use Prim.Native.Nat.{ℕ, _+_, _*_, _≤_}
-use native.Mathlib.Omega.{arith}
-use mathlib.Core.List.{List, [], _++_}
-use mathlib.Core.Bool.{true, false}
-use lib.ListN.{length, length-append}
-use Rattle.record.specs.Put.{put, padded}
-use Rattle.record.proofs.PutLaws.{length-put, put-padded-at}
-use Rattle.semilinear.specs.declared.compact.Written.{Written}
+-- The form that is written (specs/Index.antt, Registers): the table at its end, its index and the bytes stand for the
+-- rows that were registered, and what the end of a pass gives for those is the outcome of the descent.
+use mathlib.Core.Path.{_≡_, refl, ap, sym, _∙_}
+use Prim.Native.Nat.{ℕ, zero, suc, _*_, _≤_}
+use mathlib.Core.List.{List, []}
+use mathlib.Core.Bool.{false}
+use lib.ListN.{length}
 use Rattle.semilinear.specs.declared.outcome.Answer.{Answer}
 use Rattle.semilinear.specs.declared.table.Table.{Table}
-use Rattle.semilinear.specs.Form.{Row, termCount, atomsBytes, termsBytes, sumBytes, encodeForm}
-use Rattle.semilinear.specs.Outcome.{refused}
+use Rattle.semilinear.specs.Form.{Row}
 use Rattle.semilinear.specs.Answers.{GivesForm}
-use Rattle.semilinear.proofs.FormLaws.{length-terms, term-count-le}
-use Rattle.semilinear.proofs.HoldsLaws.{padded-holds, at-holds}
-use Rattle.semilinear.proofs.OutcomeLaws.{gives-form}
-use Rattle.semilinear.proofs.PassLaws.{length-sum, gives-same}
+use Rattle.semilinear.specs.Compact.{limitOutcome}
+use Rattle.semilinear.specs.Table.{Placed}
+use Rattle.semilinear.specs.Terms.{coeffsOf, coeffsIn, Ends, Finished}
+use Rattle.semilinear.proofs.TermsLaws.{coeffs-append}
 use Rattle.semilinear_normalizer.specs.Collect.{Emitted, linear}
 use Rattle.semilinear_normalizer.specs.Register.{registerAll}
-use Rattle.semilinear_normalizer.specs.Index.{rowsIn, Indexed, Registers, TermsPut}
+use Rattle.semilinear_normalizer.specs.Index.{rowAt, rowsIn, Registers}
 use Rattle.semilinear_normalizer.specs.Normalize.{collectedForm, collectedOutcome}
-use Rattle.semilinear_normalizer.proofs.NormalizeLaws.{collected-nine, collected-form}
 use Rattle.semilinear_normalizer.proofs.IndexLaws.{length-rows-in}
 
-module _ (w c : ℕ) (l : List Emitted) where
-  module _ {index out : List ℕ} {tab : Table} (reg : Registers w (registerAll w l []) index out tab) where
-    pub gives-full : tab .full ≡ true → {n : ℕ} → n ≡ 57360 → (r : Answer) {e : List ℕ} → GivesForm (refused 9) n r e
-        → GivesForm (collectedOutcome w (linear c l)) 57360 r e
-    unfolding collectedForm
-    gives-full full en r {e} h = gives-same (collected-nine w c l (reg .past full)) 57360 r e (rw en at h)
+-- the index has the coefficients of its rows, eleven words apart
+coeffs-rows-in : (index out : List ℕ) (n : ℕ) → coeffsOf (rowsIn index out n) ≡ coeffsIn 11 index n
+unfolding rowsIn rowAt coeffsIn coeffsOf
+coeffs-rows-in index out zero = refl
+coeffs-rows-in index out (suc n) =
+    coeffs-append (rowsIn index out n) _ ∙ rw (coeffs-rows-in index out n) refl
 
-    module _ (more : tab .full ≡ false) (len : length out ≡ 57360) where
-      abbrev rows : List Row
-      rows = rowsIn index out (tab .count)
+module _ (w : ℕ) (l : List Emitted) {index out : List ℕ} {tab : Table}
+    (reg : Registers w (registerAll w l []) index out tab) where
+  pub table-placed : tab .full ≡ false → Placed tab (length out)
+  table-placed more = reg .indexed more .holds .placed
 
-      indexed : Indexed w tab index out
-      indexed = reg .indexed more
+  pub index-room : tab .full ≡ false → 11 * tab .count ≤ length index
+  index-room more = reg .indexed more .room
 
-      -- room for the terms behind the atoms
-      pub terms-ready : (11 * tab .count ≤ length index) × (tab .count ≤ 256)
-          × (tab .at + 16 * tab .count ≤ length out)
-      terms-ready =
-          let p = indexed .holds .placed in (
-            indexed .room,
-            p .atoms-le,
-            omega (arith, p .atoms-le, p .records-le, p .place, len),
-          )
+  registered-ends : Ends w tab 11 index out (registerAll w l [])
+  registered-ends =
+      record {
+        holds = λ more. rw (reg .rows-are more) at (reg .indexed more .holds);
+        clean = λ more. reg .indexed more .clean;
+        coeffs = λ more.
+            ap (coeffsIn 11 index)
+            (sym (ap length (reg .rows-are more)) ∙ length-rows-in index out (tab .count))
+            ∙ sym (coeffs-rows-in index out (tab .count))
+            ∙ ap coeffsOf (reg .rows-are more);
+        past = reg .past;
+      }
 
-      module _ {r : Written} {d : List ℕ} (t : TermsPut w (tab .at) (rowsIn index out (tab .count)) out d r) where
-        terms-le : length (termsBytes w 0 rows) ≤ 16 * tab .count
-        terms-le =
-            omega (
-              arith,
-              length-terms w 0 (rowsIn index out (tab .count)),
-              term-count-le (rowsIn index out (tab .count)),
-              length-rows-in index out (tab .count),
-            )
-
-        length-terms-put : length d ≡ length out
-        length-terms-put =
-            ap length (t .written)
-            ∙ length-put out (tab .at) (termsBytes w 0 (rowsIn index out (tab .count)))
-            (omega (arith, terms-le, terms-ready .2))
-
-        -- room for the sum record behind the terms
-        pub sum-ready : r .used + 16 ≤ length d
-        sum-ready =
-            let p = indexed .holds .placed in
-            omega (arith, t .place, terms-le, p .atoms-le, p .records-le, p .place, length-terms-put, len)
-
-        pub sum-end : r .used + 16 ≤ 57360
-        sum-end = omega (arith, sum-ready, length-terms-put, len)
-
-        pub gives-written : {e : List ℕ} → e ≡ put d (r .used) (sumBytes w c)
-            → GivesForm (collectedOutcome w (linear c l)) 57360
-            (record { refusal = 0; used = r .used + 16; terms = r .terms; flag = false }) e
-        unfolding collectedForm encodeForm
-        gives-written {e} p =
-            let same : rowsIn index out (tab .count) ≡ registerAll w l [] = reg .rows-are more in
-            let all : List Row = registerAll w l [] in
-            let atoms : List ℕ = atomsBytes w all in
-            let terms : List ℕ = termsBytes w 0 all in
-            let z : List ℕ = sumBytes w c in
-            let t′ : TermsPut w (tab .at) all out d r = rw same at t in
-            let holds = rw same at (indexed .holds) in
-            let out-is : out ≡ padded 57360 atoms =
-            padded-holds w tab out all holds (indexed .clean) more ∙ ap (λ (n : ℕ). padded n atoms) len in
-            let at-is : tab .at ≡ length atoms = at-holds w tab out all holds more in
-            let used-is : r .used ≡ length (atoms ++ terms) =
-            omega (arith, t′ .place, at-is, length-append atoms terms) in
-            let used : r .used + 16 ≡ length ((atoms ++ terms) ++ z) =
-            omega (arith, used-is, length-append (atoms ++ terms) z, length-sum w c) in
-            let own : Answer = record { refusal = 0; used = r .used + 16; terms = r .terms; flag = false } in
-            let answer : _≡_ {A = Answer} own
-            (record { refusal = 0; used = length ((atoms ++ terms) ++ z); terms = termCount all; flag = false }) =
-            ap₂ (λ (u n : ℕ). record { refusal = 0; used = u; terms = n; flag = false }) used (t′ .count) in
-            gives-same (collected-form w c l (rw same at (indexed .holds .kept more .fits))) 57360 own e
-            (gives-form (collectedForm w c l) false 57360 own e answer
-            (p
-            ∙ ap (λ (b : List ℕ). put b (r .used) z)
-            (t′ .written
-            ∙ ap (λ (b : List ℕ). put b (tab .at) terms) out-is
-            ∙ put-padded-at 57360 atoms terms (tab .at) at-is)
-            ∙ put-padded-at 57360 (atoms ++ terms) z (r .used) used-is))
+  pub gives-collected : (c : ℕ) (r : Answer) {e : List ℕ} → Finished w tab 11 index c false out r e
+      → GivesForm (collectedOutcome w (linear c l)) 57360 r e
+  unfolding collectedOutcome collectedForm limitOutcome
+  gives-collected c r f = f .gives (registerAll w l []) registered-ends

@@ -12,14 +12,12 @@ use Rattle.record.specs.Lists.{eqList}
 use Rattle.record.specs.Span.{sized}
 use Rattle.record.specs.Tree.{Tree}
 use Rattle.record.specs.Decode.{decode}
-use Rattle.record.specs.Put.{put}
 use Rattle.expr.specs.Refusal.{treeRefusal}
 use Rattle.expr.specs.Vars.{sameVars}
 use Rattle.expr.specs.Hash.{structuralHash}
 use Rattle.truth.specs.Key.{notPure, keyOf}
 use Rattle.semilinear.specs.declared.table.Table.{Table}
-use Rattle.semilinear.specs.declared.compact.Written.{Written}
-use Rattle.semilinear.specs.Form.{Row, fitsTable, termCount, termBytes, termsBytes}
+use Rattle.semilinear.specs.Form.{Row, fitsTable}
 use Rattle.semilinear.specs.Table.{Holds, Clean}
 use Rattle.record.specs.Loop.{firstIn}
 use Rattle.semilinear_normalizer.specs.Collect.{Emitted}
@@ -128,25 +126,3 @@ pub record Searchable (index out : List ℕ) (n : ℕ) : Type 0 where
   pub rising : (j : ℕ) → j < n → getD index (11 * j + 2) 0 ≤ getD index (11 * j + 3) 0
   pub inside : (j : ℕ) → j < n → getD index (11 * j + 3) 0 ≤ length out
   pub trees : (j : ℕ) → j < n → sized (entrySpan index out j) ≡ true
-
--- ---- the terms
-
--- the bytes of the term of atom i, none where its coefficient c is 0
-unfoldable pub rowTerm : ℕ → ℕ → ℕ → List ℕ
-rowTerm w i c = when (eqb c 0) (λ _. []) (λ _. termBytes w i c)
-
--- how many terms that is
-unfoldable pub rowTerms : ℕ → ℕ
-rowTerms c = when (eqb c 0) (λ _. 0) (λ _. 1)
-
--- this term is put behind those that x says
-pub record TermPut (w i c : ℕ) (x : Written) (before after : List ℕ) (r : Written) : Type 0 where
-  pub place : r .used ≡ x .used + length (rowTerm w i c)
-  pub count : r .terms ≡ x .terms + rowTerms c
-  pub written : after ≡ put before (x .used) (rowTerm w i c)
-
--- the terms of the rows are put into the bytes from `to` on; r says where they end and how many there are
-pub record TermsPut (w to : ℕ) (rows : List Row) (before after : List ℕ) (r : Written) : Type 0 where
-  pub place : r .used ≡ to + length (termsBytes w 0 rows)
-  pub count : r .terms ≡ termCount rows
-  pub written : after ≡ put before to (termsBytes w 0 rows)

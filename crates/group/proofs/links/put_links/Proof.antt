@@ -3,7 +3,7 @@ use Prim.Native.Nat.{ℕ, _+_, _-_, _≤_, _<_}
 use native.Mathlib.Omega.{arith}
 use denote.Ref.{now}
 use lib.ListN.{length, length-set, length-replicate}
-use Rattle.group.specs.Links.{foldOf, lent, Linked}
+use Rattle.group.specs.Links.{lent, Linked}
 use Rattle.group.proofs.LinksLaws.{fold-below, linked-none, linked-skip, linked-put}
 use Rattle.group.proofs.links.put_links.Statement.{statement}
 use Rattle.group.proofs.links.put_links.Tie as tie
@@ -13,14 +13,18 @@ use Rattle.group.proofs.links.apart.Reads as apart-reads
 use Rattle.group.proofs.links.fold.Reads as fold-reads
 
 abbrev Inv-loop : tie.InvT-loop
-Inv-loop coeffs masks marks n m first₀ next₀ k₀ first next k =
-    (k ≤ n) × (length first ≡ 1024) × (length next ≡ 256) × Linked (lent coeffs masks marks n) m k first next
+Inv-loop coeffs masks marks n m first₀ next₀ t₀ first next t = (t ≤ n) × (length first ≡ 1024) × (length next ≡ 256) × Linked (lent coeffs masks marks n) m (n - t) first next
 
 abbrev μ-loop : tie.MeasureT-loop
-μ-loop coeffs masks marks n m first₀ next₀ k₀ first next k = k
+μ-loop coeffs masks marks n m first₀ next₀ t₀ first next t = n - t
 
 loop-holds : tie.Need-loop-holds Inv-loop μ-loop
-loop-holds c = (omega arith, ap length (c .pre .1) ∙ length-replicate {A = ℕ} 1024 (c .args .n), c .pre .2, linked-none _ _ (c .pre .1))
+loop-holds c =
+    let long = ap length (c .pre .1) ∙ length-replicate {A = ℕ} 1024 (c .args .n) in
+    (omega arith, long, c .pre .2, linked-none _ _ (omega arith) (c .pre .1))
+
+add-t : tie.Need-add-t Inv-loop μ-loop
+add-t c = omega arith
 
 sub-k : tie.Need-sub-k Inv-loop μ-loop
 sub-k c = omega arith
@@ -72,11 +76,12 @@ loop-less c = omega arith
 
 loop-again : tie.Need-loop-again Inv-loop μ-loop
 loop-again c =
-    let h = c .before .before .before .before .before .before .before .before .loop in (
+    let h = c .before .before .before .before .before .before .before .before .loop in
+    let n = c .before .before .before .before .before .before .before .before .before .args .n in (
       omega arith,
       length-set (h .first) _ _ ∙ h .inv .1,
       length-set (h .next) _ _ ∙ h .inv .2,
-      linked-put _ _ (h .k - 1) (omega arith) (omega arith) (h .inv .3) (c .before .fold .ensures)
+      linked-put _ _ (n - (h .t + 1)) (omega arith) (omega arith) (h .inv .3) (c .before .fold .ensures)
           (sym (c .before .before .before .before .apart .ensures) ∙ c .before .before .before .if1 .taken) (h .inv .1) (omega arith),
     )
 
@@ -86,13 +91,19 @@ loop-less-2 c = omega arith
 loop-again-2 : tie.Need-loop-again-2 Inv-loop μ-loop
 loop-again-2 c =
     let h = c .before .before .before .before .before .loop in
-    (omega arith, h .inv .1, h .inv .2, linked-skip _ _ (h .k - 1) (omega arith) (omega arith) (h .inv .3) (sym (c .before .apart .ensures) ∙ c .if1 .left))
+    let n = c .before .before .before .before .before .before .args .n in (
+      omega arith,
+      h .inv .1,
+      h .inv .2,
+      linked-skip _ _ (n - (h .t + 1)) (omega arith) (omega arith) (h .inv .3)
+          (sym (c .before .apart .ensures) ∙ c .if1 .left),
+    )
 
 returns : tie.Need-returns Inv-loop μ-loop
 returns c =
     let h = c .before .loop in
-    let z : h .k ≡ 0 = omega arith in
     let a = c .before .before .args in
+    let z : a .n - h .t ≡ 0 = omega arith in
     let g = lent (now (a .coeffs)) (now (a .masks)) (now (a .marks)) (a .n) in
     subst (λ (x : ℕ). Linked g (a .m) x (h .first) (h .next)) z (h .inv .3)
 
@@ -103,6 +114,7 @@ put-links-spec =
     Inv-loop
     μ-loop
     loop-holds
+    add-t
     sub-k
     element-copy-out-apart
     mul-apart

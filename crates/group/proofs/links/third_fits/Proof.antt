@@ -1,4 +1,4 @@
-use Rattle.group.proofs.LinksLaws.{rest-coeff, rest-shared, rest-first, rest-second}
+use Rattle.group.proofs.ThirdLaws.{rest-coeff, rest-shared, rest-first, rest-second}
 use Rattle.group.proofs.links.third_fits.Statement.{statement}
 use Rattle.group.proofs.links.third_fits.Tie as tie
 use Rattle.group.proofs.links.third_fits.Reads as reads

@@ -3,8 +3,8 @@ use Prim.Native.Nat.{ℕ, _+_, _-_, _≤_, _<_}
 use native.Mathlib.Omega.{arith}
 use denote.Ref.{now}
 use Rattle.group.specs.Links.{lent}
-use Rattle.group.proofs.LinksLaws.{fold-below, head-le, third-dead, Chased}
-use Rattle.group.proofs.LinksLaws.{chase-start, chase-le, chase-less, chase-here, chase-next, chase-end}
+use Rattle.group.proofs.LinksLaws.{fold-below, head-le}
+use Rattle.group.proofs.ThirdLaws.{third-dead, Chased, chase-start, chase-le, chase-less, chase-here, chase-next, chase-end}
 use Rattle.group.proofs.links.third_for.Statement.{statement}
 use Rattle.group.proofs.links.third_for.Tie as tie
 use Rattle.group.proofs.links.third_for.Reads as reads

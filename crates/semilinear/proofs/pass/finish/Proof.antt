@@ -26,21 +26,23 @@ put-terms-requires c κs =
       at-start .pre .2 more,
       at-start .pre .3,
       at-start .pre .4,
-      at-start .pre .0 .atoms-le,
-      terms-fit 0 0 0 [] false _ (now (at-start .args .out)) more (at-start .pre .0) (at-start .pre .1),
+      at-start .pre .0 more .atoms-le,
+      terms-fit 0 0 0 [] false _ (now (at-start .args .out)) more (at-start .pre .0 more) (at-start .pre .1),
     )
 
 put-sum-requires : tie.Need-put-sum-requires
 put-sum-requires c κs =
     let at-start = c .before .before .before .before .before .before .before .before in
-    sum-fits _ 0 _ _ false _ _ (c .before .before .before .before .before .if1 .left) (at-start .pre .0) (at-start .pre .1) (c .before .before .before .put-terms .ensures)
+    let more = c .before .before .before .before .before .if1 .left in
+    sum-fits _ 0 _ _ false _ _ more (at-start .pre .0 more) (at-start .pre .1) (c .before .before .before .put-terms .ensures)
 
 add-t20 : tie.Need-add-t20
 add-t20 c =
     let at-start = c .before .before .before .before .before .before .before .before .before .before .before in
+    let more = c .before .before .before .before .before .before .before .before .if1 .left in
     omega (
       arith,
-      sum-end _ 0 _ _ false _ _ (c .before .before .before .before .before .before .before .before .if1 .left) (at-start .pre .0) (at-start .pre .1) (c .before .before .before .before .before .before .put-terms .ensures),
+      sum-end _ 0 _ _ false _ _ more (at-start .pre .0 more) (at-start .pre .1) (c .before .before .before .before .before .before .put-terms .ensures),
     )
 
 same-length-2 : tie.Need-same-length-2
@@ -49,7 +51,8 @@ same-length-2 c = search needs
 returns-2 : tie.Need-returns-2
 returns-2 c =
     let at-start = c .before .before .before .before .before .before .before .before .before .before .before in
-    finished-form _ _ _ _ _ _ _ (c .before .before .before .before .before .before .before .before .if1 .left) (at-start .pre .0) (at-start .pre .1) (c .before .before .before .before .before .before .put-terms .ensures)
+    let more = c .before .before .before .before .before .before .before .before .if1 .left in
+    finished-form _ _ _ _ _ _ _ more (at-start .pre .0 more) (at-start .pre .1) (c .before .before .before .before .before .before .put-terms .ensures)
     (c .before .before .put-sum .ensures)
 
 pub finish-spec : {M : Type 1} → statement M

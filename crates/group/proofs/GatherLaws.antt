@@ -1,0 +1,93 @@
+-- Laws of the group that the words give (specs/Gathered.antt): a turn of the loop, how many entries there are, and that
+-- it is the group of the basis (specs/Group.antt).
+use mathlib.Core.Path.{_≡_, refl, ap, sym, _∙_}
+use Prim.Native.Nat.{ℕ, _+_, _≤_, _<_}
+use native.Mathlib.Omega.{arith}
+use native.Mathlib.Decide.{ℕ-discrete}
+use mathlib.Core.List.{List, [], _∷_}
+use mathlib.Core.Bool.{Bool, true, false}
+use lib.ListN.{length, getD}
+use Rattle.record.specs.Loop.{forIn}
+use Rattle.record.specs.Tree.{Tree}
+use Rattle.record.specs.Decode.{decode}
+use Rattle.record.proofs.LoopLaws.{for-ind}
+use Rattle.semilinear.specs.Form.{Row, eqTree}
+use Rattle.group.specs.declared.Group.{Group}
+use Rattle.group.specs.Group.{emptyGroup, pushEntry, groupOf}
+use Rattle.group.specs.Made.{Basis}
+use Rattle.group.specs.Views.{viewAt, basisBytes, blankRow, Views, hasBasis}
+use Rattle.group.specs.Gathered.{gatherAt, gathered}
+use Rattle.group.proofs.GroupOfLaws.{group-opaque, group-same, group-other}
+use Rattle.group.proofs.ViewsLaws.{row-opaque, row-masked}
+use Rattle.group.proofs.HasBasisLaws.{basis-opaque, basis-tree}
+use Rattle.group.proofs.FirstRowsLaws.{rows-loop}
+
+module _ (f views : List ℕ) (hash : ℕ) (b : List ℕ) where
+  module _ (i : ℕ) (g : Group) where
+    pub gather-same : hasBasis f (viewAt views i) hash b ≡ false → gatherAt f views hash b i g ≡ g
+    unfolding gatherAt
+    gather-same e = simp e
+
+    pub gather-push : hasBasis f (viewAt views i) hash b ≡ true
+        → gatherAt f views hash b i g ≡ pushEntry g (viewAt views i .coeff) (viewAt views i .mask) i
+    unfolding gatherAt
+    gather-push e = simp e
+
+    gather-len : g .len ≤ i → gatherAt f views hash b i g .len ≤ i + 1
+    unfolding pushEntry
+    gather-len h = go (hasBasis f (viewAt views i) hash b) refl
+      where
+        go : (x : Bool) → hasBasis f (viewAt views i) hash b ≡ x → gatherAt f views hash b i g .len ≤ i + 1
+        go true e = rw (gather-push e) (omega arith)
+        go false e = rw (gather-same e) (omega arith)
+
+  -- at most one entry for each row
+  gathered-few : (n : ℕ) → forIn (gatherAt f views hash b) 0 n emptyGroup .len ≤ n
+  unfolding emptyGroup
+  gathered-few n =
+      for-ind (λ (k : ℕ) (g : Group). g .len ≤ k) (gatherAt f views hash b) 0 emptyGroup n (omega arith)
+      (λ i g a u h. gather-len i g h) (omega arith)
+
+  pub few-entries : (n : ℕ) {g : Group} → g ≡ forIn (gatherAt f views hash b) 0 n emptyGroup → g .len ≤ n
+  few-entries n e = rw e (gathered-few n)
+
+  pub len-gathered : (n : ℕ) → gathered f views hash b n .len ≤ n
+  unfolding gathered
+  len-gathered n = gathered-few n
+
+  -- the group of the basis
+  module _ (only : Tree → Bool) (w : ℕ) (rows : List Row) (h : Views only w f views rows) (o : Basis w hash b) where
+    turn : (k : ℕ) (g : Group) → k < length rows → (l : List Row)
+        → groupOf only w (decode b) k (getD rows k blankRow ∷ l) g
+        ≡ groupOf only w (decode b) (k + 1) l (gatherAt f views hash b k g)
+    turn k g lt l =
+        go (ℕ-discrete (viewAt views k .end) 0) (eqTree w (decode (basisBytes f (viewAt views k))) (decode b)) refl
+      where
+        x : Row
+        x = getD rows k blankRow
+
+        go : Dec (viewAt views k .end ≡ 0) → (y : Bool)
+            → eqTree w (decode (basisBytes f (viewAt views k))) (decode b) ≡ y
+            → groupOf only w (decode b) k (getD rows k blankRow ∷ l) g
+            ≡ groupOf only w (decode b) (k + 1) l (gatherAt f views hash b k g)
+        go (yes z) y e =
+            group-opaque only w (decode b) k x l g (row-opaque only w f (viewAt views k) x (h .each k lt) z)
+            ∙ ap (groupOf only w (decode b) (k + 1) l)
+            (sym (gather-same k g (basis-opaque f (viewAt views k) hash b z)))
+        go (no n) true e =
+            let same = basis-tree f (viewAt views k) hash b w (h .each k lt .in-group n) o n in
+            group-same only w (decode b) k x l g (row-masked only w f (viewAt views k) x (h .each k lt) n) e
+            ∙ ap (λ (c : ℕ). groupOf only w (decode b) (k + 1) l (pushEntry g c (viewAt views k .mask) k))
+            (sym (h .each k lt .coeff n))
+            ∙ ap (groupOf only w (decode b) (k + 1) l) (sym (gather-push k g (same ∙ e)))
+        go (no n) false e =
+            let same = basis-tree f (viewAt views k) hash b w (h .each k lt .in-group n) o n in
+            group-other only w (decode b) k x l g (row-masked only w f (viewAt views k) x (h .each k lt) n) e
+            ∙ ap (groupOf only w (decode b) (k + 1) l) (sym (gather-same k g (same ∙ e)))
+
+    pub gather-group : gathered f views hash b (length rows) ≡ groupOf only w (decode b) 0 rows emptyGroup
+    unfolding gathered groupOf
+    gather-group =
+        sym
+        (rows-loop rows (groupOf only w (decode b)) (gatherAt f views hash b) (λ (k : ℕ) (g : Group). Unit {0})
+        (λ k g lt q. tt) (λ k g lt q l. turn k g lt l) emptyGroup tt)

@@ -1,0 +1,29 @@
+-- `put_view` meets its contract: five words are put.
+use Rattle.group.specs.Views.{viewWords}
+use borrow.Author.Needs.{needs}
+use Rattle.group.proofs.views.put_view.Statement.{statement}
+use Rattle.group.proofs.views.put_view.Tie as tie
+use Rattle.group.proofs.views.put_view.Reads as reads
+use Rattle.group.proofs.views.put_view.Lts as lts
+use Rattle.record.proofs.write.put_words.Reads as put-words-reads
+
+mul-put-words : tie.Need-mul-put-words
+mul-put-words c = search needs
+
+slice-aggregate-put-words : tie.Need-slice-aggregate-put-words
+slice-aggregate-put-words c = search needs
+
+put-words-requires : tie.Need-put-words-requires
+put-words-requires c κs = search needs
+
+same-length : tie.Need-same-length
+same-length c = search needs
+
+returns : tie.Need-returns
+unfolding viewWords
+returns c = c .before .before .put-words .ensures
+
+pub put-view-spec : {M : Type 1} → statement M
+put-view-spec =
+    tie.close
+    (tie.spec mul-put-words slice-aggregate-put-words put-words-requires same-length returns)

@@ -1,0 +1,122 @@
+-- `view_of` meets its contract: no coefficient, no basis, a basis that does not count, or one that does.
+use mathlib.Core.Path.{_≡_, refl, sym, _∙_}
+use mathlib.Core.Logic.{⊎-elim}
+use denote.Ref.{now}
+use borrow.Author.Tests.{not-true, not-false}
+use Rattle.expr.proofs.RefusalLaws.{sized-accepted}
+use Rattle.group.proofs.ViewLaws.{view-none}
+use Rattle.group.proofs.ViewsLaws.{viewed-none}
+use Rattle.group.proofs.SplitLaws.{viewed-opaque, viewed-other, viewed-basis}
+use Rattle.group.proofs.SplitLaws.{basis-sized, basis-big, counts-variable, counts-any}
+use borrow.Author.Needs.{needs}
+use Rattle.group.proofs.views.view_of.Statement.{statement}
+use Rattle.group.proofs.views.view_of.Tie as tie
+use Rattle.group.proofs.views.view_of.Reads as reads
+use Rattle.group.proofs.views.view_of.Lts as lts
+use Rattle.expr.proofs.hash.structural_hash.Reads as structural-hash-reads
+use Rattle.group.proofs.views.no_view.Reads as no-view-reads
+use Rattle.record.proofs.kind.Reads as kind-reads
+use Rattle.semilinear.proofs.decompose.decompose_atom.Reads as decompose-atom-reads
+
+no-view-requires : tie.Need-no-view-requires
+no-view-requires c κs = search needs
+
+returns : tie.Need-returns
+returns c =
+    λ x et ec. viewed-none _ _ _ _ x (c .no-view .ensures) (view-none _ _ x (ec ∙ c .before .if1 .taken))
+
+sub-decompose-atom : tie.Need-sub-decompose-atom
+sub-decompose-atom c = search needs
+
+part-decompose-atom-start : tie.Need-part-decompose-atom-start
+part-decompose-atom-start c = search needs
+
+part-decompose-atom-end : tie.Need-part-decompose-atom-end
+part-decompose-atom-end c = search needs
+
+decompose-atom-requires : tie.Need-decompose-atom-requires
+decompose-atom-requires c κs = (sized-accepted _ _ (c .before .before .before .pre .3), c .before .before .before .pre .0)
+
+no-view-requires-2 : tie.Need-no-view-requires-2
+no-view-requires-2 c κs = search needs
+
+returns-2 : tie.Need-returns-2
+returns-2 c =
+    λ x et ec.
+    viewed-opaque _ (now (c .before .before .before .before .before .before .before .args .f)) (λ i. c .before .before .before .before .before .before .shared-slice-known .given i .fits) (c .before .before .before .before .before .before .before .args .from) (c .before .before .before .before .before .before .before .args .to)
+    (c .before .before .before .before .before .before .before .pre .1) (c .before .before .before .before .before .before .before .pre .2) (c .before .before .before .before .before .before .before .pre .3) (c .before .before .before .decompose-atom .ensures)
+    (not-true _ (c .before .if2 .taken)) (c .before .before .before .before .before .before .before .args .only) x et (λ z. c .before .before .before .before .before .if1 .left (sym ec ∙ z)) _ (c .no-view2 .ensures)
+
+add-start : tie.Need-add-start
+add-start c = search needs
+
+add-end : tie.Need-add-end
+add-end c = search needs
+
+sub-b : tie.Need-sub-b
+sub-b c = search needs
+
+part-b-start : tie.Need-part-b-start
+part-b-start c = search needs
+
+part-b-end : tie.Need-part-b-end
+part-b-end c = search needs
+
+kind-requires : tie.Need-kind-requires
+kind-requires c κs =
+    basis-big _ (now (c .before .before .before .before .before .before .before .before .before .before .args .f)) (λ i. c .before .before .before .before .before .before .before .before .before .shared-slice-known .given i .fits) (c .before .before .before .before .before .before .before .before .before .before .args .from) (c .before .before .before .before .before .before .before .before .before .before .args .to)
+    (c .before .before .before .before .before .before .before .before .before .before .pre .1) (c .before .before .before .before .before .before .before .before .before .before .pre .2) (c .before .before .before .before .before .before .before .before .before .before .pre .3) (c .before .before .before .before .before .before .decompose-atom .ensures) (not-false _ (c .before .before .before .before .if2 .left)) refl
+
+no-view-requires-3 : tie.Need-no-view-requires-3
+no-view-requires-3 c κs = search needs
+
+returns-3 : tie.Need-returns-3
+returns-3 c =
+    λ x et ec.
+    viewed-other _ (now (c .before .before .before .before .before .before .before .before .before .before .before .before .before .args .f)) (λ i. c .before .before .before .before .before .before .before .before .before .before .before .before .shared-slice-known .given i .fits) (c .before .before .before .before .before .before .before .before .before .before .before .before .before .args .from) (c .before .before .before .before .before .before .before .before .before .before .before .before .before .args .to)
+    (c .before .before .before .before .before .before .before .before .before .before .before .before .before .pre .1) (c .before .before .before .before .before .before .before .before .before .before .before .before .before .pre .2) (c .before .before .before .before .before .before .before .before .before .before .before .before .before .pre .3) (c .before .before .before .before .before .before .before .before .before .decompose-atom .ensures) (not-false _ (c .before .before .before .before .before .before .before .if2 .left)) refl
+    (c .before .before .before .before .before .before .before .before .before .before .before .before .before .args .only) x et (λ z. c .before .before .before .before .before .before .before .before .before .before .before .if1 .left (sym ec ∙ z)) _ (c .no-view3 .ensures) (c .before .before .before .if3 .taken)
+    (λ k. c .before .if4 .taken (c .before .before .kind .ensures ∙ k))
+
+structural-hash-requires : tie.Need-structural-hash-requires
+structural-hash-requires c κs =
+    basis-sized _ (now (c .before .before .before .before .before .before .before .before .before .before .args .f)) (λ i. c .before .before .before .before .before .before .before .before .before .shared-slice-known .given i .fits) (c .before .before .before .before .before .before .before .before .before .before .args .from) (c .before .before .before .before .before .before .before .before .before .before .args .to)
+    (c .before .before .before .before .before .before .before .before .before .before .pre .1) (c .before .before .before .before .before .before .before .before .before .before .pre .2) (c .before .before .before .before .before .before .before .before .before .before .pre .3) (c .before .before .before .before .before .before .decompose-atom .ensures) (not-false _ (c .before .before .before .before .if2 .left)) refl
+
+returns-4 : tie.Need-returns-4
+returns-4 c =
+    λ x et ec.
+    let n : x .coeff ≡ 0 → ⊥ = λ z. c .before .before .before .before .before .before .before .before .before .if1 .left (sym ec ∙ z) in
+    viewed-basis _ (now (c .before .before .before .before .before .before .before .before .before .before .before .args .f)) (λ i. c .before .before .before .before .before .before .before .before .before .before .shared-slice-known .given i .fits) (c .before .before .before .before .before .before .before .before .before .before .before .args .from) (c .before .before .before .before .before .before .before .before .before .before .before .args .to)
+    (c .before .before .before .before .before .before .before .before .before .before .before .pre .1) (c .before .before .before .before .before .before .before .before .before .before .before .pre .2) (c .before .before .before .before .before .before .before .before .before .before .before .pre .3) (c .before .before .before .before .before .before .before .decompose-atom .ensures) (not-false _ (c .before .before .before .before .before .if2 .left)) refl
+    (c .before .before .before .before .before .before .before .before .before .before .before .args .only) x et n (c .structural-hash .ensures) ec
+    (⊎-elim
+    (λ k. counts-variable _ (now (c .before .before .before .before .before .before .before .before .before .before .before .args .f)) (λ i. c .before .before .before .before .before .before .before .before .before .before .shared-slice-known .given i .fits) (c .before .before .before .before .before .before .before .before .before .before .before .args .from) (c .before .before .before .before .before .before .before .before .before .before .before .args .to)
+    (c .before .before .before .before .before .before .before .before .before .before .before .pre .1) (c .before .before .before .before .before .before .before .before .before .before .before .pre .2) (c .before .before .before .before .before .before .before .before .before .before .before .pre .3) (c .before .before .before .before .before .before .before .decompose-atom .ensures) (not-false _ (c .before .before .before .before .before .if2 .left)) refl (c .before .before .before .before .before .before .before .before .before .before .before .args .only) x et n (k .0 .taken)
+    (sym (k .1 .ensures) ∙ k .2 .left))
+    (λ k. counts-any _ (now (c .before .before .before .before .before .before .before .before .before .before .before .args .f)) (λ i. c .before .before .before .before .before .before .before .before .before .before .shared-slice-known .given i .fits) (c .before .before .before .before .before .before .before .before .before .before .before .args .from) (c .before .before .before .before .before .before .before .before .before .before .before .args .to)
+    (c .before .before .before .before .before .before .before .before .before .before .before .pre .1) (c .before .before .before .before .before .before .before .before .before .before .before .pre .2) (c .before .before .before .before .before .before .before .before .before .before .before .pre .3) (c .before .before .before .before .before .before .before .decompose-atom .ensures) (not-false _ (c .before .before .before .before .before .if2 .left)) refl (c .before .before .before .before .before .before .before .before .before .before .before .args .only) x et n (k .left))
+    (c .before .if3 .came))
+
+pub view-of-spec : {M : Type 1} → statement M
+view-of-spec =
+    tie.close
+    (tie.spec
+    no-view-requires
+    returns
+    sub-decompose-atom
+    part-decompose-atom-start
+    part-decompose-atom-end
+    decompose-atom-requires
+    no-view-requires-2
+    returns-2
+    add-start
+    add-end
+    sub-b
+    part-b-start
+    part-b-end
+    kind-requires
+    no-view-requires-3
+    returns-3
+    structural-hash-requires
+    returns-4)

@@ -1,0 +1,36 @@
+// The end of a pass on a group: what its entries add to the coefficients of the rows.
+ghost use mathlib.Core.Path.{_≡_};
+ghost use Prim.Native.Nat.{_≤_};
+ghost use Rattle.group.specs.Gathered.{addWord, settleWords};
+
+// c added to word a, where there is one.
+fn add_word(coeffs: &mut [u64], a: u64, c: u64, w: u32)
+    ensures { λ _. ⌜ now (coeffs .exit) ≡ addWord w c a (now (coeffs .entry)) ⌝ }
+{
+    let j = a as usize;
+    if j < coeffs.len() {
+        coeffs[j] = arith::mod_add(coeffs[j], c, w);
+    }
+}
+
+// Every entry, of n, that is not consumed is added to the coefficient of its row.
+pub fn settle<'a>(
+    from: &'a [u64; 256],
+    atoms: &'a [u64; 256],
+    marks: &'a [u8; 256],
+    n: usize,
+    coeffs: &mut [u64],
+    w: u32,
+)
+    requires { ⌜ n ≤ 256 ⌝ }
+    ensures { λ _. ⌜ now (coeffs .exit) ≡ settleWords w (now (from .entry)) (now (atoms .entry))
+        (now (marks .entry)) n (now (coeffs .entry)) ⌝ }
+{
+    let mut i = 0;
+    while i < n {
+        if marks[i] != 1 {
+            add_word(coeffs, atoms[i], from[i], w);
+        }
+        i += 1;
+    }
+}
