@@ -2,6 +2,7 @@
 pub mod ViewLaws
 pub mod EntryLaws
 pub mod TotalLaws
+pub mod CoeffsLaws
 pub mod WorkLaws
 pub mod BasesLaws
 pub mod GroupsLaws
@@ -29,4 +30,5 @@ pub mod InsertLaws
 pub mod FirstRowsLaws
 pub mod GatherLaws
 pub mod SettleWordsLaws
+pub mod ShownLaws
 pub mod NextBasisLaws

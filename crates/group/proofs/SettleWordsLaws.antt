@@ -7,7 +7,6 @@ use native.Mathlib.Decide.{ℕ-discrete}
 use mathlib.Core.List.{List, [], _∷_, _++_}
 use mathlib.Core.Bool.{true, not}
 use lib.ListN.{length, getD, replicate, length-set, length-map, length-append}
-use lib.Seq.{append-snoc}
 use lib.Dec.{eqb}
 use borrow.Author.Tests.{eq-eqb, ne-eqb}
 use Rattle.record.specs.Loop.{forIn}
@@ -55,17 +54,6 @@ unfolding addWord coeffsOf addCoeff
 add-word w c z [] j h = absurd (omega (arith, h))
 add-word w c z (x ∷ l) zero h = refl
 add-word w c z (x ∷ l) (suc j) h = ap (λ (m : List ℕ). x .coeff ∷ m) (add-word w c z l j (omega (arith, h)))
-
--- a row more, without a term, where there is a word for it
-pub coeffs-create : (m p : ℕ) (t : Tree) (l : List Row) → length l < m
-    → padded m (coeffsOf (createRow p t l)) ≡ padded m (coeffsOf l)
-unfolding padded createRow coeffsOf
-coeffs-create m p t l h =
-    let x : Row = record { provenance = p; tree = t; coeff = 0 } in
-    let e : coeffsOf (l ++ (x ∷ [])) ≡ coeffsOf l ++ (0 ∷ []) = coeffs-append l (x ∷ []) in
-    let n : m - length (coeffsOf l) ≡ suc (m - length (coeffsOf l ++ (0 ∷ []))) =
-    omega (arith, length-append (coeffsOf l) (0 ∷ []), length-coeffs l) in
-    rw (e, n) (append-snoc (coeffsOf l) 0 (replicate (m - length (coeffsOf l ++ (0 ∷ []))) 0))
 
 module _ (w : ℕ) (hw : w ≤ 64) (g : Group) (m : ℕ) (l : List Row) where
   -- as many rows as before, and the words are their coefficients

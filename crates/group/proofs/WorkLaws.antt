@@ -14,14 +14,17 @@ use lib.Pow.{pow-pos}
 use borrow.Author.Tests.{eq-eqb, ne-eqb}
 use Rattle.arith.proofs.MaskLaws.{and-full}
 use Rattle.record.specs.Choice.{when}
+use Rattle.record.specs.Put.{padded}
 use Rattle.record.specs.Tree.{Tree}
 use Rattle.record.specs.Tree.Tree.{Constant, Binary}
 use Rattle.expr.specs.Value.{value, binary}
 use Rattle.expr.proofs.ValueLaws.{value-lt}
-use Rattle.semilinear.specs.Form.{Row, sumRows, isAtomTree, rowOk, rowsOk}
+use Rattle.semilinear.specs.Form.{Row, sumRows, isAtomTree, rowOk, rowsOk, fitsTable}
+use Rattle.semilinear.specs.Terms.{coeffsOf}
 use Rattle.group.specs.Group.{createRow, maskedTree, createMasked}
 use Rattle.semilinear.proofs.FormLaws.{good-row, rows-cons}
 use Rattle.semilinear.proofs.AtomLaws.{atom-tree, tree-atom, masked-atom}
+use Rattle.group.proofs.CoeffsLaws.{coeffs-create, fits-less}
 
 -- ---- the value of a row's tree
 
@@ -57,16 +60,26 @@ rows-ok-more w (y ∷ l) x h ok =
 
 -- ---- rows added without a term
 
--- after has the rows of before, perhaps others too, and the same sum
+-- after has the rows of before, perhaps others without a term too, and the same sum
 pub record Grown (w : ℕ) (vars : List ℕ) (before after : List Row) : Type 0 where
   pub longer : length before ≤ length after
   pub older : (j : ℕ) → j < length before → rowValue w vars after j ≡ rowValue w vars before j
   pub sum-same : sumRows w vars after ≡ sumRows w vars before
   pub rows-ok : rowsOk w before ≡ true → rowsOk w after ≡ true
+  pub fits : fitsTable after ≡ true → fitsTable before ≡ true
+  pub coeffs : (n : ℕ) → length after ≤ n → padded n (coeffsOf after) ≡ padded n (coeffsOf before)
 
 module _ (w : ℕ) (vars : List ℕ) where
   pub grown-refl : (l : List Row) → Grown w vars l l
-  grown-refl l = record { longer = omega arith; older = λ j h. refl; sum-same = refl; rows-ok = λ h. h }
+  grown-refl l =
+      record {
+        longer = omega arith;
+        older = λ j h. refl;
+        sum-same = refl;
+        rows-ok = λ h. h;
+        fits = λ h. h;
+        coeffs = λ n h. refl;
+      }
 
   pub grown-trans : {l m n : List Row} → Grown w vars l m → Grown w vars m n → Grown w vars l n
   grown-trans {l} {m} {n} p q =
@@ -75,6 +88,8 @@ module _ (w : ℕ) (vars : List ℕ) where
         older = λ j h. q .older j (omega (arith, p .longer)) ∙ p .older j h;
         sum-same = q .sum-same ∙ p .sum-same;
         rows-ok = λ h. q .rows-ok (p .rows-ok h);
+        fits = λ h. p .fits (q .fits h);
+        coeffs = λ k h. q .coeffs k h ∙ p .coeffs k (omega (arith, q .longer, h));
       }
 
   module _ (p : ℕ) (t : Tree) (l : List Row) where
@@ -95,6 +110,8 @@ module _ (w : ℕ) (vars : List ℕ) where
           older = row-value-before w vars l (x ∷ []);
           sum-same = sum-rows-more w vars l x refl;
           rows-ok = rows-ok-more w l x (good-row w x (record { known = hp; atom = ht; fits = pow-pos w }));
+          fits = fits-less l (x ∷ []);
+          coeffs = λ n h. coeffs-create n p t l (omega (arith, length-create, h));
         }
 
 -- ---- the basis under a mask

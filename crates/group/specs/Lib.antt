@@ -4,6 +4,7 @@ pub mod Group
 pub mod Steps
 pub mod Collapse
 pub mod Made
+pub mod Shown
 pub mod Pair
 pub mod Bucket
 pub mod Stages
