@@ -51,6 +51,14 @@ part-part f a n s e h k =
 
 -- ---- which bases count
 
+pub only-any : onlyOf false ≡ anyBasis
+unfolding onlyOf
+only-any = refl
+
+pub only-variable : onlyOf true ≡ variableBasis
+unfolding onlyOf
+only-variable = refl
+
 variable-kind : (b : List ℕ) → sized b ≡ true → kind b ≡ 1 → variableBasis (decode b) ≡ true
 unfolding variableBasis leaf
 variable-kind b ok e =
