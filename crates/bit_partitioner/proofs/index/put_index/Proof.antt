@@ -47,10 +47,10 @@ returns c =
     let at-loop = at-rest-from .before in
     let at-start = at-loop .before .before .before in
     let f = now (at-start .args .f) in
-    indexing-all f (at-loop .loop .index) (at-loop .loop .edges) (at-loop .loop .at) (at-loop .loop .i)
-    (at-loop .loop .inv .0)
-    (ap isAtom (sym (at-rest-from .rest-from .ensures)) ∙ sym (c .before .is-atom .ensures) ∙ not-true _
-    (c .if1 .taken))
+    indexing-all _ _ _ _ _ (at-loop .loop .inv .0)
+    (ap isAtom (sym (at-rest-from .rest-from .ensures))
+    ∙ sym (c .before .is-atom .ensures)
+    ∙ not-true _ (c .if1 .taken))
     (omega (arith, trees-count f, at-start .pre .1, at-loop .loop .inv .1))
 
 tree-span-requires : tie.Need-tree-span-requires Inv-loop μ-loop
@@ -61,10 +61,8 @@ atom-words-requires c κs =
     let at-is-atom = c .before .before in
     let at-rest-from = at-is-atom .before in
     let at-loop = at-rest-from .before in
-    let at-start = at-loop .before .before .before in
     ap sized (c .tree-span .ensures)
-    ∙ here-sized (now (at-start .args .f)) (at-loop .loop .index) (at-loop .loop .edges) (at-loop .loop .at)
-    (at-loop .loop .i) (at-loop .loop .inv .0) _ (at-rest-from .rest-from .ensures)
+    ∙ here-sized _ _ _ _ _ (at-loop .loop .inv .0) _ (at-rest-from .rest-from .ensures)
     (sym (at-is-atom .is-atom .ensures) ∙ not-false _ (c .before .if1 .left))
 
 mul-put-words : tie.Need-mul-put-words Inv-loop μ-loop
@@ -75,11 +73,8 @@ mul-put-words c =
     let at-loop = at-rest-from .before in
     let at-start = at-loop .before .before .before in
     let f = now (at-start .args .f) in
-    let index = at-loop .loop .index in
     let ea = sym (at-is-atom .is-atom .ensures) ∙ not-false _ (at-if1 .if1 .left) in
-    let more =
-    here-count f index (at-loop .loop .edges) (at-loop .loop .at) (at-loop .loop .i) (at-loop .loop .inv .0) _
-    (at-rest-from .rest-from .ensures) ea in
+    let more = here-count _ _ _ _ _ (at-loop .loop .inv .0) _ (at-rest-from .rest-from .ensures) ea in
     omega (arith, more, trees-count f, at-start .pre .1)
 
 slice-aggregate-put-words : tie.Need-slice-aggregate-put-words Inv-loop μ-loop
@@ -96,11 +91,8 @@ put-words-requires c κs =
     let at-loop = at-rest-from .before in
     let at-start = at-loop .before .before .before in
     let f = now (at-start .args .f) in
-    let index = at-loop .loop .index in
     let ea = sym (at-is-atom .is-atom .ensures) ∙ not-false _ (at-if1 .if1 .left) in
-    let more =
-    here-count f index (at-loop .loop .edges) (at-loop .loop .at) (at-loop .loop .i) (at-loop .loop .inv .0) _
-    (at-rest-from .rest-from .ensures) ea in
+    let more = here-count _ _ _ _ _ (at-loop .loop .inv .0) _ (at-rest-from .rest-from .ensures) ea in
     let nine = ap length (at-atom-words .atom-words .ensures) ∙ length-words _ _ in
     omega (arith, more, nine, trees-count f, at-start .pre .1, at-loop .loop .inv .1)
 
@@ -119,12 +111,8 @@ add-at c =
     let at-is-atom = at-if1 .before in
     let at-rest-from = at-is-atom .before in
     let at-loop = at-rest-from .before in
-    let at-start = at-loop .before .before .before in
-    let f = now (at-start .args .f) in
     let ea = sym (at-is-atom .is-atom .ensures) ∙ not-false _ (at-if1 .if1 .left) in
-    let inside =
-    here-inside f (at-loop .loop .index) (at-loop .loop .edges) (at-loop .loop .at) (at-loop .loop .i)
-    (at-loop .loop .inv .0) _ (at-rest-from .rest-from .ensures) ea in
+    let inside = here-inside _ _ _ _ _ (at-loop .loop .inv .0) _ (at-rest-from .rest-from .ensures) ea in
     omega (arith, inside, c .atom-length .ensures .0)
 
 add-i : tie.Need-add-i Inv-loop μ-loop
@@ -136,9 +124,7 @@ add-i c =
     let at-start = at-loop .before .before .before in
     let f = now (at-start .args .f) in
     let ea = sym (at-is-atom .is-atom .ensures) ∙ not-false _ (at-if1 .if1 .left) in
-    let more =
-    here-count f (at-loop .loop .index) (at-loop .loop .edges) (at-loop .loop .at) (at-loop .loop .i)
-    (at-loop .loop .inv .0) _ (at-rest-from .rest-from .ensures) ea in
+    let more = here-count _ _ _ _ _ (at-loop .loop .inv .0) _ (at-rest-from .rest-from .ensures) ea in
     omega (arith, more, trees-count f, at-start .pre .1)
 
 loop-less : tie.Need-loop-less Inv-loop μ-loop
@@ -147,12 +133,8 @@ loop-less c =
     let at-is-atom = at-if1 .before in
     let at-rest-from = at-is-atom .before in
     let at-loop = at-rest-from .before in
-    let at-start = at-loop .before .before .before in
-    let f = now (at-start .args .f) in
     let ea = sym (at-is-atom .is-atom .ensures) ∙ not-false _ (at-if1 .if1 .left) in
-    let inside =
-    here-inside f (at-loop .loop .index) (at-loop .loop .edges) (at-loop .loop .at) (at-loop .loop .i)
-    (at-loop .loop .inv .0) _ (at-rest-from .rest-from .ensures) ea in
+    let inside = here-inside _ _ _ _ _ (at-loop .loop .inv .0) _ (at-rest-from .rest-from .ensures) ea in
     omega (arith, inside, c .atom-length .ensures .0, c .atom-length .ensures .1)
 
 loop-again : tie.Need-loop-again Inv-loop μ-loop
@@ -169,8 +151,7 @@ loop-again c =
     let index = at-loop .loop .index in
     let ea = sym (at-is-atom .is-atom .ensures) ∙ not-false _ (at-if1 .if1 .left) in
     let er = at-rest-from .rest-from .ensures in
-    let more =
-    here-count f index (at-loop .loop .edges) (at-loop .loop .at) (at-loop .loop .i) (at-loop .loop .inv .0) _ er ea in
+    let more = here-count _ _ _ _ _ (at-loop .loop .inv .0) _ er ea in
     let ew =
     at-atom-words .atom-words .ensures
     ∙ ap (λ (s : List ℕ). atomWords (at-loop .loop .at) (decode s)) (at-tree-span .tree-span .ensures) in
@@ -178,8 +159,7 @@ loop-again c =
     omega (arith, more, trees-count f, at-start .pre .1, at-loop .loop .inv .1) in
     let nine = ap length (at-atom-words .atom-words .ensures) ∙ length-words _ _ in
     rw (c .atom-length .ensures .0) (
-      indexing-atom f index (at-loop .loop .edges) (at-loop .loop .at) (at-loop .loop .i) (at-loop .loop .inv .0) _ er
-          ea ew room (at-put-words .put-words .ensures),
+      indexing-atom _ _ _ _ _ (at-loop .loop .inv .0) _ er ea ew room (at-put-words .put-words .ensures),
       ap length (at-put-words .put-words .ensures)
           ∙ length-put index (9 * at-loop .loop .i) (at-atom-words .atom-words .result) (omega (arith, nine))
           ∙ at-loop .loop .inv .1,

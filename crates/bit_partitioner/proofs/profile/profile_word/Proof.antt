@@ -42,7 +42,6 @@ shared-slice-read-at c = search needs
 rest-from-requires : tie.Need-rest-from-requires
 rest-from-requires c κs =
     let at-start = c .before .before .before .before .before in
-    let f = now (at-start .args .f) in
     let index = now (at-start .args .index) in
     let i = at-start .args .i in
     let e = at-start .pre .0 .entry i (at-start .pre .1) in
