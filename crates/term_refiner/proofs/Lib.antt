@@ -5,3 +5,4 @@ pub mod MergeLaws
 pub mod CollapseLaws
 pub mod RefineLaws
 pub mod RefineFormLaws
+pub mod RefiningLaws

@@ -27,11 +27,12 @@ ghost use Rattle.group.specs.Gathered.{gathered};
 ghost use Rattle.term_refiner.specs.RefineTerms.{refineForm, refineTerms};
 ghost use Rattle.term_refiner.specs.Refining.{GroupRefined};
 
-// One group: the rows, of n, that have the basis of row `first` are gathered, the steps are taken in
-// the Rust's order, and what is left is added to the rows. A stage that would leave the group as it
+// One group: the rows, of n, that have the basis b with this hash are gathered, the steps are taken
+// in the Rust's order, and what is left is added to the rows. A stage that would leave the group as it
 // is is not taken, so that the group moves only where it changes.
 fn refine_group(
-    first: usize,
+    hash: u64,
+    b: &[u8],
     n: usize,
     views: &[u64],
     f: &[u8],
@@ -40,21 +41,13 @@ fn refine_group(
     coeffs: &mut [u64],
     out: &mut [u8],
 )
-    requires { ⌜ Room (now made) (now out) × Readable (now f) (now views) n × (first < n) × (n ≤ 256)
-        × InGroup w (now f) (viewAt (now views) first)
-        × (getD (now made) 4 0 + 262144 < 2 ^ 64) × (w ≤ 64) ⌝ }
-    ensures { λ _. ⌜ GroupRefined w 262144
-        (decode (basisBytes (now (f .entry)) (viewAt (now (views .entry)) first)))
-        (gathered (now (f .entry)) (now (views .entry)) (viewAt (now (views .entry)) first .hash)
-        (basisBytes (now (f .entry)) (viewAt (now (views .entry)) first)) n)
+    requires { ⌜ Room (now made) (now out) × Readable (now f) (now views) n × (n ≤ 256)
+        × Basis w hash (now b) × (getD (now made) 4 0 + 262144 < 2 ^ 64) × (w ≤ 64) ⌝ }
+    ensures { λ _. ⌜ GroupRefined w 262144 (decode (now (b .entry)))
+        (gathered (now (f .entry)) (now (views .entry)) hash (now (b .entry)) n)
         (now (made .entry)) (now (out .entry)) (now (coeffs .entry))
         (now (made .exit)) (now (out .exit)) (now (coeffs .exit)) ⌝ }
 {
-    let v = views::VIEW_WORDS * first;
-    let hash = views[v + 1];
-    let start = views[v + 2] as usize;
-    let end = views[v + 3] as usize;
-    let b = &f[start..end];
     let mut g = Group::gather(n, hash, b, views, f);
     let len = g.len;
     if stages::any_single(&g.coeffs, &g.masks, &g.marks, len, w as u32) {
