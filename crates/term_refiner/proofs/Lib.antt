@@ -6,3 +6,4 @@ pub mod CollapseLaws
 pub mod RefineLaws
 pub mod RefineFormLaws
 pub mod RefiningLaws
+pub mod AllRefinedLaws

@@ -10,8 +10,8 @@ use Rattle.record.specs.Tree.{Tree}
 use Rattle.semilinear.specs.Form.{Row, fitsTable}
 use Rattle.semilinear.specs.Terms.{coeffsOf}
 use Rattle.group.specs.declared.Group.{Group}
-use Rattle.group.specs.Group.{at, isLive, Work, work, emptyGroup, anyBasis, groupOf, settle}
-use Rattle.group.specs.Made.{Room, Later}
+use Rattle.group.specs.Group.{at, isLive, Work, work, emptyGroup, anyBasis, basesOf, groupOf, ungrouped, settle}
+use Rattle.group.specs.Made.{Room, Later, Held}
 use Rattle.group.specs.Shown.{Shown}
 use Rattle.term_refiner.specs.RefineTerms.{refineGroup, refineAll}
 
@@ -51,3 +51,11 @@ pub record AllRefined (w : ℕ) (before : List Row) (bases : List Tree) (made ou
   pub wide : length coeffs′ ≡ length coeffs
   pub shown : (l : List Row) → AllFair w before bases l → Shown w made out coeffs l
       → Shown w made′ out′ coeffs′ (refineAll w before bases l)
+
+-- the rows of a form refined: for a table that holds them, where refining them is fair
+pub record RowsRefined (w : ℕ) (rows : List Row) (made out made′ out′ coeffs′ : List ℕ) : Type 0 where
+  pub room : Room made′ out′
+  pub long : length out′ ≡ length out
+  pub wide : length coeffs′ ≡ 256
+  pub shown : AllFair w rows (basesOf anyBasis w rows []) (ungrouped anyBasis w rows) → Held w made out rows
+      → Shown w made′ out′ coeffs′ (refineAll w rows (basesOf anyBasis w rows []) (ungrouped anyBasis w rows))

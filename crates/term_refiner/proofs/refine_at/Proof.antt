@@ -1,0 +1,83 @@
+use borrow.Author.Needs.{needs}
+use Rattle.term_refiner.proofs.refine_at.Statement.{statement}
+use Rattle.term_refiner.proofs.refine_at.Tie as tie
+use Rattle.term_refiner.proofs.refine_at.Reads as reads
+use Rattle.term_refiner.proofs.refine_at.Lts as lts
+use Rattle.term_refiner.proofs.refine_group.Reads as refine-group-reads
+
+mul-v : tie.Need-mul-v
+mul-v c = search needs
+
+add-hash : tie.Need-add-hash
+add-hash c = search needs
+
+mul-hash : tie.Need-mul-hash
+mul-hash c = search needs
+
+shared-slice-read-hash : tie.Need-shared-slice-read-hash
+shared-slice-read-hash c = search needs
+
+add-start : tie.Need-add-start
+add-start c = search needs
+
+mul-start : tie.Need-mul-start
+mul-start c = search needs
+
+shared-slice-read-start : tie.Need-shared-slice-read-start
+shared-slice-read-start c = search needs
+
+add-end : tie.Need-add-end
+add-end c = search needs
+
+mul-end : tie.Need-mul-end
+mul-end c = search needs
+
+shared-slice-read-end : tie.Need-shared-slice-read-end
+shared-slice-read-end c = search needs
+
+sub-refine-group : tie.Need-sub-refine-group
+sub-refine-group c = ?
+
+part-refine-group-start : tie.Need-part-refine-group-start
+part-refine-group-start c = ?
+
+part-refine-group-end : tie.Need-part-refine-group-end
+part-refine-group-end c = ?
+
+refine-group-requires : tie.Need-refine-group-requires
+refine-group-requires c κs = ?
+
+same-length : tie.Need-same-length
+same-length c = search needs
+
+same-length-2 : tie.Need-same-length-2
+same-length-2 c = search needs
+
+same-length-3 : tie.Need-same-length-3
+same-length-3 c = search needs
+
+returns : tie.Need-returns
+returns c = ?
+
+pub refine-at-spec : {M : Type 1} → statement M
+refine-at-spec =
+    tie.close
+    (tie.spec
+    mul-v
+    add-hash
+    mul-hash
+    shared-slice-read-hash
+    add-start
+    mul-start
+    shared-slice-read-start
+    add-end
+    mul-end
+    shared-slice-read-end
+    sub-refine-group
+    part-refine-group-start
+    part-refine-group-end
+    refine-group-requires
+    same-length
+    same-length-2
+    same-length-3
+    returns)
