@@ -8,9 +8,10 @@ use lib.ListN.{length}
 use borrow.Author.Tests.{ne-eqb, eq-eqb}
 use Rattle.semilinear.specs.Form.{Form}
 use Rattle.bit_partitioner.specs.Partition.{PartitionClass, classesF, classesOf, classWords}
-use Rattle.bit_partitioner.proofs.PartitionLaws.{Class, Each, each-map}
+use Rattle.bit_partitioner.specs.Classes.{Each, HasWords}
+use Rattle.bit_partitioner.proofs.PartitionLaws.{Class, each-map}
 use Rattle.bit_partitioner.proofs.PartitionLaws.{profiles, classes-each, classes-length}
-use Rattle.bit_partitioner.proofs.ProfileLaws.{profile-length, HasWords}
+use Rattle.bit_partitioner.proofs.ProfileLaws.{profile-length}
 use Rattle.bit_partitioner.proofs.ProfileLaws.{class-words-length}
 
 pub classes-none : (f : Form) → length (f .rows) ≡ 0 → classesOf f ≡ []

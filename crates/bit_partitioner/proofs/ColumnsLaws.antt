@@ -31,12 +31,13 @@ use Rattle.semilinear.specs.Outcome.{writtenOf}
 use Rattle.semilinear.proofs.FormLaws.{rows-cons, form-parts}
 use Rattle.bit_partitioner.specs.Partition.{isOpaque, opaqueWord, profileWord}
 use Rattle.bit_partitioner.specs.Partition.{PartitionClass, classesOf, classWords, partitionsOutcome}
+use Rattle.bit_partitioner.specs.Classes.{HasWords}
 use Rattle.bit_partitioner.specs.Columns.{treeAt, atomTree, maskAt, wordAt, Holds, InOneClass, HoldsBelow}
 use Rattle.bit_partitioner.specs.Columns.{IsRow, Columns}
 use Rattle.bit_partitioner.proofs.PartitionLaws.{classAt, holders, each-at, each-map}
 use Rattle.bit_partitioner.proofs.PartitionLaws.{classes-holders, holder-of}
 use Rattle.bit_partitioner.proofs.OrderLaws.{Before, Unlike, classes-before, classes-unlike}
-use Rattle.bit_partitioner.proofs.ProfileLaws.{tabled, profile-at, profile-lt, HasWords}
+use Rattle.bit_partitioner.proofs.ProfileLaws.{tabled, profile-at, profile-lt}
 use Rattle.bit_partitioner.proofs.ProfileLaws.{profile-word-tabled, profile-word-opaque}
 use Rattle.bit_partitioner.proofs.ProfileLaws.{class-words-at, class-words-lt, getD-padded}
 use Rattle.bit_partitioner.proofs.ClassesLaws.{classes-none, classes-some, classes-either, count, atoms, IsClass}

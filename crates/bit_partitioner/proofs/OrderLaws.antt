@@ -14,7 +14,8 @@ use Rattle.record.specs.Choice.{when}
 use Rattle.record.specs.Lists.{eqList}
 use Rattle.semilinear.specs.Form.{Row}
 use Rattle.bit_partitioner.specs.Partition.{PartitionClass, joinClass, classesF}
-use Rattle.bit_partitioner.proofs.PartitionLaws.{classAt, Class, Each, each-at, each-map, or-other}
+use Rattle.bit_partitioner.specs.Classes.{Each}
+use Rattle.bit_partitioner.proofs.PartitionLaws.{classAt, Class, each-at, each-map, or-other}
 use Rattle.bit_partitioner.proofs.PartitionLaws.{profiles, classes-each}
 
 -- a place of the class x that lies below q

@@ -17,6 +17,7 @@ use Rattle.record.specs.Lists.{eqList}
 use Rattle.record.proofs.ListsLaws.{eq-of-eq-list}
 use Rattle.semilinear.specs.Form.{Row}
 use Rattle.bit_partitioner.specs.Partition.{PartitionClass, profileFrom, joinClass, classesF}
+use Rattle.bit_partitioner.specs.Classes.{Each}
 
 -- class number k; past the last, one without places
 abbrev pub classAt : List PartitionClass → ℕ → PartitionClass
@@ -33,11 +34,6 @@ pub record Class (profiles : ℕ → List ℕ) (n : ℕ) (x : PartitionClass) : 
   pub own : (p : ℕ) → bitAt (x .mask) p ≡ 1 → x .profile ≡ profiles p
   pub some : ℕ
   pub some-there : bitAt (x .mask) some ≡ 1
-
--- each class of a list is one
-unfoldable pub Each : (PartitionClass → Type 0) → List PartitionClass → Type 0
-Each P [] = Unit {0}
-Each P (x ∷ l) = P x × Each P l
 
 pub each-at : (P : PartitionClass → Type 0) (l : List PartitionClass) → Each P l
     → (k : ℕ) → k < length l → P (classAt l k)

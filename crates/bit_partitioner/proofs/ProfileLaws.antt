@@ -21,8 +21,9 @@ use Rattle.truth.proofs.TruthLaws.{table-lt}
 use Rattle.semilinear.specs.Form.{Row}
 use Rattle.bit_partitioner.specs.Partition.{columnVars, isOpaque, opaqueWord, profileWord, profileFrom}
 use Rattle.bit_partitioner.specs.Partition.{PartitionClass, classWords}
+use Rattle.bit_partitioner.specs.Classes.{Each, HasWords}
 use Rattle.bit_partitioner.specs.Columns.{treeAt}
-use Rattle.bit_partitioner.proofs.PartitionLaws.{classAt, Each}
+use Rattle.bit_partitioner.proofs.PartitionLaws.{classAt}
 
 -- ---- profiles
 
@@ -82,9 +83,6 @@ profile-lt w p i (x ∷ l) h zero = profile-word-lt w p i (x .tree) (omega arith
 profile-lt w p i (x ∷ l) h (suc j) = profile-lt w p (i + 1) l (omega arith) j
 
 -- ---- the words of classes, where each profile has n words
-
-abbrev pub HasWords : ℕ → PartitionClass → Type 0
-HasWords n x = length (x .profile) ≡ n
 
 module _ (n : ℕ) where
   pub class-words-length : (l : List PartitionClass) → Each (HasWords n) l

@@ -1,18 +1,17 @@
 -- Laws of the three-term collapse (specs/Collapse.antt): what is true of the three entries that are found, and the step
 -- on them as the code does it.
-use mathlib.Core.Path.{_≡_, refl, ap, sym, subst, _∙_}
+use mathlib.Core.Path.{_≡_, ap, sym, subst, _∙_}
 use mathlib.Core.Logic.{_≢_}
 use Prim.Native.Nat.{ℕ, _+_, _≤_, _<_}
 use native.Mathlib.Omega.{arith}
 use mathlib.Core.List.{List}
-use mathlib.Core.Bool.{Bool, true, false, not}
+use mathlib.Core.Bool.{true, not}
 use lib.ListN.{length, getD, set}
 use lib.Seq.{set-getD, getD-set-other}
 use lib.Bits.{bitAnd, bitOr}
 use lib.Dec.{eqb, ltb}
 use borrow.Author.Tests.{eqb-true, eqb-false, lt-ltb, le-ltb, ltb-true, not-true}
 use Rattle.arith.specs.Width.{modAdd}
-use Rattle.record.specs.Choice.{when}
 use Rattle.record.specs.Tree.{Tree}
 use Rattle.record.proofs.SizedLaws.{and-true}
 use Rattle.record.proofs.LoopLaws.{first-from, first-true}
@@ -23,7 +22,7 @@ use Rattle.group.specs.Group.{at, putEntry, isLive, consumed, Work, work
 use Rattle.group.specs.Steps.{remasked}
 use Rattle.group.specs.Collapse.{thirdFits, findThird, secondFits, findSecond, firstFits, findFirst}
 use Rattle.group.specs.Collapse.{collapseAt, threeTermCollapse}
-use Rattle.group.specs.Made.{Room, Later, Held, Grew, Stands, Stepped}
+use Rattle.group.specs.Made.{Room, Grew, Stands, Stepped}
 use Rattle.group.specs.Links.{FoundThree}
 use Rattle.group.proofs.SteppedLaws.{stepped-none, stepped-of, stepped-as, stepped-met}
 use Rattle.group.proofs.DropLaws.{mk, mk-eq}
@@ -103,7 +102,8 @@ module _ (w : ℕ) (g : Group) where
 
 -- the three numbers that the code found, one by one
 found-as : {w : ℕ} {g : Group} {r : Three} (P : ℕ → ℕ → ℕ → Type 0) → FoundThree w g r → r .first < g .len
-    → P (findFirst w g) (findSecond w g (findFirst w g)) (findThird w g (findFirst w g) (findSecond w g (findFirst w g)))
+    → P (findFirst w g) (findSecond w g (findFirst w g))
+    (findThird w g (findFirst w g) (findSecond w g (findFirst w g)))
     → P (r .first) (r .second) (r .third)
 found-as {w} {g} {r} P p l h =
     let e = p .first-is in

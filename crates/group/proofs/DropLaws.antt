@@ -17,7 +17,7 @@ use Rattle.semilinear.specs.Form.{Row}
 use Rattle.record.specs.Loop.{forIn}
 use Rattle.group.specs.Group.{Entry, at, putEntry, isLive, consumed, Work, work, createMasked}
 use Rattle.group.specs.Steps.{cutMasks, dropAt, dropZero, joinAt}
-use Rattle.group.specs.Made.{Room, Held, Grew, Stands, Stepped, dropsOf, cutAndDrop}
+use Rattle.group.specs.Made.{Room, Held, Grew, Stands, Stepped, dropsOf}
 use Rattle.group.proofs.SteppedLaws.{later-none, stepped-of, stepped-as, stepped-then, stepped-group}
 use Rattle.record.proofs.LoopLaws.{when-both, for-same, for-keeps}
 
@@ -76,15 +76,6 @@ pub len-drop-zero : (w : ℕ) (g : Group) → dropZero w g .len ≡ g .len
 unfolding dropZero
 len-drop-zero w g =
     for-keeps (λ (r : Group). r .len ≡ g .len) (dropAt w) 0 (g .len) g (λ i r _ _ e. len-drop-at w i r ∙ e) refl
-
--- the two steps in turn
-pub cut-and-drop : {w n : ℕ} (t : Tree) {g r q : Group} {made out made′ out′ : List ℕ}
-    → Stepped w n (cutMasks w t) g made out r made′ out′ → q ≡ dropZero w r
-    → Stepped w n (cutAndDrop w t) g made out q made′ out′
-unfolding cutAndDrop
-cut-and-drop {w} t {r = r} p e =
-    stepped-as (omega arith) (λ x _. refl)
-    (stepped-then p (stepped-group (dropZero w) (p .room) e (len-drop-zero w r)))
 
 -- ---- the join
 

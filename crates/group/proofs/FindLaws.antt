@@ -3,7 +3,7 @@ use mathlib.Core.Path.{_≡_, ap, sym, _∙_}
 use Prim.Native.Nat.{ℕ, _+_, _≤_, _<_}
 use native.Mathlib.Omega.{arith}
 use native.Mathlib.Decide.{ℕ-discrete}
-use mathlib.Core.Bool.{true, false}
+use mathlib.Core.Bool.{false}
 use lib.ListN.{getD}
 use lib.Dec.{ltb}
 use borrow.Author.Tests.{eq-eqb, ne-eqb, lt-ltb, le-ltb}
@@ -73,10 +73,13 @@ module _ (w : ℕ) (g : Group) (i : ℕ) where
           no-two (omega (arith, e))
 
       module _ (l : j < g .len) {k : ℕ} (e : k ≡ thirdIn w g i j) where
+        second-fits-by : secondFits w g i j ≡ ltb k (g .len)
+        second-fits-by = second-fits-is j ∙ ap (λ (x : ℕ). ltb x (g .len)) (sym e)
+
         pub two-found : k < g .len → FoundTwo w g i (record { second = j; third = k })
         unfolding thirdIn
         two-found u =
-            let fits = second-fits-is j ∙ ap (λ (x : ℕ). ltb x (g .len)) (sym e) ∙ lt-ltb k (g .len) u in
+            let fits = second-fits-by ∙ lt-ltb k (g .len) u in
             record {
               second-is = sym (second-live live ∙ h ∙ first-here (secondFits w g i) j (g .len) l fits);
               third-is = λ _. e ∙ when-found (findThird w g i j) (g .len) (isLive (at g j)) (rw (← e) u);
@@ -84,7 +87,7 @@ module _ (w : ℕ) (g : Group) (i : ℕ) where
 
         pub two-next : g .len ≤ k → findSecond w g i ≡ firstIn (secondFits w g i) (j + 1) (g .len)
         two-next u =
-            let fails = second-fits-is j ∙ ap (λ (x : ℕ). ltb x (g .len)) (sym e) ∙ le-ltb k (g .len) u in
+            let fails = second-fits-by ∙ le-ltb k (g .len) u in
             h ∙ first-next (secondFits w g i) j (g .len) l fails
 
 -- ---- the first entry
@@ -130,11 +133,14 @@ module _ (w : ℕ) (g : Group) where
         no-three (omega (arith, e))
 
     module _ (l : i < g .len) {r : Two} (p : FoundTwo w g i r) where
+      first-fits-by : firstFits w g i ≡ ltb (r .second) (g .len)
+      first-fits-by = first-fits-is i ∙ ap (λ (x : ℕ). ltb x (g .len)) (sym (p .second-is))
+
       pub three-found : r .second < g .len
           → FoundThree w g (record { first = i; second = r .second; third = r .third })
       unfolding secondIn
       three-found u =
-          let fits = first-fits-is i ∙ ap (λ (x : ℕ). ltb x (g .len)) (sym (p .second-is)) ∙ lt-ltb (r .second) (g .len) u in
+          let fits = first-fits-by ∙ lt-ltb (r .second) (g .len) u in
           record {
             first-is = sym (h ∙ first-here (firstFits w g) i (g .len) l fits);
             second-is = λ _.
@@ -144,7 +150,7 @@ module _ (w : ℕ) (g : Group) where
 
       pub three-next : g .len ≤ r .second → findFirst w g ≡ firstIn (firstFits w g) (i + 1) (g .len)
       three-next u =
-          let fails = first-fits-is i ∙ ap (λ (x : ℕ). ltb x (g .len)) (sym (p .second-is)) ∙ le-ltb (r .second) (g .len) u in
+          let fails = first-fits-by ∙ le-ltb (r .second) (g .len) u in
           h ∙ first-next (firstFits w g) i (g .len) l fails
 
 -- what is found in the arrays of a group is found in the group

@@ -129,7 +129,8 @@ module _ (only : Tree → Bool) (w : ℕ) where
   unfolding basesOf
   bases-of-opaque x rows found e = simp e
 
-  pub bases-of-masked : (x : Row) (rows : List Row) (found : List Tree) {c : Tree} {m : ℕ} → viewRow only w x ≡ masked c m
+  pub bases-of-masked : (x : Row) (rows : List Row) (found : List Tree) {c : Tree} {m : ℕ} → viewRow only w x ≡ masked c
+      m
       → basesOf only w (x ∷ rows) found ≡ basesOf only w rows (insertBasis w c found)
   unfolding basesOf
   bases-of-masked x rows found e = simp e

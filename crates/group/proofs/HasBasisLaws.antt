@@ -1,6 +1,6 @@
 -- Laws of what is asked of the words (specs/Views.antt): a test by hash and bytes is equality of the bases' trees.
 use mathlib.Core.Path.{_≡_, refl, ap, sym, _∙_}
-use Prim.Native.Nat.{ℕ, _+_, _≤_, _<_}
+use Prim.Native.Nat.{ℕ, _≤_, _<_}
 use native.Mathlib.Omega.{arith}
 use native.Mathlib.Decide.{ℕ-discrete}
 use mathlib.Core.List.{List}
@@ -66,7 +66,8 @@ module _ (f : List ℕ) (v : View) (hash : ℕ) (b : List ℕ) where
   module _ (w : ℕ) (g : InGroup w f v) (o : Basis w hash b) (n : v .end ≡ 0 → ⊥) where
     bytes-tree : eqTree w (decode (basisBytes f v)) (decode b) ≡ eqList (basisBytes f v) b
     unfolding eqTree
-    bytes-tree = ap (λ (l : List ℕ). eqList l (encode w (decode b))) (g .basis .same) ∙ ap (eqList (basisBytes f v)) (o .same)
+    bytes-tree = ap (λ (l : List ℕ). eqList l (encode w (decode b))) (g .basis .same) ∙ ap (eqList (basisBytes f v))
+        (o .same)
 
     -- equal trees have equal hashes
     pub tree-hash : eqTree w (decode (basisBytes f v)) (decode b) ≡ true → v .hash ≡ hash

@@ -15,13 +15,12 @@ pub mod DropLaws
 pub mod NegateLaws
 pub mod PairLaws
 pub mod BucketLaws
-<<<<<<< HEAD
+pub mod StagesLaws
 pub mod SearchLaws
 pub mod LinksLaws
 pub mod ThirdLaws
 pub mod FindLaws
 pub mod CollapseLaws
-=======
 pub mod ViewsLaws
 pub mod SplitLaws
 pub mod ReadLaws
@@ -30,4 +29,4 @@ pub mod InsertLaws
 pub mod FirstRowsLaws
 pub mod GatherLaws
 pub mod SettleWordsLaws
->>>>>>> ba9ee3cb4cbe3106d06b44c123e7acfd6d95d68a
+pub mod NextBasisLaws

@@ -11,7 +11,6 @@ use Rattle.arith.proofs.WidthLaws.{bitmask-ones}
 use Rattle.arith.specs.Effective.{canChangeCoefficientTo}
 use Rattle.record.specs.Choice.{when}
 use Rattle.group.specs.declared.Group.{Group}
-use Rattle.record.specs.Loop.{forIn}
 use Rattle.group.specs.Group.{Entry, at, putEntry, isLive}
 use Rattle.group.specs.Steps.{negateAt, toMinusOne}
 use Rattle.group.specs.Made.{negatesOf}

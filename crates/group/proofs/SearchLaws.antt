@@ -1,5 +1,5 @@
--- Laws of the search `firstIn` (record/specs/Loop.antt) by another search: what no number passes is not found, and where
--- one test implies another, the first number that passes it is found from the first one that passes the other.
+-- Laws of the search `firstIn` (record/specs/Loop.antt): where no number passes, none is found; and where one test
+-- implies another, the first number that passes it is found from the first one on that passes the other.
 use mathlib.Core.Path.{_≡_, refl, ap, sym, _∙_}
 use Prim.Native.Nat.{ℕ, zero, suc, _+_, _-_, _≤_, _<_}
 use native.Mathlib.Omega.{arith}

@@ -1,21 +1,24 @@
--- Laws of the end of a pass in words (specs/Gathered.antt): a turn of the loop, and that the coefficients of rows become
--- those of the settled rows (specs/Group.antt).
+-- Laws of the end of a pass in words (specs/Gathered.antt): a turn of the loop, and that the coefficients of rows
+-- become those of the settled rows (specs/Group.antt).
 use mathlib.Core.Path.{_≡_, refl, ap, sym, _∙_}
-use Prim.Native.Nat.{ℕ, zero, suc, _+_, _-_, _≤_, _<_}
+use Prim.Native.Nat.{ℕ, zero, suc, _-_, _≤_, _<_}
 use native.Mathlib.Omega.{arith}
 use native.Mathlib.Decide.{ℕ-discrete}
 use mathlib.Core.List.{List, [], _∷_, _++_}
-use mathlib.Core.Bool.{Bool, true, false, not}
-use lib.ListN.{length, getD, set, replicate, length-set, length-map}
+use mathlib.Core.Bool.{true, not}
+use lib.ListN.{length, getD, replicate, length-set, length-map, length-append}
+use lib.Seq.{append-snoc}
 use lib.Dec.{eqb}
 use borrow.Author.Tests.{eq-eqb, ne-eqb}
 use Rattle.record.specs.Loop.{forIn}
 use Rattle.record.specs.Put.{padded}
 use Rattle.record.proofs.LoopLaws.{for-ind, for-keeps, for-none, for-more}
+use Rattle.record.specs.Tree.{Tree}
 use Rattle.semilinear.specs.Form.{Row}
+use Rattle.semilinear.specs.Terms.{coeffsOf}
+use Rattle.semilinear.proofs.TermsLaws.{length-coeffs, coeffs-append}
 use Rattle.group.specs.declared.Group.{Group}
-use Rattle.group.specs.Group.{at, isLive, addCoeff, settleAt, settle}
-use Rattle.group.specs.Views.{rowCoeffs}
+use Rattle.group.specs.Group.{at, isLive, createRow, addCoeff, settleAt, settle}
 use Rattle.group.specs.Gathered.{addWord, settleWordAt, settleWords}
 use Rattle.group.proofs.SettleLaws.{add-length}
 
@@ -47,21 +50,28 @@ module _ (w : ℕ) (from atoms marks : List ℕ) where
 
 -- the coefficients of rows, with z behind them
 add-word : (w c : ℕ) (z : List ℕ) (l : List Row) (j : ℕ) → j < length l
-    → addWord w c j (rowCoeffs l ++ z) ≡ rowCoeffs (addCoeff w c j l) ++ z
-unfolding addWord rowCoeffs addCoeff
+    → addWord w c j (coeffsOf l ++ z) ≡ coeffsOf (addCoeff w c j l) ++ z
+unfolding addWord coeffsOf addCoeff
 add-word w c z [] j h = absurd (omega (arith, h))
 add-word w c z (x ∷ l) zero h = refl
 add-word w c z (x ∷ l) (suc j) h = ap (λ (m : List ℕ). x .coeff ∷ m) (add-word w c z l j (omega (arith, h)))
 
-length-coeffs : (l : List Row) → length (rowCoeffs l) ≡ length l
-unfolding rowCoeffs
-length-coeffs l = length-map l (λ (x : Row). x .coeff)
+-- a row more, without a term, where there is a word for it
+pub coeffs-create : (m p : ℕ) (t : Tree) (l : List Row) → length l < m
+    → padded m (coeffsOf (createRow p t l)) ≡ padded m (coeffsOf l)
+unfolding padded createRow coeffsOf
+coeffs-create m p t l h =
+    let x : Row = record { provenance = p; tree = t; coeff = 0 } in
+    let e : coeffsOf (l ++ (x ∷ [])) ≡ coeffsOf l ++ (0 ∷ []) = coeffs-append l (x ∷ []) in
+    let n : m - length (coeffsOf l) ≡ suc (m - length (coeffsOf l ++ (0 ∷ []))) =
+    omega (arith, length-append (coeffsOf l) (0 ∷ []), length-coeffs l) in
+    rw (e, n) (append-snoc (coeffsOf l) 0 (replicate (m - length (coeffsOf l ++ (0 ∷ []))) 0))
 
 module _ (w : ℕ) (hw : w ≤ 64) (g : Group) (m : ℕ) (l : List Row) where
   -- as many rows as before, and the words are their coefficients
   record Words (t : List Row) (s : List ℕ) : Type 0 where
     count : length t ≡ length l
-    words : s ≡ padded m (rowCoeffs t)
+    words : s ≡ padded m (coeffsOf t)
 
   module _ (has : (i : ℕ) → i < g .len → isLive (at g i) ≡ true → at g i .atom < length l) where
     words-turn : (i : ℕ) (t : List Row) (s : List ℕ) → i < g .len → Words t s
@@ -80,7 +90,7 @@ module _ (w : ℕ) (hw : w ≤ 64) (g : Group) (m : ℕ) (l : List Row) where
             let live : not (eqb (getD (g .marks) i 0) 1) ≡ true = simp (ne-eqb (getD (g .marks) i 0) 1 n) in
             let r : settleAt w g i t ≡ addCoeff w c j t = simp (ne-eqb (getD (g .marks) i 0) 1 n) in
             let low : j < length t = omega (arith, has i lt live, h .count) in
-            let long : length (rowCoeffs t) ≡ length (rowCoeffs (addCoeff w c j t)) =
+            let long : length (coeffsOf t) ≡ length (coeffsOf (addCoeff w c j t)) =
             length-coeffs t ∙ sym (add-length w [] hw c j t) ∙ sym (length-coeffs (addCoeff w c j t)) in
             rw r
             (record {
@@ -88,17 +98,18 @@ module _ (w : ℕ) (hw : w ≤ 64) (g : Group) (m : ℕ) (l : List Row) where
               words =
                   word-live w (g .coeffs) (g .atoms) (g .marks) i s n
                   ∙ ap (addWord w c j) (h .words)
-                  ∙ add-word w c (replicate (m - length (rowCoeffs t)) 0) t j low
-                  ∙ ap (λ (k : ℕ). rowCoeffs (addCoeff w c j t) ++ replicate (m - k) 0) long;
+                  ∙ add-word w c (replicate (m - length (coeffsOf t)) 0) t j low
+                  ∙ ap (λ (k : ℕ). coeffsOf (addCoeff w c j t) ++ replicate (m - k) 0) long;
             })
 
     -- the words of the settled rows
-    pub settle-words : {s : List ℕ} → s ≡ padded m (rowCoeffs l)
-        → settleWords w (g .coeffs) (g .atoms) (g .marks) (g .len) s ≡ padded m (rowCoeffs (settle w g l))
+    pub settle-words : {s : List ℕ} → s ≡ padded m (coeffsOf l)
+        → settleWords w (g .coeffs) (g .atoms) (g .marks) (g .len) s ≡ padded m (coeffsOf (settle w g l))
     unfolding settleWords settle
     settle-words {s} e =
         for-ind
         (λ (k : ℕ) (t : List ℕ). Words (forIn (settleAt w g) 0 k l) t)
         (settleWordAt w (g .coeffs) (g .atoms) (g .marks)) 0 s (g .len) (omega arith)
-        (λ i t a u h. rw (for-more (settleAt w g) 0 i l (omega arith)) (words-turn i (forIn (settleAt w g) 0 i l) t u h))
+        (λ i t a u h. rw (for-more (settleAt w g) 0 i l (omega arith))
+        (words-turn i (forIn (settleAt w g) 0 i l) t u h))
         (rw (for-none (settleAt w g) 0 0 l (omega arith)) (record { count = refl; words = e })) .words

@@ -1,5 +1,5 @@
--- The view that the code makes of an atom's tree (specs/Views.antt): the basis is a part of the form's bytes, which bases
--- count, and that it is the row's view.
+-- The view that the code makes of an atom's tree (specs/Views.antt): the basis is a part of the form's bytes, which
+-- bases count, and that it is the row's view.
 use mathlib.Core.Path.{_≡_, refl, ap, sym, _∙_}
 use Prim.Native.Nat.{ℕ, zero, suc, _+_, _-_, _≤_}
 use native.Mathlib.Omega.{arith}
@@ -12,7 +12,7 @@ use borrow.Author.Tests.{eq-eqb, ne-eqb}
 use Rattle.record.specs.Choice.{when}
 use Rattle.record.specs.Fields.{kind, arity}
 use Rattle.record.specs.Span.{sized}
-use Rattle.record.specs.Tree.{Tree, IsBytes}
+use Rattle.record.specs.Tree.{IsBytes}
 use Rattle.record.specs.Decode.{leaf, decode}
 use Rattle.record.proofs.FieldsLaws.{arity-zero-of-lt, kind-of-arity-zero}
 use Rattle.record.proofs.SizedLaws.{sized-big}
@@ -29,7 +29,7 @@ use Rattle.semilinear.specs.Basis.{basisSpan, viewOf, IsDecomposed}
 use Rattle.semilinear.specs.Decompose.{opaque, masked, decomposeAtom}
 use Rattle.group.specs.declared.views.View.{View}
 use Rattle.group.specs.Group.{viewRow, anyBasis, variableBasis}
-use Rattle.group.specs.Views.{basisBytes, onlyOf, InGroup, Viewed}
+use Rattle.group.specs.Views.{basisBytes, onlyOf, Viewed}
 use Rattle.group.proofs.ViewLaws.{view-opaque, view-only}
 use Rattle.group.proofs.ViewsLaws.{viewed-none, viewed-some}
 
@@ -101,7 +101,8 @@ module _ (w : ℕ) (f : List ℕ) (bytes : IsBytes f) (from to : ℕ) (le : from
 
     basis-bytes : IsBytes b
     basis-bytes =
-        rw eb (bytes-take (from + r .end - (from + r .start)) (drop (from + r .start) f) (bytes-drop (from + r .start) f bytes))
+        rw eb (bytes-take (from + r .end - (from + r .start)) (drop (from + r .start) f)
+        (bytes-drop (from + r .start) f bytes))
 
     view-tree : decomposeAtom w (decode t) ≡ masked (decode b) (r .mask)
     unfolding viewOf
@@ -110,7 +111,8 @@ module _ (w : ℕ) (f : List ℕ) (bytes : IsBytes f) (from to : ℕ) (le : from
         sym (d .view) ∙ v ∙ ap (λ (l : List ℕ). masked (decode l) (r .mask)) (sym (eb ∙ basis-part))
 
     module _ (only : Bool) (x : Row) (et : x .tree ≡ decode t) (n : x .coeff ≡ 0 → ⊥) where
-      row-view : viewRow (onlyOf only) w x ≡ when (onlyOf only (decode b)) (λ _. masked (decode b) (r .mask)) (λ _. opaque)
+      row-view : viewRow (onlyOf only) w x ≡ when (onlyOf only (decode b)) (λ _. masked (decode b) (r .mask))
+          (λ _. opaque)
       row-view = view-only (onlyOf only) w x n (ap (decomposeAtom w) et ∙ view-tree)
 
       -- only variables count, and it is none
@@ -129,7 +131,8 @@ module _ (w : ℕ) (f : List ℕ) (bytes : IsBytes f) (from to : ℕ) (le : from
       unfolding onlyOf anyBasis
       counts-any o = rw o refl
 
-      pub viewed-basis : {h : ℕ} → h ≡ structuralHash (decode b) → {c : ℕ} → x .coeff ≡ c → onlyOf only (decode b) ≡ true
+      pub viewed-basis : {h : ℕ} → h ≡ structuralHash (decode b) → {c : ℕ} → x .coeff ≡ c → onlyOf only (decode b) ≡
+          true
           → Viewed (onlyOf only) w f
           (record { coeff = c; hash = h; start = from + r .start; end = from + r .end; mask = r .mask }) x
       unfolding basisBytes
@@ -151,7 +154,8 @@ module _ (w : ℕ) (f : List ℕ) (bytes : IsBytes f) (from to : ℕ) (le : from
           (sym ec) (row-view ∙ seen ∙ ap (λ (l : List ℕ). masked (decode l) (r .mask)) eb)
         where
           b-length : length b ≤ from + r .end
-          b-length = omega (arith, ap length eb, length-take (from + r .end - (from + r .start)) (drop (from + r .start) f))
+          b-length = omega
+              (arith, ap length eb, length-take (from + r .end - (from + r .start)) (drop (from + r .start) f))
 
           basis-empty : from + r .end ≡ 0 → ⊥
           basis-empty z = omega (arith, b-length, basis-big)

@@ -144,7 +144,8 @@ module _ (w : ℕ) (g : Group) (i j : ℕ) {first next : List ℕ} (p : Linked g
       fits-is : thirdFits w g i j k ≡ b
       fits-is =
           third-rest w g i j k (parts .0)
-          ∙ sym (t ∙ ap (λ (x : ℕ). restOf k i j (getD (g .coeffs) k 0) x (getD (g .masks) j 0) (getD (g .masks) k 0)) e)
+          ∙ ap (λ (x : ℕ). restOf k i j (getD (g .coeffs) k 0) x (getD (g .masks) j 0) (getD (g .masks) k 0)) (sym e)
+          ∙ sym t
 
       pub chase-here : b ≡ true → k ≡ thirdIn w g i j
       chase-here d = sym (s .rest ∙ first-here (thirdFits w g i j) k (g .len) l (fits-is ∙ d))

@@ -1,5 +1,5 @@
--- Laws of the views of rows in lent words (specs/Views.antt): what the words are after a view is put, when a view is that
--- of a row, and which coefficient stays with the row.
+-- Laws of the views of rows in lent words (specs/Views.antt): what the words are after a view is put, when a view is
+-- that of a row, and which coefficient stays with the row.
 use mathlib.Core.Path.{_≡_, ap, sym, _∙_}
 use Prim.Native.Nat.{ℕ, suc, _+_, _*_, _≤_, _<_}
 use native.Mathlib.Omega.{arith}
@@ -15,9 +15,10 @@ use Rattle.record.specs.Decode.{decode}
 use Rattle.record.proofs.PutLaws.{getD-put-before, getD-put-in}
 use Rattle.semilinear.specs.Form.{Row}
 use Rattle.semilinear.specs.Decompose.{opaque, masked}
+use Rattle.semilinear.specs.Terms.{coeffsOf}
 use Rattle.group.specs.declared.views.View.{View}
 use Rattle.group.specs.Group.{viewRow, ungrouped}
-use Rattle.group.specs.Views.{viewAt, viewWords, basisBytes, splitOf, keptOf, InGroup, Viewed, rowCoeffs}
+use Rattle.group.specs.Views.{viewAt, viewWords, basisBytes, splitOf, keptOf, InGroup, Viewed}
 
 -- ---- the words
 
@@ -49,7 +50,9 @@ module _ (views : List ℕ) (i : ℕ) (v : View) (room : 5 * i + 5 ≤ length vi
 -- one word stored is a piece of one word put
 pub set-put : (l : List ℕ) (i a : ℕ) → i < length l → set l i a ≡ put l i (a ∷ [])
 unfolding put
-set-put l i a h = let e : suc i ≡ i + 1 = omega arith in rw (← e) (set-split l i a h ∙ sym (append-snoc (take i l) a (drop (suc i) l)))
+set-put l i a h =
+    let e : suc i ≡ i + 1 = omega arith in
+    rw (← e) (set-split l i a h ∙ sym (append-snoc (take i l) a (drop (suc i) l)))
 
 -- ---- the view of a row
 
@@ -81,20 +84,20 @@ module _ (only : Tree → Bool) (w : ℕ) (f : List ℕ) (v : View) (x : Row) wh
 
     -- what stays with the row
     pub kept-row : (l : List Row)
-        → rowCoeffs (ungrouped only w (x ∷ l)) ≡ keptOf v (x .coeff) ∷ rowCoeffs (ungrouped only w l)
-    unfolding ungrouped rowCoeffs keptOf
+        → coeffsOf (ungrouped only w (x ∷ l)) ≡ keptOf v (x .coeff) ∷ coeffsOf (ungrouped only w l)
+    unfolding ungrouped coeffsOf keptOf
     kept-row l = go (ℕ-discrete (v .end) 0)
       where
         none : v .end ≡ 0 → viewRow only w x ≡ opaque
-            → rowCoeffs (ungrouped only w (x ∷ l)) ≡ keptOf v (x .coeff) ∷ rowCoeffs (ungrouped only w l)
+            → coeffsOf (ungrouped only w (x ∷ l)) ≡ keptOf v (x .coeff) ∷ coeffsOf (ungrouped only w l)
         none z e = simp (e, eq-eqb (v .end) 0 z)
 
         some : (v .end ≡ 0 → ⊥) → {b : Tree} {m : ℕ} → viewRow only w x ≡ masked b m
-            → rowCoeffs (ungrouped only w (x ∷ l)) ≡ keptOf v (x .coeff) ∷ rowCoeffs (ungrouped only w l)
+            → coeffsOf (ungrouped only w (x ∷ l)) ≡ keptOf v (x .coeff) ∷ coeffsOf (ungrouped only w l)
         some n e = simp (e, ne-eqb (v .end) 0 n)
 
         go : Dec (v .end ≡ 0)
-            → rowCoeffs (ungrouped only w (x ∷ l)) ≡ keptOf v (x .coeff) ∷ rowCoeffs (ungrouped only w l)
+            → coeffsOf (ungrouped only w (x ∷ l)) ≡ keptOf v (x .coeff) ∷ coeffsOf (ungrouped only w l)
         go (yes z) = none z (row-opaque z)
         go (no n) = some n (row-masked n)
 

@@ -1,5 +1,5 @@
--- The group of a basis, and the end of a pass on it, by what stands in the words: of the views (specs/Views.antt) and of
--- the coefficients. That they are `groupOf` and `settle` (specs/Group.antt) is a law.
+-- The group of a basis, and the end of a pass on it, by what stands in the words: of the views (specs/Views.antt) and
+-- of the coefficients. That they are `groupOf` and `settle` (specs/Group.antt) is a law.
 use Prim.Native.Nat.{ℕ}
 use mathlib.Core.List.{List}
 use lib.ListN.{getD, set}
@@ -11,6 +11,7 @@ use Rattle.group.specs.declared.Group.{Group}
 use Rattle.group.specs.Group.{emptyGroup, pushEntry}
 use Rattle.group.specs.Views.{viewAt, hasBasis}
 
+-- row i, where it has this basis
 unfoldable pub gatherAt : List ℕ → List ℕ → ℕ → List ℕ → ℕ → Group → Group
 gatherAt f views hash b i g =
     when (hasBasis f (viewAt views i) hash b) (λ _. pushEntry g (viewAt views i .coeff) (viewAt views i .mask) i)
@@ -24,6 +25,7 @@ gathered f views hash b n = forIn (gatherAt f views hash b) 0 n emptyGroup
 unfoldable pub addWord : ℕ → ℕ → ℕ → List ℕ → List ℕ
 addWord w c j l = set l j (modAdd (getD l j 0) c w)
 
+-- entry i, unless it is consumed
 unfoldable pub settleWordAt : ℕ → List ℕ → List ℕ → List ℕ → ℕ → List ℕ → List ℕ
 settleWordAt w from atoms marks i l =
     when (eqb (getD marks i 0) 1) (λ _. l) (λ _. addWord w (getD from i 0) (getD atoms i 0) l)

@@ -6,10 +6,8 @@ pub mod Collapse
 pub mod Made
 pub mod Pair
 pub mod Bucket
-<<<<<<< HEAD
+pub mod Stages
 pub mod Links
-=======
 pub mod Views
 pub mod Bases
 pub mod Gathered
->>>>>>> ba9ee3cb4cbe3106d06b44c123e7acfd6d95d68a

@@ -9,14 +9,13 @@ use lib.ListN.{length, getD}
 use lib.Dec.{eqb}
 use Rattle.arith.specs.Effective.{reduceMask, canChangeCoefficientTo}
 use Rattle.record.specs.Choice.{when}
-use Rattle.record.specs.Tree.{Tree, encode, Encodable}
+use Rattle.record.specs.Tree.{encode, Encodable}
 use Rattle.record.specs.Decode.{decode}
 use Rattle.expr.specs.Hash.{structuralHash}
 use Rattle.semilinear.specs.declared.table.Table.{Table}
 use Rattle.group.specs.declared.Group.{Group}
 use Rattle.semilinear.specs.Form.{Row}
 use Rattle.group.specs.Group.{Work, work}
-use Rattle.group.specs.Steps.{cutMasks, dropZero}
 use Rattle.semilinear.specs.Table.{Placed, Holds, Clean}
 
 -- ---- the words: place, count, records, 1 where full, the rows of a table without limits, the constant
@@ -96,7 +95,3 @@ negatesOf u c m w =
 -- a step that leaves the table
 unfoldable pub onGroup : (Group → Group) → Work → Work
 onGroup f x = work (f (x .group)) (x .rows)
-
--- (the trial's chain of two steps)
-unfoldable pub cutAndDrop : ℕ → Tree → Work → Work
-cutAndDrop w t x = onGroup (dropZero w) (cutMasks w t x)

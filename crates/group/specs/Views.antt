@@ -1,8 +1,8 @@
--- The rows of a form as a pass sees them, in lent words, five to a row: the coefficient, the hash of the basis, where the
--- basis starts and ends in the bytes f of the atoms, and the mask. A row that is in no group has the end 0.
+-- The rows of a form as a pass sees them, in lent words, five to a row: the coefficient, the hash of the basis, where
+-- the basis starts and ends in the bytes f of the atoms, and the mask. A row that is in no group has the end 0.
 use Prim.Native.Nat.{ℕ, _+_, _-_, _*_, _≤_, _<_}
 use mathlib.Core.Path.{_≡_}
-use mathlib.Core.List.{List, [], _∷_, map}
+use mathlib.Core.List.{List, [], _∷_}
 use mathlib.Core.Bool.{Bool, true, false}
 use lib.ListN.{length, getD, take, drop, set}
 use lib.Dec.{eqb}
@@ -16,6 +16,7 @@ use Rattle.semilinear.specs.Form.{Row}
 use Rattle.semilinear.specs.DecodeForm.{rowAt}
 use Rattle.semilinear.specs.Decompose.{Decomposed, opaque, masked}
 use Rattle.semilinear.specs.Running.{RowPassed}
+use Rattle.semilinear.specs.Terms.{coeffsOf}
 use Rattle.group.specs.declared.views.View.{View}
 use Rattle.group.specs.declared.views.Reading.{Reading}
 use Rattle.group.specs.Group.{viewRow, anyBasis, variableBasis, ungrouped}
@@ -34,6 +35,7 @@ viewAt views i =
       mask = getD views (5 * i + 4) 0;
     }
 
+-- its words
 unfoldable pub viewWords : View → List ℕ
 viewWords v = v .coeff ∷ v .hash ∷ v .start ∷ v .end ∷ v .mask ∷ []
 
@@ -81,9 +83,6 @@ pub record Views (only : Tree → Bool) (w : ℕ) (f views : List ℕ) (rows : L
   pub room : 5 * length rows ≤ length views
   pub each : (i : ℕ) → i < length rows → Viewed only w f (viewAt views i) (getD rows i blankRow)
 
-unfoldable pub rowCoeffs : List Row → List ℕ
-rowCoeffs = map (λ (x : Row). x .coeff)
-
 -- ---- reading
 
 -- y is x after the row at x .at, whose view is put into the words; its coefficient is c where it is in no group
@@ -97,11 +96,11 @@ pub record RowRead (only : Tree → Bool) (w : ℕ) (f : List ℕ) (x y : Readin
       ≡ set coeffs (x .number) (keptOf view (rowAt (x .number) (drop (x .at) f) (drop (x .next) f) .coeff))
 
 -- r rows were read: their views, and the coefficients of those that are in no group
-pub record ViewsRead (only : Tree → Bool) (w : ℕ) (f : List ℕ) (rows : List Row) (coeffs views′ coeffs′ : List ℕ) (r : ℕ)
-    : Type 0 where
+pub record ViewsRead (only : Tree → Bool) (w : ℕ) (f : List ℕ) (rows : List Row) (coeffs views′ coeffs′ : List ℕ)
+    (r : ℕ) : Type 0 where
   pub number : r ≡ length rows
   pub views : Views only w f views′ rows
-  pub kept : coeffs′ ≡ put coeffs 0 (rowCoeffs (ungrouped only w rows))
+  pub kept : coeffs′ ≡ put coeffs 0 (coeffsOf (ungrouped only w rows))
 
 -- ---- what is asked of the words
 

@@ -1,5 +1,5 @@
-// The three-term collapse: c * (x & a) + d * (x & b) + (c + d) * (x & m), where m shares no bit with a
-// or b, becomes c * (x & (a | m)) + d * (x & (b | m)).
+// The three-term collapse: c * (x & a) + d * (x & b) + (c + d) * (x & m), where m shares no bit
+// with a or b, becomes c * (x & (a | m)) + d * (x & (b | m)).
 use crate::Group;
 use crate::links;
 use crate::made;
@@ -35,7 +35,8 @@ fn find_second<'a>(
     i: usize,
 ) -> Two
     requires { ⌜ (n ≤ 256) × (i < n) ⌝ }
-    ensures { λ r. ⌜ FoundTwo w (lent (now (coeffs .entry)) (now (masks .entry)) (now (marks .entry)) n) i r ⌝ }
+    ensures { λ r. ⌜ FoundTwo w
+        (lent (now (coeffs .entry)) (now (masks .entry)) (now (marks .entry)) n) i r ⌝ }
 {
     if marks[i] == 1 {
         return Two {
@@ -71,7 +72,7 @@ fn find_second<'a>(
     }
 }
 
-// The first entry that has a second and a third, its first second entry, and for both the first third.
+// The first entry that has a second and a third, its first second, and the first third of both.
 pub fn find_three<'a>(
     coeffs: &'a [u64; 256],
     masks: &'a [u64; 256],
@@ -80,7 +81,8 @@ pub fn find_three<'a>(
     w: u32,
 ) -> Three
     requires { ⌜ n ≤ 256 ⌝ }
-    ensures { λ r. ⌜ FoundThree w (lent (now (coeffs .entry)) (now (masks .entry)) (now (marks .entry)) n) r ⌝ }
+    ensures { λ r. ⌜ FoundThree w
+        (lent (now (coeffs .entry)) (now (masks .entry)) (now (marks .entry)) n) r ⌝ }
 {
     if n < 3 {
         return Three {

@@ -24,7 +24,8 @@ impl Group {
     // The rows, of n, that have the basis b with this hash.
     pub fn gather(n: usize, hash: u64, b: &[u8], views: &[u64], f: &[u8]) -> Self
         requires { ⌜ Readable (now f) (now views) n × (n ≤ 256) ⌝ }
-        ensures { λ r. ⌜ r ≡ gathered (now (f .entry)) (now (views .entry)) hash (now (b .entry)) n ⌝ }
+        ensures { λ r. ⌜ r ≡ gathered (now (f .entry)) (now (views .entry)) hash
+            (now (b .entry)) n ⌝ }
     {
         let mut g = Group::empty();
         let mut i = 0;

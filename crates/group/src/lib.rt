@@ -7,6 +7,7 @@ pub mod links;
 pub mod made;
 pub mod merge;
 pub mod settle;
+pub mod stages;
 pub mod steps;
 pub mod views;
 

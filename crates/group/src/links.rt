@@ -1,5 +1,5 @@
-// The live entries of a group that share no bit with a mask, linked by a fold of their coefficients: the
-// third entry of a collapse is found along the links, without a look at every entry.
+// The live entries of a group that share no bit with a mask, linked by a fold of their
+// coefficients: the third entry of a collapse is found along them, without a look at every entry.
 ghost use mathlib.Core.Path.{_≡_};
 ghost use mathlib.Core.Bool.{false};
 ghost use Prim.Native.Nat.{ℕ, _<_, _≤_};
@@ -41,8 +41,8 @@ pub fn any_apart<'a>(masks: &'a [u64; 256], marks: &'a [u8; 256], n: usize, m: u
     false
 }
 
-// Links the live entries that share no bit with m: first[h] is the first one with the fold h, next[k]
-// the next one after k with the fold of k; n is none.
+// Links the live entries that share no bit with m: first[h] is the first one with the fold h,
+// next[k] the next one after k with the fold of k; n is none.
 pub fn put_links<'a>(
     coeffs: &'a [u64; 256],
     masks: &'a [u64; 256],
@@ -68,8 +68,8 @@ pub fn put_links<'a>(
     }
 }
 
-// Whether entry k, of coefficient d and mask p, is none of i and j, has the coefficient c and shares no
-// bit with m.
+// Whether entry k, of coefficient d and mask p, is none of i and j, has the coefficient c and
+// shares no bit with m.
 fn third_fits(k: usize, i: usize, j: usize, d: u64, c: u64, m: u64, p: u64) -> bool
     ensures { λ r. ⌜ r ≡ restOf k i j d c m p ⌝ }
 {
@@ -85,8 +85,8 @@ fn third_fits(k: usize, i: usize, j: usize, d: u64, c: u64, m: u64, p: u64) -> b
     k != j
 }
 
-// The first third entry for i and j, by the links of the entries that share no bit with the mask of i; n
-// where there is none, or j is consumed.
+// The first third entry for i and j, by the links of the entries that share no bit with the mask
+// of i; n where there is none, or j is consumed.
 pub fn third_for<'a>(
     coeffs: &'a [u64; 256],
     masks: &'a [u64; 256],
@@ -99,8 +99,10 @@ pub fn third_for<'a>(
     w: u32,
 ) -> usize
     requires { ⌜ (n ≤ 256) × (i < n) × (j < n)
-        × Linked (lent (now coeffs) (now masks) (now marks) n) (getD (now masks) i 0) 0 (now first) (now next) ⌝ }
-    ensures { λ r. ⌜ r ≡ thirdIn w (lent (now (coeffs .entry)) (now (masks .entry)) (now (marks .entry)) n) i j ⌝ }
+        × Linked (lent (now coeffs) (now masks) (now marks) n) (getD (now masks) i 0) 0
+        (now first) (now next) ⌝ }
+    ensures { λ r. ⌜ r ≡ thirdIn w
+        (lent (now (coeffs .entry)) (now (masks .entry)) (now (marks .entry)) n) i j ⌝ }
 {
     if marks[j] == 1 {
         return n;

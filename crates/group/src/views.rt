@@ -5,8 +5,8 @@ use semilinear::decompose;
 use semilinear::items;
 ghost use mathlib.Core.Path.{_≡_};
 ghost use mathlib.Core.Bool.{true};
-ghost use Prim.Native.Nat.{ℕ, _+_, _-_, _*_, _<_, _≤_};
-ghost use lib.ListN.{length, take, drop, set};
+ghost use Prim.Native.Nat.{_+_, _-_, _*_, _<_, _≤_};
+ghost use lib.ListN.{length, take, drop};
 ghost use Rattle.record.specs.Put.{put};
 ghost use Rattle.record.specs.Decode.{decode};
 ghost use Rattle.expr.specs.Refusal.{treeRefusal};
@@ -14,7 +14,8 @@ ghost use Rattle.semilinear.specs.Items.{isAtom, atomCount, afterAtoms};
 ghost use Rattle.semilinear.specs.Valid.{atomsOk};
 ghost use Rattle.semilinear.specs.DecodeForm.{rowsOf};
 ghost use Rattle.semilinear.specs.Scan.{AtomsEnd};
-ghost use Rattle.group.specs.Views.{onlyOf, viewAt, viewWords, keptOf, ViewsTree, RowRead, ViewsRead, Readable, hasBasis};
+ghost use Rattle.group.specs.Views.{onlyOf, viewAt, viewWords, keptOf, ViewsTree, RowRead};
+ghost use Rattle.group.specs.Views.{ViewsRead, Readable, hasBasis};
 
 pub const VIEW_WORDS: usize = 5;
 
@@ -34,6 +35,7 @@ pub struct Reading {
     pub number: usize,
 }
 
+// The view of a row in no group.
 fn no_view() -> View
     ensures { λ r. ⌜ r .end ≡ 0 ⌝ }
 {
@@ -46,8 +48,8 @@ fn no_view() -> View
     }
 }
 
-// The view of an atom with the coefficient c, whose tree stands in f from `from` to `to`; `only` says
-// that only variables count as bases.
+// The view of an atom with the coefficient c, whose tree stands in f from `from` to `to`; `only`: only
+// variables count as bases.
 fn view_of(f: &[u8], from: usize, to: usize, c: u64, w: u8, only: bool) -> View
     requires { ⌜ (w ≤ 64) × (from ≤ to) × (to ≤ length (now f))
         × (treeRefusal w (take (to - from) (drop from (now f))) ≡ 0) ⌝ }
@@ -78,6 +80,7 @@ fn view_of(f: &[u8], from: usize, to: usize, c: u64, w: u8, only: bool) -> View
     }
 }
 
+// The coefficient that stays with the row.
 fn kept_of(v: View, c: u64) -> u64
     ensures { λ r. ⌜ r ≡ keptOf v c ⌝ }
 {
@@ -100,7 +103,8 @@ impl Reading {
     // The row of the atom at `at`.
     fn read_row(self, f: &[u8], w: u8, only: bool, views: &mut [u64], coeffs: &mut [u64]) -> Self
         requires { ⌜ (w ≤ 64) × (self .at ≤ length (now f)) × (self .next ≤ length (now f))
-            × (isAtom (drop (self .at) (now f)) ≡ true) × (atomsOk w (drop (self .at) (now f)) ≡ true)
+            × (isAtom (drop (self .at) (now f)) ≡ true)
+            × (atomsOk w (drop (self .at) (now f)) ≡ true)
             × (5 * self .number + 5 ≤ length (now views)) × (self .number < length (now coeffs)) ⌝ }
         ensures { λ r. ⌜ RowRead (onlyOf only) w (now (f .entry)) self r
             (now (views .entry)) (now (coeffs .entry)) (now (views .exit)) (now (coeffs .exit)) ⌝ }
@@ -144,7 +148,8 @@ pub fn read_views(
     coeffs: &mut [u64],
 ) -> usize
     requires { ⌜ (w ≤ 64) × (atomsOk w (now f) ≡ true) × AtomsEnd (now f) terms
-        × (5 * atomCount (now f) ≤ length (now views)) × (atomCount (now f) ≤ length (now coeffs)) ⌝ }
+        × (5 * atomCount (now f) ≤ length (now views))
+        × (atomCount (now f) ≤ length (now coeffs)) ⌝ }
     ensures { λ r. ⌜ ViewsRead (onlyOf only) w (now (f .entry))
         (rowsOf 0 (now (f .entry)) (afterAtoms (now (f .entry))))
         (now (coeffs .entry)) (now (views .exit)) (now (coeffs .exit)) r ⌝ }
@@ -166,7 +171,8 @@ pub fn read_views(
 // Whether row i has the basis b with this hash.
 pub fn has_basis(views: &[u64], i: usize, hash: u64, b: &[u8], f: &[u8]) -> bool
     requires { ⌜ Readable (now f) (now views) (i + 1) ⌝ }
-    ensures { λ r. ⌜ r ≡ hasBasis (now (f .entry)) (viewAt (now (views .entry)) i) hash (now (b .entry)) ⌝ }
+    ensures { λ r. ⌜ r ≡ hasBasis (now (f .entry)) (viewAt (now (views .entry)) i) hash
+        (now (b .entry)) ⌝ }
 {
     let v = VIEW_WORDS * i;
     if views[v + 1] != hash {
@@ -177,5 +183,6 @@ pub fn has_basis(views: &[u64], i: usize, hash: u64, b: &[u8], f: &[u8]) -> bool
         return false;
     }
     let start = views[v + 2] as usize;
-    record::same_bytes(&f[start..end], b)
+    let basis = &f[start..end];
+    record::same_bytes(basis, b)
 }

@@ -17,8 +17,11 @@ find-three-requires c κs = search needs
 
 collapse-at-requires : tie.Need-collapse-at-requires
 collapse-at-requires c κs =
-    let pre = c .before .before .before .before .before .before .before .before .before .before .before .pre in
-    let three = three-collapsible (found-lent (c .before .before .before .before .before .before .before .before .before .before .before .args .t1) (c .before .before .before .find-three .ensures)) (c .before .before .if1 .taken) in (
+    let test = c .before .before in
+    let start = test .before .before .before .before .before .before .before .before .before in
+    let pre = start .pre in
+    let found = found-lent (start .args .t1) (test .before .find-three .ensures) in
+    let three = three-collapsible found (test .if1 .taken) in (
       pre .0,
       pre .1,
       pre .2,
@@ -38,15 +41,17 @@ same-length-2 c = search needs
 
 returns : tie.Need-returns
 returns c =
-    let a = c .before .before .before .before .before .before .before .before .before .before .before .before .before .before .before .before .args in
-    collapse-met (decode (now (a .b))) (found-lent (a .t1) (c .before .before .before .before .before .before .before .before .find-three .ensures)) (c .before .before .before .before .before .before .before .if1 .taken)
+    let test = c .before .before .before .before .before .before .before in
+    let a = test .before .before .before .before .before .before .before .before .before .args in
+    collapse-met (decode (now (a .b))) (found-lent (a .t1) (test .before .find-three .ensures)) (test .if1 .taken)
     (c .before .before .before .before .collapse-at .ensures) refl refl refl
 
 returns-2 : tie.Need-returns-2
 returns-2 c =
-    let a = c .before .before .before .before .before .before .before .before .before .args in
+    let start = c .before .before .before .before .before .before .before .before .before in
+    let a = start .args in
     collapse-same (decode (now (a .b))) (found-lent (a .t1) (c .before .find-three .ensures)) (c .if1 .left)
-    (c .before .before .before .before .before .before .before .before .before .pre .0) refl refl refl
+    (start .pre .0) refl refl refl
 
 pub collapse-spec : {M : Type 1} → statement M
 collapse-spec =

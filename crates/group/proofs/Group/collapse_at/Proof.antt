@@ -74,8 +74,9 @@ create-masked-requires c κs =
 
 create-masked-requires-2 : tie.Need-create-masked-requires-2
 create-masked-requires-2 c κs =
-    let pre = c .before .before .before .before .before .before .before .before .before .before .before .before .before .before .before .before .before .pre in
-    let one = c .before .before .before .before .before .before .create-masked .ensures in
+    let grown = c .before .before .before .before .before .before in
+    let pre = grown .before .before .before .before .before .before .before .before .before .before .before .pre in
+    let one = grown .create-masked .ensures in
     (one .room, pre .1, omega (arith, one .later .rows-le, pre .2), pre .3)
 
 same-length : tie.Need-same-length
@@ -86,10 +87,11 @@ same-length-2 c = search needs
 
 returns : tie.Need-returns
 returns c =
-    let a = c .before .before .before .before .before .before .before .before .before .before .before .before .before .before .before .before .before .before .before .before .before .before .args in
-    let pre = c .before .before .before .before .before .before .before .before .before .before .before .before .before .before .before .before .before .before .before .before .before .before .pre in
-    collapsed-stepped (a .w) (decode (now (a .b))) (a .i) (a .j) (a .k) (pre .7) (pre .8)
-    (c .before .before .before .before .before .before .before .before .before .before .before .create-masked .ensures) (c .before .before .before .before .create-masked2 .ensures) refl
+    let grown = c .before .before .before .before .before .before .before .before .before .before .before in
+    let start = grown .before .before .before .before .before .before .before .before .before .before .before in
+    let a = start .args in
+    collapsed-stepped (a .w) (decode (now (a .b))) (a .i) (a .j) (a .k) (start .pre .7) (start .pre .8)
+    (grown .create-masked .ensures) (c .before .before .before .before .create-masked2 .ensures) refl
 
 pub collapse-at-spec : {M : Type 1} → statement M
 collapse-at-spec =

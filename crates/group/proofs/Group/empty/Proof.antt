@@ -3,8 +3,6 @@ use mathlib.Core.Path.{refl}
 use Rattle.group.specs.Group.{emptyGroup}
 use Rattle.group.proofs.Group.empty.Statement.{statement}
 use Rattle.group.proofs.Group.empty.Tie as tie
-use Rattle.group.proofs.Group.empty.Reads as reads
-use Rattle.group.proofs.Group.empty.Lts as lts
 
 returns : tie.Need-returns
 unfolding emptyGroup

@@ -1,7 +1,7 @@
 -- `Group::gather` meets its contract: the loop keeps the entries of the rows before i.
 use mathlib.Core.Path.{_≡_, sym, _∙_}
 use mathlib.Core.Logic.{⊎-elim}
-use Prim.Native.Nat.{ℕ, _+_, _-_, _≤_}
+use Prim.Native.Nat.{_-_, _≤_}
 use native.Mathlib.Omega.{arith}
 use denote.Ref.{now}
 use Rattle.record.specs.Loop.{forIn}
@@ -13,10 +13,6 @@ use Rattle.group.proofs.HasBasisLaws.{readable-fewer}
 use Rattle.group.proofs.GatherLaws.{gather-same, gather-push, few-entries}
 use Rattle.group.proofs.Group.gather.Statement.{statement}
 use Rattle.group.proofs.Group.gather.Tie as tie
-use Rattle.group.proofs.Group.gather.Reads as reads
-use Rattle.group.proofs.Group.gather.Lts as lts
-use Rattle.group.proofs.Group.empty.Reads as empty-reads
-use Rattle.group.proofs.views.has_basis.Reads as has-basis-reads
 
 abbrev Inv-loop : tie.InvT-loop
 Inv-loop n hash b views f g₀ i₀ g i = (i ≤ n) × (g ≡ forIn (gatherAt f views hash b) 0 i emptyGroup)
@@ -40,13 +36,21 @@ mul-g : tie.Need-mul-g Inv-loop μ-loop
 mul-g c = omega (arith, c .before .before .before .before .before .before .before .before .pre .0 .room)
 
 shared-slice-read-g : tie.Need-shared-slice-read-g Inv-loop μ-loop
-shared-slice-read-g c = omega (arith, c .before .before .before .before .before .before .before .before .before .pre .0 .room)
+shared-slice-read-g c =
+    let at-start = c .before .before .before .before .before .before .before .before .before in
+    omega (arith, at-start .pre .0 .room)
 
 mul-g-2 : tie.Need-mul-g-2 Inv-loop μ-loop
-mul-g-2 c = omega (arith, few-entries _ _ _ _ (c .before .before .before .before .loop .i) (c .before .before .before .before .loop .inv .1), c .before .before .before .before .before .before .before .before .before .pre .1)
+mul-g-2 c =
+    let at-loop = c .before .before .before .before in
+    let at-start = at-loop .before .before .before .before .before in
+    omega (arith, few-entries _ _ _ _ (at-loop .loop .i) (at-loop .loop .inv .1), at-start .pre .1)
 
 element-write-g : tie.Need-element-write-g Inv-loop μ-loop
-element-write-g c = omega (arith, few-entries _ _ _ _ (c .before .before .before .before .loop .i) (c .before .before .before .before .loop .inv .1), c .before .before .before .before .before .before .before .before .before .pre .1)
+element-write-g c =
+    let at-loop = c .before .before .before .before in
+    let at-start = at-loop .before .before .before .before .before in
+    omega (arith, few-entries _ _ _ _ (at-loop .loop .i) (at-loop .loop .inv .1), at-start .pre .1)
 
 add-g : tie.Need-add-g Inv-loop μ-loop
 add-g c = omega (arith, c .before .before .before .before .before .before .before .before .before .pre .0 .room)
@@ -55,25 +59,45 @@ mul-g-3 : tie.Need-mul-g-3 Inv-loop μ-loop
 mul-g-3 c = omega (arith, c .before .before .before .before .before .before .before .before .before .pre .0 .room)
 
 shared-slice-read-g-2 : tie.Need-shared-slice-read-g-2 Inv-loop μ-loop
-shared-slice-read-g-2 c = omega (arith, c .before .before .before .before .before .before .before .before .before .before .pre .0 .room)
+shared-slice-read-g-2 c =
+    let at-start = c .before .before .before .before .before .before .before .before .before .before in
+    omega (arith, at-start .pre .0 .room)
 
 mul-g-4 : tie.Need-mul-g-4 Inv-loop μ-loop
-mul-g-4 c = omega (arith, few-entries _ _ _ _ (c .before .before .before .before .before .loop .i) (c .before .before .before .before .before .loop .inv .1), c .before .before .before .before .before .before .before .before .before .before .pre .1)
+mul-g-4 c =
+    let at-loop = c .before .before .before .before .before in
+    let at-start = at-loop .before .before .before .before .before in
+    omega (arith, few-entries _ _ _ _ (at-loop .loop .i) (at-loop .loop .inv .1), at-start .pre .1)
 
 element-write-g-2 : tie.Need-element-write-g-2 Inv-loop μ-loop
-element-write-g-2 c = omega (arith, few-entries _ _ _ _ (c .before .before .before .before .before .loop .i) (c .before .before .before .before .before .loop .inv .1), c .before .before .before .before .before .before .before .before .before .before .pre .1)
+element-write-g-2 c =
+    let at-loop = c .before .before .before .before .before in
+    let at-start = at-loop .before .before .before .before .before in
+    omega (arith, few-entries _ _ _ _ (at-loop .loop .i) (at-loop .loop .inv .1), at-start .pre .1)
 
 mul-g-5 : tie.Need-mul-g-5 Inv-loop μ-loop
-mul-g-5 c = omega (arith, few-entries _ _ _ _ (c .before .before .before .before .before .loop .i) (c .before .before .before .before .before .loop .inv .1), c .before .before .before .before .before .before .before .before .before .before .pre .1)
+mul-g-5 c =
+    let at-loop = c .before .before .before .before .before in
+    let at-start = at-loop .before .before .before .before .before in
+    omega (arith, few-entries _ _ _ _ (at-loop .loop .i) (at-loop .loop .inv .1), at-start .pre .1)
 
 element-write-g-3 : tie.Need-element-write-g-3 Inv-loop μ-loop
-element-write-g-3 c = omega (arith, few-entries _ _ _ _ (c .before .before .before .before .before .loop .i) (c .before .before .before .before .before .loop .inv .1), c .before .before .before .before .before .before .before .before .before .before .pre .1)
+element-write-g-3 c =
+    let at-loop = c .before .before .before .before .before in
+    let at-start = at-loop .before .before .before .before .before in
+    omega (arith, few-entries _ _ _ _ (at-loop .loop .i) (at-loop .loop .inv .1), at-start .pre .1)
 
 element-write-g-4 : tie.Need-element-write-g-4 Inv-loop μ-loop
-element-write-g-4 c = omega (arith, few-entries _ _ _ _ (c .before .before .before .before .before .loop .i) (c .before .before .before .before .before .loop .inv .1), c .before .before .before .before .before .before .before .before .before .before .pre .1)
+element-write-g-4 c =
+    let at-loop = c .before .before .before .before .before in
+    let at-start = at-loop .before .before .before .before .before in
+    omega (arith, few-entries _ _ _ _ (at-loop .loop .i) (at-loop .loop .inv .1), at-start .pre .1)
 
 add-g-2 : tie.Need-add-g-2 Inv-loop μ-loop
-add-g-2 c = omega (arith, few-entries _ _ _ _ (c .before .before .before .before .before .loop .i) (c .before .before .before .before .before .loop .inv .1), c .before .before .before .before .before .before .before .before .before .before .pre .1)
+add-g-2 c =
+    let at-loop = c .before .before .before .before .before in
+    let at-start = at-loop .before .before .before .before .before in
+    omega (arith, few-entries _ _ _ _ (at-loop .loop .i) (at-loop .loop .inv .1), at-start .pre .1)
 
 add-i : tie.Need-add-i Inv-loop μ-loop
 add-i c = omega arith
@@ -84,22 +108,30 @@ loop-less c = omega arith
 loop-again : tie.Need-loop-again Inv-loop μ-loop
 unfolding viewAt pushEntry
 loop-again c =
-    let a = c .before .before .before .before .before .before .before .before .args in
-    let h = c .before .before .before .loop in
-    let test = c .before .has-basis .ensures in (
+    let at-has-basis = c .before in
+    let at-loop = at-has-basis .before .before in
+    let at-start = at-loop .before .before .before .before .before in
+    let a = at-start .args in
+    let h = at-loop .loop in
+    let test = at-has-basis .has-basis .ensures in (
       omega arith,
       for-turn (gatherAt (now (a .f)) (now (a .views)) (a .hash) (now (a .b))) (h .i) _ (h .inv .1)
           (⊎-elim
-          (λ k. k .3 ∙ sym (gather-push (now (a .f)) (now (a .views)) (a .hash) (now (a .b)) (h .i) (h .g) (sym test ∙ k .0 .taken)))
-          (λ k. k .1 ∙ sym (gather-same (now (a .f)) (now (a .views)) (a .hash) (now (a .b)) (h .i) (h .g) (sym test ∙ k .0 .left)))
+          (λ k. k .3 ∙ sym
+          (gather-push (now (a .f)) (now (a .views)) (a .hash) (now (a .b)) (h .i) (h .g) (sym test ∙ k .0 .taken)))
+          (λ k. k .1 ∙ sym
+          (gather-same (now (a .f)) (now (a .views)) (a .hash) (now (a .b)) (h .i) (h .g) (sym test ∙ k .0 .left)))
           (c .if1 .came)),
     )
 
 returns : tie.Need-returns Inv-loop μ-loop
 unfolding gathered
 returns c =
-    let a = c .before .before .before .before .before .before .args in
-    for-done (gatherAt (now (a .f)) (now (a .views)) (a .hash) (now (a .b))) _ (omega arith) (omega arith) (c .before .loop .inv .1)
+    let at-loop = c .before in
+    let at-start = at-loop .before .before .before .before .before in
+    let a = at-start .args in
+    for-done (gatherAt (now (a .f)) (now (a .views)) (a .hash) (now (a .b))) _ (omega arith) (omega arith)
+    (at-loop .loop .inv .1)
 
 pub gather-spec : {M : Type 1} → statement M
 gather-spec =

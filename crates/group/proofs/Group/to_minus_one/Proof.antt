@@ -1,6 +1,6 @@
 use mathlib.Core.Path.{_≡_, sym, _∙_}
 use mathlib.Core.Logic.{⊎-elim}
-use Prim.Native.Nat.{ℕ, _+_, _-_, _≤_, _<_}
+use Prim.Native.Nat.{_-_, _≤_}
 use native.Mathlib.Omega.{arith}
 use Rattle.record.specs.Loop.{forIn}
 use Rattle.record.proofs.LoopLaws.{for-none, for-turn, for-done}
@@ -57,20 +57,24 @@ loop-less c = omega arith
 
 loop-again : tie.Need-loop-again Inv-loop μ-loop
 loop-again c =
-    let h = c .before .before .before .before .before .before .loop in
-    let w = c .before .before .before .before .before .before .before .before .args .w in
+    let turn = c .before .before .before .before .before .before in
+    let h = turn .loop in
+    let w = turn .before .before .args .w in
+    let minus = turn .before .bitmask .ensures in
     let test = c .before .negates .ensures in (
       omega arith,
       for-turn (negateAt w) (h .i) _ (h .inv .1)
           (⊎-elim
-          (λ k. k .1 ∙ sym (negate-at-negate w (h .i) (h .self) (omega arith) (c .before .before .before .before .before .before .before .bitmask .ensures) (sym test ∙ k .0 .taken)))
+          (λ k. k .1 ∙ sym (negate-at-negate w (h .i) (h .self) (omega arith) minus (sym test ∙ k .0 .taken)))
           (λ k. k .1 ∙ sym (negate-at-same w (h .i) (h .self) (sym test ∙ k .0 .left)))
           (c .if1 .came)),
     )
 
 returns : tie.Need-returns Inv-loop μ-loop
 unfolding toMinusOne
-returns c = for-done (negateAt (c .before .before .before .args .w)) _ (omega arith) (omega arith) (c .before .loop .inv .1)
+returns c =
+    let turn = c .before in
+    for-done (negateAt (turn .before .before .args .w)) _ (omega arith) (omega arith) (turn .loop .inv .1)
 
 pub to-minus-one-spec : {M : Type 1} → statement M
 to-minus-one-spec =

@@ -1,5 +1,5 @@
-use mathlib.Core.Path.{_≡_, refl, sym, _∙_}
-use Prim.Native.Nat.{ℕ, _+_, _-_, _≤_, _<_}
+use mathlib.Core.Path.{_≡_, refl}
+use Prim.Native.Nat.{_+_, _-_, _≤_}
 use native.Mathlib.Omega.{arith}
 use borrow.Author.Tests.{not-true}
 use denote.Ref.{now}
@@ -40,8 +40,10 @@ any-apart-requires c κs = omega arith
 
 returns-2 : tie.Need-returns-2 Inv-loop μ-loop
 returns-2 c =
-    let a = c .before .before .before .before .before .args in
-    two-apart (a .w) (lent (now (a .coeffs)) (now (a .masks)) (now (a .marks)) (a .n)) (a .i) (c .before .before .before .if1 .left) (c .before .before .before .before .before .pre .1)
+    let start = c .before .before .before .before .before in
+    let a = start .args in
+    let g = lent (now (a .coeffs)) (now (a .masks)) (now (a .marks)) (a .n) in
+    two-apart (a .w) g (a .i) (c .before .before .before .if1 .left) (start .pre .1)
     (c .before .any-apart .ensures (not-true _ (c .if2 .taken)))
 
 cast-none : tie.Need-cast-none Inv-loop μ-loop
@@ -62,9 +64,12 @@ third-for-requires c κs = (omega arith, omega arith, omega arith, c .before .be
 
 returns-3 : tie.Need-returns-3 Inv-loop μ-loop
 returns-3 c =
-    let a = c .before .before .before .before .before .before .before .before .before .before .before .before .before .before .args in
-    two-found (a .w) (lent (now (a .coeffs)) (now (a .masks)) (now (a .marks)) (a .n)) (a .i) (c .before .before .before .before .before .before .before .before .before .before .before .before .if1 .left) (c .before .before .before .before .before .loop .j)
-    (c .before .before .before .before .before .loop .inv .2) (omega arith) (c .before .third-for .ensures) (c .if3 .taken)
+    let turn = c .before .before .before .before .before in
+    let live = turn .before .before .before .before .before .before .before in
+    let a = live .before .before .args in
+    let g = lent (now (a .coeffs)) (now (a .masks)) (now (a .marks)) (a .n) in
+    two-found (a .w) g (a .i) (live .if1 .left) (turn .loop .j) (turn .loop .inv .2) (omega arith)
+    (c .before .third-for .ensures) (c .if3 .taken)
 
 add-j-2 : tie.Need-add-j-2 Inv-loop μ-loop
 add-j-2 c = omega arith
@@ -74,18 +79,23 @@ loop-less c = omega arith
 
 loop-again : tie.Need-loop-again Inv-loop μ-loop
 loop-again c =
-    let a = c .before .before .before .before .before .before .before .before .before .before .before .before .before .before .args in (
+    let turn = c .before .before .before .before .before in
+    let live = turn .before .before .before .before .before .before .before in
+    let a = live .before .before .args in
+    let g = lent (now (a .coeffs)) (now (a .masks)) (now (a .marks)) (a .n) in (
       omega arith,
       omega arith,
-      two-next (a .w) (lent (now (a .coeffs)) (now (a .masks)) (now (a .marks)) (a .n)) (a .i) (c .before .before .before .before .before .before .before .before .before .before .before .before .if1 .left)
-          (c .before .before .before .before .before .loop .j) (c .before .before .before .before .before .loop .inv .2) (omega arith) (c .before .third-for .ensures) (omega arith),
+      two-next (a .w) g (a .i) (live .if1 .left) (turn .loop .j) (turn .loop .inv .2) (omega arith)
+          (c .before .third-for .ensures) (omega arith),
     )
 
 returns-4 : tie.Need-returns-4 Inv-loop μ-loop
 returns-4 c =
-    let a = c .before .before .before .before .before .before .before .before .before .before .args in
-    two-end (a .w) (lent (now (a .coeffs)) (now (a .masks)) (now (a .marks)) (a .n)) (a .i) (c .before .before .before .before .before .before .before .before .if1 .left) (c .before .loop .j)
-    (c .before .loop .inv .2) (omega arith) (omega arith)
+    let turn = c .before in
+    let live = turn .before .before .before .before .before .before .before in
+    let a = live .before .before .args in
+    let g = lent (now (a .coeffs)) (now (a .masks)) (now (a .marks)) (a .n) in
+    two-end (a .w) g (a .i) (live .if1 .left) (turn .loop .j) (turn .loop .inv .2) (omega arith) (omega arith)
 
 pub find-second-spec : {M : Type 1} → statement M
 find-second-spec =

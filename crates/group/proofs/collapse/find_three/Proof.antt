@@ -1,5 +1,5 @@
-use mathlib.Core.Path.{_≡_, refl, sym, _∙_}
-use Prim.Native.Nat.{ℕ, _+_, _-_, _≤_, _<_}
+use mathlib.Core.Path.{_≡_, refl}
+use Prim.Native.Nat.{_-_, _≤_}
 use native.Mathlib.Omega.{arith}
 use denote.Ref.{now}
 use Rattle.record.specs.Loop.{firstIn}
@@ -13,7 +13,8 @@ use Rattle.group.proofs.collapse.find_three.Lts as lts
 use Rattle.group.proofs.collapse.find_second.Reads as find-second-reads
 
 abbrev Inv-loop : tie.InvT-loop
-Inv-loop coeffs masks marks n w i₀ i = (i ≤ n) × (findFirst w (lent coeffs masks marks n) ≡ firstIn (firstFits w (lent coeffs masks marks n)) i n)
+Inv-loop coeffs masks marks n w i₀ i =
+    (i ≤ n) × (findFirst w (lent coeffs masks marks n) ≡ firstIn (firstFits w (lent coeffs masks marks n)) i n)
 
 abbrev μ-loop : tie.MeasureT-loop
 μ-loop coeffs masks marks n w i₀ i = n - i
@@ -32,9 +33,11 @@ find-second-requires c κs = (omega arith, omega arith)
 
 returns-2 : tie.Need-returns-2 Inv-loop μ-loop
 returns-2 c =
-    let a = c .before .before .before .before .before .args in
-    three-found (a .w) (lent (now (a .coeffs)) (now (a .masks)) (now (a .marks)) (a .n)) (c .before .before .before .loop .i) (c .before .before .before .loop .inv .1)
-    (omega arith) (c .before .find-second .ensures) (c .if2 .taken)
+    let turn = c .before .before .before in
+    let a = turn .before .before .args in
+    let g = lent (now (a .coeffs)) (now (a .masks)) (now (a .marks)) (a .n) in
+    three-found (a .w) g (turn .loop .i) (turn .loop .inv .1) (omega arith) (c .before .find-second .ensures)
+    (c .if2 .taken)
 
 add-i : tie.Need-add-i Inv-loop μ-loop
 add-i c = omega arith
@@ -44,17 +47,20 @@ loop-less c = omega arith
 
 loop-again : tie.Need-loop-again Inv-loop μ-loop
 loop-again c =
-    let a = c .before .before .before .before .before .args in (
+    let turn = c .before .before .before in
+    let a = turn .before .before .args in
+    let g = lent (now (a .coeffs)) (now (a .masks)) (now (a .marks)) (a .n) in (
       omega arith,
-      three-next (a .w) (lent (now (a .coeffs)) (now (a .masks)) (now (a .marks)) (a .n)) (c .before .before .before .loop .i) (c .before .before .before .loop .inv .1)
-          (omega arith) (c .before .find-second .ensures) (omega arith),
+      three-next (a .w) g (turn .loop .i) (turn .loop .inv .1) (omega arith) (c .before .find-second .ensures)
+          (omega arith),
     )
 
 returns-3 : tie.Need-returns-3 Inv-loop μ-loop
 returns-3 c =
-    let a = c .before .before .before .args in
-    three-end (a .w) (lent (now (a .coeffs)) (now (a .masks)) (now (a .marks)) (a .n)) (c .before .loop .i) (c .before .loop .inv .1)
-    (omega arith) (omega arith)
+    let turn = c .before in
+    let a = turn .before .before .args in
+    let g = lent (now (a .coeffs)) (now (a .masks)) (now (a .marks)) (a .n) in
+    three-end (a .w) g (turn .loop .i) (turn .loop .inv .1) (omega arith) (omega arith)
 
 pub find-three-spec : {M : Type 1} → statement M
 find-three-spec =

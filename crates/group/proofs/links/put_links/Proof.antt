@@ -1,5 +1,5 @@
 use mathlib.Core.Path.{_≡_, ap, sym, subst, _∙_}
-use Prim.Native.Nat.{ℕ, _+_, _-_, _≤_, _<_}
+use Prim.Native.Nat.{ℕ, _+_, _-_, _≤_}
 use native.Mathlib.Omega.{arith}
 use denote.Ref.{now}
 use lib.ListN.{length, length-set, length-replicate}
@@ -13,7 +13,8 @@ use Rattle.group.proofs.links.apart.Reads as apart-reads
 use Rattle.group.proofs.links.fold.Reads as fold-reads
 
 abbrev Inv-loop : tie.InvT-loop
-Inv-loop coeffs masks marks n m first₀ next₀ t₀ first next t = (t ≤ n) × (length first ≡ 1024) × (length next ≡ 256) × Linked (lent coeffs masks marks n) m (n - t) first next
+Inv-loop coeffs masks marks n m first₀ next₀ t₀ first next t =
+    (t ≤ n) × (length first ≡ 1024) × (length next ≡ 256) × Linked (lent coeffs masks marks n) m (n - t) first next
 
 abbrev μ-loop : tie.MeasureT-loop
 μ-loop coeffs masks marks n m first₀ next₀ t₀ first next t = n - t
@@ -76,13 +77,14 @@ loop-less c = omega arith
 
 loop-again : tie.Need-loop-again Inv-loop μ-loop
 loop-again c =
-    let h = c .before .before .before .before .before .before .before .before .loop in
-    let n = c .before .before .before .before .before .before .before .before .before .args .n in (
+    let test = c .before .before .before in
+    let h = test .before .before .before .before .before .loop in
+    let n = test .before .before .before .before .before .before .args .n in (
       omega arith,
       length-set (h .first) _ _ ∙ h .inv .1,
       length-set (h .next) _ _ ∙ h .inv .2,
       linked-put _ _ (n - (h .t + 1)) (omega arith) (omega arith) (h .inv .3) (c .before .fold .ensures)
-          (sym (c .before .before .before .before .apart .ensures) ∙ c .before .before .before .if1 .taken) (h .inv .1) (omega arith),
+          (sym (test .before .apart .ensures) ∙ test .if1 .taken) (h .inv .1) (omega arith),
     )
 
 loop-less-2 : tie.Need-loop-less-2 Inv-loop μ-loop

@@ -1,10 +1,11 @@
-use mathlib.Core.Path.{_≡_, refl, sym, _∙_}
-use Prim.Native.Nat.{ℕ, _+_, _-_, _≤_, _<_}
+use mathlib.Core.Path.{refl}
+use Prim.Native.Nat.{_-_}
 use native.Mathlib.Omega.{arith}
 use denote.Ref.{now}
 use Rattle.group.specs.Links.{lent}
 use Rattle.group.proofs.LinksLaws.{fold-below, head-le}
-use Rattle.group.proofs.ThirdLaws.{third-dead, Chased, chase-start, chase-le, chase-less, chase-here, chase-next, chase-end}
+use Rattle.group.proofs.ThirdLaws.{third-dead, Chased}
+use Rattle.group.proofs.ThirdLaws.{chase-start, chase-le, chase-less, chase-here, chase-next, chase-end}
 use Rattle.group.proofs.links.third_for.Statement.{statement}
 use Rattle.group.proofs.links.third_for.Tie as tie
 use Rattle.group.proofs.links.third_for.Reads as reads
@@ -56,13 +57,18 @@ element-copy-out-k : tie.Need-element-copy-out-k Inv-loop μ-loop
 element-copy-out-k c = omega (arith, fold-below _ (c .fold .ensures))
 
 cast-k : tie.Need-cast-k Inv-loop μ-loop
-cast-k c = omega (arith, head-le (c .before .before .before .before .before .before .before .before .pre .3) _ (fold-below _ (c .before .fold .ensures)))
+cast-k c =
+    let start = c .before .before .before .before .before .before .before .before in
+    omega (arith, head-le (start .pre .3) _ (fold-below _ (c .before .fold .ensures)))
 
 loop-holds : tie.Need-loop-holds Inv-loop μ-loop
 loop-holds c =
-    let a = c .before .before .before .before .before .before .before .before .args in
-    chase-start (a .w) (lent (now (a .coeffs)) (now (a .masks)) (now (a .marks)) (a .n)) (a .i) (a .j) (c .before .before .before .before .before .before .before .before .pre .3)
-    (c .before .before .before .before .before .before .if1 .left) (c .before .before .before .mod-add .ensures) (c .before .fold .ensures) refl
+    let sums = c .before .before .before in
+    let start = sums .before .before .before .before .before in
+    let a = start .args in
+    let g = lent (now (a .coeffs)) (now (a .masks)) (now (a .marks)) (a .n) in
+    chase-start (a .w) g (a .i) (a .j) (start .pre .3) (sums .before .before .before .if1 .left)
+    (sums .mod-add .ensures) (c .before .fold .ensures) refl
 
 mul-third-fits : tie.Need-mul-third-fits Inv-loop μ-loop
 mul-third-fits c = omega arith
@@ -81,9 +87,13 @@ third-fits-requires c κs = tt
 
 returns-2 : tie.Need-returns-2 Inv-loop μ-loop
 returns-2 c =
-    let a = c .before .before .before .before .before .before .before .before .before .before .before .before .before .before .args in
-    chase-here (a .w) (lent (now (a .coeffs)) (now (a .masks)) (now (a .marks)) (a .n)) (a .i) (a .j) (c .before .before .before .before .before .before .before .before .before .before .before .before .before .before .pre .3)
-    (c .before .before .before .before .before .loop .inv) (omega arith) (c .before .before .before .before .before .before .before .before .before .mod-add .ensures) (c .before .third-fits .ensures) (c .if2 .taken)
+    let turn = c .before .before .before .before .before in
+    let sums = turn .before .before .before .before in
+    let start = sums .before .before .before .before .before in
+    let a = start .args in
+    let g = lent (now (a .coeffs)) (now (a .masks)) (now (a .marks)) (a .n) in
+    chase-here (a .w) g (a .i) (a .j) (start .pre .3) (turn .loop .inv) (omega arith) (sums .mod-add .ensures)
+    (c .before .third-fits .ensures) (c .if2 .taken)
 
 mul-k-2 : tie.Need-mul-k-2 Inv-loop μ-loop
 mul-k-2 c = omega arith
@@ -93,23 +103,31 @@ element-copy-out-k-2 c = omega arith
 
 cast-k-2 : tie.Need-cast-k-2 Inv-loop μ-loop
 cast-k-2 c =
-    let a = c .before .before .before .before .before .before .before .before .before .before .before .before .before .before .before .args in
-    let le = chase-le (a .w) (lent (now (a .coeffs)) (now (a .masks)) (now (a .marks)) (a .n)) (a .i) (a .j) (c .before .before .before .before .before .before .before .before .before .before .before .before .before .before .before .pre .3)
-    (c .before .before .before .before .before .before .loop .inv) (omega arith) in
+    let turn = c .before .before .before .before .before .before in
+    let start = turn .before .before .before .before .before .before .before .before .before in
+    let a = start .args in
+    let g = lent (now (a .coeffs)) (now (a .masks)) (now (a .marks)) (a .n) in
+    let le = chase-le (a .w) g (a .i) (a .j) (start .pre .3) (turn .loop .inv) (omega arith) in
     omega (arith, le)
 
 loop-less : tie.Need-loop-less Inv-loop μ-loop
 loop-less c =
-    let a = c .before .before .before .before .before .before .before .before .before .before .before .before .before .before .before .args in
-    let less = chase-less (a .w) (lent (now (a .coeffs)) (now (a .masks)) (now (a .marks)) (a .n)) (a .i) (a .j) (c .before .before .before .before .before .before .before .before .before .before .before .before .before .before .before .pre .3)
-    (c .before .before .before .before .before .before .loop .inv) (omega arith) in
+    let turn = c .before .before .before .before .before .before in
+    let start = turn .before .before .before .before .before .before .before .before .before in
+    let a = start .args in
+    let g = lent (now (a .coeffs)) (now (a .masks)) (now (a .marks)) (a .n) in
+    let less = chase-less (a .w) g (a .i) (a .j) (start .pre .3) (turn .loop .inv) (omega arith) in
     omega (arith, less)
 
 loop-again : tie.Need-loop-again Inv-loop μ-loop
 loop-again c =
-    let a = c .before .before .before .before .before .before .before .before .before .before .before .before .before .before .before .args in
-    chase-next (a .w) (lent (now (a .coeffs)) (now (a .masks)) (now (a .marks)) (a .n)) (a .i) (a .j) (c .before .before .before .before .before .before .before .before .before .before .before .before .before .before .before .pre .3)
-    (c .before .before .before .before .before .before .loop .inv) (omega arith) (c .before .before .before .before .before .before .before .before .before .before .mod-add .ensures) (c .before .before .third-fits .ensures) (c .before .if2 .left) refl
+    let turn = c .before .before .before .before .before .before in
+    let sums = turn .before .before .before .before in
+    let start = sums .before .before .before .before .before in
+    let a = start .args in
+    let g = lent (now (a .coeffs)) (now (a .masks)) (now (a .marks)) (a .n) in
+    chase-next (a .w) g (a .i) (a .j) (start .pre .3) (turn .loop .inv) (omega arith) (sums .mod-add .ensures)
+    (c .before .before .third-fits .ensures) (c .before .if2 .left) refl
 
 returns-3 : tie.Need-returns-3 Inv-loop μ-loop
 returns-3 c = chase-end _ (c .before .loop .inv) (omega arith)

@@ -8,9 +8,6 @@ use Rattle.group.specs.Gathered.{addWord}
 use borrow.Author.Needs.{needs}
 use Rattle.group.proofs.settle.add_word.Statement.{statement}
 use Rattle.group.proofs.settle.add_word.Tie as tie
-use Rattle.group.proofs.settle.add_word.Reads as reads
-use Rattle.group.proofs.settle.add_word.Lts as lts
-use Rattle.arith.proofs.mod_add.Reads as mod-add-reads
 
 mul-mod-add : tie.Need-mul-mod-add
 mul-mod-add c = search needs
@@ -32,7 +29,9 @@ same-length c = search needs
 
 returns : tie.Need-returns
 unfolding addWord
-returns c = ap (λ (x : ℕ). set (now (c .before .before .before .before .args .coeffs)) (c .before .before .before .before .args .a) x) (c .mod-add .ensures)
+returns c =
+    let at-start = c .before .before .before .before in
+    ap (λ (x : ℕ). set (now (at-start .args .coeffs)) (at-start .args .a) x) (c .mod-add .ensures)
 
 returns-2 : tie.Need-returns-2
 unfolding addWord

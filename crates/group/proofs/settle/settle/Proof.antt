@@ -1,7 +1,7 @@
 -- `settle` meets its contract: the loop keeps what the entries before i add.
 use mathlib.Core.Path.{_≡_, ap, sym, _∙_}
 use mathlib.Core.Logic.{⊎-elim}
-use Prim.Native.Nat.{ℕ, _+_, _-_, _≤_}
+use Prim.Native.Nat.{_-_, _≤_}
 use native.Mathlib.Omega.{arith}
 use denote.Ref.{now}
 use lib.ListN.{length}
@@ -11,12 +11,10 @@ use Rattle.group.specs.Gathered.{settleWordAt, settleWords}
 use Rattle.group.proofs.SettleWordsLaws.{word-consumed, word-live, length-settle}
 use Rattle.group.proofs.settle.settle.Statement.{statement}
 use Rattle.group.proofs.settle.settle.Tie as tie
-use Rattle.group.proofs.settle.settle.Reads as reads
-use Rattle.group.proofs.settle.settle.Lts as lts
-use Rattle.group.proofs.settle.add_word.Reads as add-word-reads
 
 abbrev Inv-loop : tie.InvT-loop
-Inv-loop from atoms marks n coeffs₀ w i₀ coeffs i = (i ≤ n) × (coeffs ≡ forIn (settleWordAt w from atoms marks) 0 i coeffs₀)
+Inv-loop from atoms marks n coeffs₀ w i₀ coeffs i =
+    (i ≤ n) × (coeffs ≡ forIn (settleWordAt w from atoms marks) 0 i coeffs₀)
 
 abbrev μ-loop : tie.MeasureT-loop
 μ-loop from atoms marks n coeffs₀ w i₀ coeffs i = n - i
@@ -50,13 +48,17 @@ loop-less c = omega arith
 
 loop-again : tie.Need-loop-again Inv-loop μ-loop
 loop-again c =
-    let a = c .before .before .before .before .before .args in
-    let h = c .before .before .before .loop in (
+    let at-loop = c .before .before .before in
+    let at-start = at-loop .before .before in
+    let a = at-start .args in
+    let h = at-loop .loop in (
       omega arith,
       for-turn (settleWordAt (a .w) (now (a .from)) (now (a .atoms)) (now (a .marks))) (h .i) _ (h .inv .1)
           (⊎-elim
-          (λ k. k .7 ∙ k .4 .ensures ∙ sym (word-live (a .w) (now (a .from)) (now (a .atoms)) (now (a .marks)) (h .i) (h .coeffs) (k .0 .taken)))
-          (λ k. k .1 ∙ sym (word-consumed (a .w) (now (a .from)) (now (a .atoms)) (now (a .marks)) (h .i) (h .coeffs) (k .0 .left)))
+          (λ k. k .7 ∙ k .4 .ensures ∙ sym
+          (word-live (a .w) (now (a .from)) (now (a .atoms)) (now (a .marks)) (h .i) (h .coeffs) (k .0 .taken)))
+          (λ k. k .1 ∙ sym
+          (word-consumed (a .w) (now (a .from)) (now (a .atoms)) (now (a .marks)) (h .i) (h .coeffs) (k .0 .left)))
           (c .if1 .came)),
     )
 
@@ -69,8 +71,11 @@ same-length c =
 returns : tie.Need-returns Inv-loop μ-loop
 unfolding settleWords
 returns c =
-    let a = c .before .before .before .args in
-    for-done (settleWordAt (a .w) (now (a .from)) (now (a .atoms)) (now (a .marks))) _ (omega arith) (omega arith) (c .before .loop .inv .1)
+    let at-loop = c .before in
+    let at-start = at-loop .before .before in
+    let a = at-start .args in
+    for-done (settleWordAt (a .w) (now (a .from)) (now (a .atoms)) (now (a .marks))) _ (omega arith) (omega arith)
+    (at-loop .loop .inv .1)
 
 pub settle-spec : {M : Type 1} → statement M
 settle-spec =

@@ -1,6 +1,6 @@
 use mathlib.Core.Path.{_≡_, sym, _∙_}
 use mathlib.Core.Bool.{false}
-use Prim.Native.Nat.{ℕ, _+_, _-_, _≤_, _<_}
+use Prim.Native.Nat.{ℕ, _-_, _≤_, _<_}
 use native.Mathlib.Omega.{arith}
 use borrow.Author.Count.{below-more}
 use lib.ListN.{getD}
@@ -13,7 +13,8 @@ use Rattle.group.proofs.steps.any_negated.Lts as lts
 use Rattle.group.proofs.steps.negates.Reads as negates-reads
 
 abbrev Inv-loop : tie.InvT-loop
-Inv-loop coeffs masks marks n w i₀ i = (i ≤ n) × ((k : ℕ) → k < i → negatesOf (getD marks k 0) (getD coeffs k 0) (getD masks k 0) w ≡ false)
+Inv-loop coeffs masks marks n w i₀ i =
+    (i ≤ n) × ((k : ℕ) → k < i → negatesOf (getD marks k 0) (getD coeffs k 0) (getD masks k 0) w ≡ false)
 
 abbrev μ-loop : tie.MeasureT-loop
 μ-loop coeffs masks marks n w i₀ i = n - i

@@ -16,14 +16,16 @@ bitmask-requires : tie.Need-bitmask-requires
 bitmask-requires c κs = search needs
 
 returns-2 : tie.Need-returns-2
-returns-2 c = negates-there _ _ _ _ (omega arith) (c .before .before .if1 .left) (c .if2 .taken ∙ c .before .bitmask .ensures)
+returns-2 c =
+    negates-there _ _ _ _ (omega arith) (c .before .before .if1 .left) (c .if2 .taken ∙ c .before .bitmask .ensures)
 
 can-change-coefficient-to-requires : tie.Need-can-change-coefficient-to-requires
 can-change-coefficient-to-requires c κs = search needs
 
 returns-3 : tie.Need-returns-3
 returns-3 c =
-    negates-may _ _ _ _ (omega arith) (c .before .before .before .if1 .left) (c .before .before .bitmask .ensures) (c .before .if2 .left)
+    negates-may _ _ _ _ (omega arith) (c .before .before .before .if1 .left)
+    (c .before .before .bitmask .ensures) (c .before .if2 .left)
     (c .can-change-coefficient-to .ensures)
 
 pub negates-spec : {M : Type 1} → statement M

@@ -6,9 +6,6 @@ use Rattle.group.proofs.HasBasisLaws.{basis-other, basis-none, basis-sa
 use borrow.Author.Needs.{needs}
 use Rattle.group.proofs.views.has_basis.Statement.{statement}
 use Rattle.group.proofs.views.has_basis.Tie as tie
-use Rattle.group.proofs.views.has_basis.Reads as reads
-use Rattle.group.proofs.views.has_basis.Lts as lts
-use Rattle.record.proofs.same_bytes.Reads as same-bytes-reads
 
 mul-v : tie.Need-mul-v
 mul-v c = search needs
@@ -48,24 +45,33 @@ mul-start c = search needs
 shared-slice-read-start : tie.Need-shared-slice-read-start
 shared-slice-read-start c = search needs
 
-sub-same-bytes : tie.Need-sub-same-bytes
+sub-basis : tie.Need-sub-basis
 unfolding viewAt
-sub-same-bytes c = c .before .before .before .before .before .before .before .before .pre .start-le (c .before .before .before .before .before .before .before .before .args .i) (omega arith) (c .before .if2 .left)
+sub-basis c =
+    let at-start = c .before .before .before .before .before .before .before .before in
+    at-start .pre .start-le (at-start .args .i) (omega arith) (c .before .if2 .left)
 
-part-same-bytes-start : tie.Need-part-same-bytes-start
+part-basis-start : tie.Need-part-basis-start
 unfolding viewAt
-part-same-bytes-start c = c .before .before .before .before .before .before .before .before .pre .start-le (c .before .before .before .before .before .before .before .before .args .i) (omega arith) (c .before .if2 .left)
+part-basis-start c =
+    let at-start = c .before .before .before .before .before .before .before .before in
+    at-start .pre .start-le (at-start .args .i) (omega arith) (c .before .if2 .left)
 
-part-same-bytes-end : tie.Need-part-same-bytes-end
+part-basis-end : tie.Need-part-basis-end
 unfolding viewAt
-part-same-bytes-end c = c .before .before .before .before .before .before .before .before .pre .end-le (c .before .before .before .before .before .before .before .before .args .i) (omega arith)
+part-basis-end c =
+    let at-start = c .before .before .before .before .before .before .before .before in
+    at-start .pre .end-le (at-start .args .i) (omega arith)
 
 same-bytes-requires : tie.Need-same-bytes-requires
 same-bytes-requires c κs = search needs
 
 returns-3 : tie.Need-returns-3
 unfolding viewAt basisBytes
-returns-3 c = c .same-bytes .ensures ∙ sym (basis-same _ _ _ _ (c .before .before .before .before .before .if1 .left) (c .before .before .before .if2 .left))
+returns-3 c =
+    let at-if2 = c .before .before .before in
+    let at-if1 = at-if2 .before .before in
+    c .same-bytes .ensures ∙ sym (basis-same _ _ _ _ (at-if1 .if1 .left) (at-if2 .if2 .left))
 
 pub has-basis-spec : {M : Type 1} → statement M
 has-basis-spec =
@@ -83,8 +89,8 @@ has-basis-spec =
     add-start
     mul-start
     shared-slice-read-start
-    sub-same-bytes
-    part-same-bytes-start
-    part-same-bytes-end
+    sub-basis
+    part-basis-start
+    part-basis-end
     same-bytes-requires
     returns-3)

@@ -2,8 +2,6 @@
 use Rattle.group.proofs.ViewsLaws.{kept-here, kept-away}
 use Rattle.group.proofs.views.kept_of.Statement.{statement}
 use Rattle.group.proofs.views.kept_of.Tie as tie
-use Rattle.group.proofs.views.kept_of.Reads as reads
-use Rattle.group.proofs.views.kept_of.Lts as lts
 
 returns : tie.Need-returns
 returns c = kept-here _ _ (c .if1 .taken)

@@ -3,9 +3,6 @@ use Rattle.group.specs.Views.{viewWords}
 use borrow.Author.Needs.{needs}
 use Rattle.group.proofs.views.put_view.Statement.{statement}
 use Rattle.group.proofs.views.put_view.Tie as tie
-use Rattle.group.proofs.views.put_view.Reads as reads
-use Rattle.group.proofs.views.put_view.Lts as lts
-use Rattle.record.proofs.write.put_words.Reads as put-words-reads
 
 mul-put-words : tie.Need-mul-put-words
 mul-put-words c = search needs

@@ -2,7 +2,6 @@
 use mathlib.Core.Path.{ap, sym, _∙_}
 use Prim.Native.Nat.{_-_}
 use native.Mathlib.Omega.{arith}
-use denote.Ref.{now}
 use borrow.Author.Tests.{not-true, not-false}
 use lib.ListN.{length}
 use Rattle.semilinear.specs.Items.{isAtom, afterAtoms}
@@ -11,14 +10,10 @@ use Rattle.group.specs.Views.{onlyOf}
 use Rattle.group.proofs.ReadLaws.{Reads, reads-start, reads-row, reads-end, number-lt, coeffs-long}
 use Rattle.group.proofs.views.read_views.Statement.{statement}
 use Rattle.group.proofs.views.read_views.Tie as tie
-use Rattle.group.proofs.views.read_views.Reads as reads
-use Rattle.group.proofs.views.read_views.Lts as lts
-use Rattle.group.proofs.views.Reading.read_row.Reads as read-row-reads
-use Rattle.semilinear.proofs.items.is_atom.Reads as is-atom-reads
-use Rattle.semilinear.proofs.items.rest_from.Reads as rest-from-reads
 
 abbrev Inv-loop : tie.InvT-loop
-Inv-loop f terms w only views₀ coeffs₀ x₀ views coeffs x = Reads (onlyOf only) w f (rowsOf 0 f (afterAtoms f)) views₀ coeffs₀ x views coeffs
+Inv-loop f terms w only views₀ coeffs₀ x₀ views coeffs x =
+    Reads (onlyOf only) w f (rowsOf 0 f (afterAtoms f)) views₀ coeffs₀ x views coeffs
 
 abbrev μ-loop : tie.MeasureT-loop
 μ-loop f terms w only views₀ coeffs₀ x₀ views coeffs x = length f - x .at
@@ -42,17 +37,26 @@ same-length-2 c = coeffs-long _ _ _ _ _ _ _ _ _ (c .before .before .before .loop
 
 returns : tie.Need-returns Inv-loop μ-loop
 returns c =
-    let h = c .before .before .before .loop in
+    let at-is-atom = c .before in
+    let at-rest-from = at-is-atom .before in
+    let at-loop = at-rest-from .before in
+    let h = at-loop .loop in
     reads-end _ _ _ _ _ _ (h .x) _ _ (h .inv)
-    (ap isAtom (sym (c .before .before .rest-from .ensures)) ∙ sym (c .before .is-atom .ensures) ∙ not-true _ (c .if1 .taken))
+    (ap isAtom (sym (at-rest-from .rest-from .ensures)) ∙ sym (at-is-atom .is-atom .ensures) ∙ not-true _
+    (c .if1 .taken))
 
 read-row-requires : tie.Need-read-row-requires Inv-loop μ-loop
 read-row-requires c κs =
-    let h = c .before .before .before .before .before .loop in
-    let a = c .before .before .before .before .before .before .before .before .before in
-    let e = ap isAtom (sym (c .before .before .before .before .rest-from .ensures)) ∙ sym (c .before .before .before .is-atom .ensures) ∙ not-false _ (c .before .before .if1 .left) in
+    let at-if1 = c .before .before in
+    let at-is-atom = at-if1 .before in
+    let at-rest-from = at-is-atom .before in
+    let at-loop = at-rest-from .before in
+    let at-start = at-loop .before .before .before .before in
+    let h = at-loop .loop in
+    let e = ap isAtom (sym (at-rest-from .rest-from .ensures)) ∙ sym (at-is-atom .is-atom .ensures) ∙ not-false _
+    (at-if1 .if1 .left) in
     let lt = number-lt _ _ _ _ _ _ (h .x) _ _ (h .inv) e in (
-      a .pre .0,
+      at-start .pre .0,
       h .inv .inside,
       h .inv .terms-inside,
       e,
@@ -63,14 +67,21 @@ read-row-requires c κs =
 
 loop-less : tie.Need-loop-less Inv-loop μ-loop
 loop-less c =
-    omega (arith, c .before .before .before .before .read-row .ensures .passed .inside, c .before .before .before .before .read-row .ensures .passed .later)
+    let at-read-row = c .before .before .before .before in
+    omega (arith, at-read-row .read-row .ensures .passed .inside, at-read-row .read-row .ensures .passed .later)
 
 loop-again : tie.Need-loop-again Inv-loop μ-loop
 loop-again c =
-    let h = c .before .before .before .before .before .before .before .before .before .before .loop in
+    let at-read-row = c .before .before .before .before in
+    let at-if1 = at-read-row .before .before .before in
+    let at-is-atom = at-if1 .before in
+    let at-rest-from = at-is-atom .before in
+    let at-loop = at-rest-from .before in
+    let h = at-loop .loop in
     reads-row _ _ _ _ _ _ (h .x) _ _ (h .inv)
-    (ap isAtom (sym (c .before .before .before .before .before .before .before .before .before .rest-from .ensures)) ∙ sym (c .before .before .before .before .before .before .before .before .is-atom .ensures) ∙ not-false _ (c .before .before .before .before .before .before .before .if1 .left)) (c .before .before .before .before .read-row .result) _ _
-    (c .before .before .before .before .read-row .ensures)
+    (ap isAtom (sym (at-rest-from .rest-from .ensures)) ∙ sym (at-is-atom .is-atom .ensures) ∙ not-false _
+    (at-if1 .if1 .left)) (at-read-row .read-row .result) _ _
+    (at-read-row .read-row .ensures)
 
 pub read-views-spec : {M : Type 1} → statement M
 read-views-spec =

@@ -11,12 +11,6 @@ use Rattle.group.proofs.SplitLaws.{basis-sized, basis-big, counts-varia
 use borrow.Author.Needs.{needs}
 use Rattle.group.proofs.views.view_of.Statement.{statement}
 use Rattle.group.proofs.views.view_of.Tie as tie
-use Rattle.group.proofs.views.view_of.Reads as reads
-use Rattle.group.proofs.views.view_of.Lts as lts
-use Rattle.expr.proofs.hash.structural_hash.Reads as structural-hash-reads
-use Rattle.group.proofs.views.no_view.Reads as no-view-reads
-use Rattle.record.proofs.kind.Reads as kind-reads
-use Rattle.semilinear.proofs.decompose.decompose_atom.Reads as decompose-atom-reads
 
 no-view-requires : tie.Need-no-view-requires
 no-view-requires c κs = search needs
@@ -35,17 +29,26 @@ part-decompose-atom-end : tie.Need-part-decompose-atom-end
 part-decompose-atom-end c = search needs
 
 decompose-atom-requires : tie.Need-decompose-atom-requires
-decompose-atom-requires c κs = (sized-accepted _ _ (c .before .before .before .pre .3), c .before .before .before .pre .0)
+decompose-atom-requires c κs =
+    let at-start = c .before .before .before in
+    (sized-accepted _ _ (at-start .pre .3), at-start .pre .0)
 
 no-view-requires-2 : tie.Need-no-view-requires-2
 no-view-requires-2 c κs = search needs
 
 returns-2 : tie.Need-returns-2
 returns-2 c =
+    let at-if2 = c .before in
+    let at-decompose-atom = at-if2 .before .before in
+    let at-if1 = at-decompose-atom .before .before in
+    let at-shared-slice-known = at-if1 .before in
+    let at-start = at-shared-slice-known .before in
     λ x et ec.
-    viewed-opaque _ (now (c .before .before .before .before .before .before .before .args .f)) (λ i. c .before .before .before .before .before .before .shared-slice-known .given i .fits) (c .before .before .before .before .before .before .before .args .from) (c .before .before .before .before .before .before .before .args .to)
-    (c .before .before .before .before .before .before .before .pre .1) (c .before .before .before .before .before .before .before .pre .2) (c .before .before .before .before .before .before .before .pre .3) (c .before .before .before .decompose-atom .ensures)
-    (not-true _ (c .before .if2 .taken)) (c .before .before .before .before .before .before .before .args .only) x et (λ z. c .before .before .before .before .before .if1 .left (sym ec ∙ z)) _ (c .no-view2 .ensures)
+    viewed-opaque _ (now (at-start .args .f)) (λ i. at-shared-slice-known .shared-slice-known .given i .fits)
+    (at-start .args .from) (at-start .args .to)
+    (at-start .pre .1) (at-start .pre .2) (at-start .pre .3) (at-decompose-atom .decompose-atom .ensures)
+    (not-true _ (at-if2 .if2 .taken)) (at-start .args .only) x et (λ z. at-if1 .if1 .left (sym ec ∙ z)) _
+    (c .no-view2 .ensures)
 
 add-start : tie.Need-add-start
 add-start c = search needs
@@ -64,39 +67,73 @@ part-b-end c = search needs
 
 kind-requires : tie.Need-kind-requires
 kind-requires c κs =
-    basis-big _ (now (c .before .before .before .before .before .before .before .before .before .before .args .f)) (λ i. c .before .before .before .before .before .before .before .before .before .shared-slice-known .given i .fits) (c .before .before .before .before .before .before .before .before .before .before .args .from) (c .before .before .before .before .before .before .before .before .before .before .args .to)
-    (c .before .before .before .before .before .before .before .before .before .before .pre .1) (c .before .before .before .before .before .before .before .before .before .before .pre .2) (c .before .before .before .before .before .before .before .before .before .before .pre .3) (c .before .before .before .before .before .before .decompose-atom .ensures) (not-false _ (c .before .before .before .before .if2 .left)) refl
+    let at-if2 = c .before .before .before .before in
+    let at-decompose-atom = at-if2 .before .before in
+    let at-shared-slice-known = at-decompose-atom .before .before .before in
+    let at-start = at-shared-slice-known .before in
+    basis-big _ (now (at-start .args .f)) (λ i. at-shared-slice-known .shared-slice-known .given i .fits)
+    (at-start .args .from) (at-start .args .to)
+    (at-start .pre .1) (at-start .pre .2) (at-start .pre .3) (at-decompose-atom .decompose-atom .ensures)
+    (not-false _ (at-if2 .if2 .left)) refl
 
 no-view-requires-3 : tie.Need-no-view-requires-3
 no-view-requires-3 c κs = search needs
 
 returns-3 : tie.Need-returns-3
 returns-3 c =
+    let at-if4 = c .before in
+    let at-kind = at-if4 .before in
+    let at-if3 = at-kind .before in
+    let at-if2 = at-if3 .before .before .before .before in
+    let at-decompose-atom = at-if2 .before .before in
+    let at-if1 = at-decompose-atom .before .before in
+    let at-shared-slice-known = at-if1 .before in
+    let at-start = at-shared-slice-known .before in
     λ x et ec.
-    viewed-other _ (now (c .before .before .before .before .before .before .before .before .before .before .before .before .before .args .f)) (λ i. c .before .before .before .before .before .before .before .before .before .before .before .before .shared-slice-known .given i .fits) (c .before .before .before .before .before .before .before .before .before .before .before .before .before .args .from) (c .before .before .before .before .before .before .before .before .before .before .before .before .before .args .to)
-    (c .before .before .before .before .before .before .before .before .before .before .before .before .before .pre .1) (c .before .before .before .before .before .before .before .before .before .before .before .before .before .pre .2) (c .before .before .before .before .before .before .before .before .before .before .before .before .before .pre .3) (c .before .before .before .before .before .before .before .before .before .decompose-atom .ensures) (not-false _ (c .before .before .before .before .before .before .before .if2 .left)) refl
-    (c .before .before .before .before .before .before .before .before .before .before .before .before .before .args .only) x et (λ z. c .before .before .before .before .before .before .before .before .before .before .before .if1 .left (sym ec ∙ z)) _ (c .no-view3 .ensures) (c .before .before .before .if3 .taken)
-    (λ k. c .before .if4 .taken (c .before .before .kind .ensures ∙ k))
+    viewed-other _ (now (at-start .args .f)) (λ i. at-shared-slice-known .shared-slice-known .given i .fits)
+    (at-start .args .from) (at-start .args .to)
+    (at-start .pre .1) (at-start .pre .2) (at-start .pre .3) (at-decompose-atom .decompose-atom .ensures)
+    (not-false _ (at-if2 .if2 .left)) refl
+    (at-start .args .only) x et (λ z. at-if1 .if1 .left (sym ec ∙ z)) _ (c .no-view3 .ensures) (at-if3 .if3 .taken)
+    (λ k. at-if4 .if4 .taken (at-kind .kind .ensures ∙ k))
 
 structural-hash-requires : tie.Need-structural-hash-requires
 structural-hash-requires c κs =
-    basis-sized _ (now (c .before .before .before .before .before .before .before .before .before .before .args .f)) (λ i. c .before .before .before .before .before .before .before .before .before .shared-slice-known .given i .fits) (c .before .before .before .before .before .before .before .before .before .before .args .from) (c .before .before .before .before .before .before .before .before .before .before .args .to)
-    (c .before .before .before .before .before .before .before .before .before .before .pre .1) (c .before .before .before .before .before .before .before .before .before .before .pre .2) (c .before .before .before .before .before .before .before .before .before .before .pre .3) (c .before .before .before .before .before .before .decompose-atom .ensures) (not-false _ (c .before .before .before .before .if2 .left)) refl
+    let at-if2 = c .before .before .before .before in
+    let at-decompose-atom = at-if2 .before .before in
+    let at-shared-slice-known = at-decompose-atom .before .before .before in
+    let at-start = at-shared-slice-known .before in
+    basis-sized _ (now (at-start .args .f)) (λ i. at-shared-slice-known .shared-slice-known .given i .fits)
+    (at-start .args .from) (at-start .args .to)
+    (at-start .pre .1) (at-start .pre .2) (at-start .pre .3) (at-decompose-atom .decompose-atom .ensures)
+    (not-false _ (at-if2 .if2 .left)) refl
 
 returns-4 : tie.Need-returns-4
 returns-4 c =
+    let at-if3 = c .before in
+    let at-if2 = at-if3 .before .before .before .before in
+    let at-decompose-atom = at-if2 .before .before in
+    let at-if1 = at-decompose-atom .before .before in
+    let at-shared-slice-known = at-if1 .before in
+    let at-start = at-shared-slice-known .before in
     λ x et ec.
-    let n : x .coeff ≡ 0 → ⊥ = λ z. c .before .before .before .before .before .before .before .before .before .if1 .left (sym ec ∙ z) in
-    viewed-basis _ (now (c .before .before .before .before .before .before .before .before .before .before .before .args .f)) (λ i. c .before .before .before .before .before .before .before .before .before .before .shared-slice-known .given i .fits) (c .before .before .before .before .before .before .before .before .before .before .before .args .from) (c .before .before .before .before .before .before .before .before .before .before .before .args .to)
-    (c .before .before .before .before .before .before .before .before .before .before .before .pre .1) (c .before .before .before .before .before .before .before .before .before .before .before .pre .2) (c .before .before .before .before .before .before .before .before .before .before .before .pre .3) (c .before .before .before .before .before .before .before .decompose-atom .ensures) (not-false _ (c .before .before .before .before .before .if2 .left)) refl
-    (c .before .before .before .before .before .before .before .before .before .before .before .args .only) x et n (c .structural-hash .ensures) ec
+    let n : x .coeff ≡ 0 → ⊥ = λ z. at-if1 .if1 .left (sym ec ∙ z) in
+    viewed-basis _ (now (at-start .args .f)) (λ i. at-shared-slice-known .shared-slice-known .given i .fits)
+    (at-start .args .from) (at-start .args .to)
+    (at-start .pre .1) (at-start .pre .2) (at-start .pre .3) (at-decompose-atom .decompose-atom .ensures)
+    (not-false _ (at-if2 .if2 .left)) refl
+    (at-start .args .only) x et n (c .structural-hash .ensures) ec
     (⊎-elim
-    (λ k. counts-variable _ (now (c .before .before .before .before .before .before .before .before .before .before .before .args .f)) (λ i. c .before .before .before .before .before .before .before .before .before .before .shared-slice-known .given i .fits) (c .before .before .before .before .before .before .before .before .before .before .before .args .from) (c .before .before .before .before .before .before .before .before .before .before .before .args .to)
-    (c .before .before .before .before .before .before .before .before .before .before .before .pre .1) (c .before .before .before .before .before .before .before .before .before .before .before .pre .2) (c .before .before .before .before .before .before .before .before .before .before .before .pre .3) (c .before .before .before .before .before .before .before .decompose-atom .ensures) (not-false _ (c .before .before .before .before .before .if2 .left)) refl (c .before .before .before .before .before .before .before .before .before .before .before .args .only) x et n (k .0 .taken)
+    (λ k. counts-variable _ (now (at-start .args .f)) (λ i. at-shared-slice-known .shared-slice-known .given i .fits)
+    (at-start .args .from) (at-start .args .to)
+    (at-start .pre .1) (at-start .pre .2) (at-start .pre .3) (at-decompose-atom .decompose-atom .ensures)
+    (not-false _ (at-if2 .if2 .left)) refl (at-start .args .only) x et n (k .0 .taken)
     (sym (k .1 .ensures) ∙ k .2 .left))
-    (λ k. counts-any _ (now (c .before .before .before .before .before .before .before .before .before .before .before .args .f)) (λ i. c .before .before .before .before .before .before .before .before .before .before .shared-slice-known .given i .fits) (c .before .before .before .before .before .before .before .before .before .before .before .args .from) (c .before .before .before .before .before .before .before .before .before .before .before .args .to)
-    (c .before .before .before .before .before .before .before .before .before .before .before .pre .1) (c .before .before .before .before .before .before .before .before .before .before .before .pre .2) (c .before .before .before .before .before .before .before .before .before .before .before .pre .3) (c .before .before .before .before .before .before .before .decompose-atom .ensures) (not-false _ (c .before .before .before .before .before .if2 .left)) refl (c .before .before .before .before .before .before .before .before .before .before .before .args .only) x et n (k .left))
-    (c .before .if3 .came))
+    (λ k. counts-any _ (now (at-start .args .f)) (λ i. at-shared-slice-known .shared-slice-known .given i .fits)
+    (at-start .args .from) (at-start .args .to)
+    (at-start .pre .1) (at-start .pre .2) (at-start .pre .3) (at-decompose-atom .decompose-atom .ensures)
+    (not-false _ (at-if2 .if2 .left)) refl (at-start .args .only) x et n (k .left))
+    (at-if3 .if3 .came))
 
 pub view-of-spec : {M : Type 1} → statement M
 view-of-spec =

@@ -1,6 +1,5 @@
 -- `Reading::read_row` meets its contract: a row without a term has no view, one with a term that of its tree.
 use mathlib.Core.Path.{ap, sym, _∙_}
-use Prim.Native.Nat.{ℕ, _+_}
 use native.Mathlib.Omega.{arith}
 use denote.Ref.{now}
 use borrow.Author.Tests.{not-true, not-false}
@@ -14,16 +13,6 @@ use Rattle.group.proofs.ReadLaws.{tree-accepted, row-tree, row-coeff-no
 use borrow.Author.Needs.{needs}
 use Rattle.group.proofs.views.Reading.read_row.Statement.{statement}
 use Rattle.group.proofs.views.Reading.read_row.Tie as tie
-use Rattle.group.proofs.views.Reading.read_row.Reads as reads
-use Rattle.group.proofs.views.Reading.read_row.Lts as lts
-use Rattle.group.proofs.views.kept_of.Reads as kept-of-reads
-use Rattle.group.proofs.views.no_view.Reads as no-view-reads
-use Rattle.group.proofs.views.put_view.Reads as put-view-reads
-use Rattle.group.proofs.views.view_of.Reads as view-of-reads
-use Rattle.semilinear.proofs.items.atom_length.Reads as atom-length-reads
-use Rattle.semilinear.proofs.items.front_word.Reads as front-word-reads
-use Rattle.semilinear.proofs.items.has_term.Reads as has-term-reads
-use Rattle.semilinear.proofs.items.rest_from.Reads as rest-from-reads
 
 rest-from-requires : tie.Need-rest-from-requires
 rest-from-requires c κs = search needs
@@ -63,23 +52,29 @@ same-length-2 c = search needs
 
 returns : tie.Need-returns
 returns c =
-    let a = c .before .before .before .before .before .before .before .before .before .before .before .before .before in
-    let at-length = c .before .before .before .before .before .before .before in
-    let f = now (a .args .f) in
-    let at = a .args .self .at in
-    let next = a .args .self .next in
-    let number = a .args .self .number in
+    let at-put-view = c .before .before in
+    let at-no-view = at-put-view .before .before in
+    let at-if1 = at-no-view .before in
+    let at-has-term = at-if1 .before in
+    let at-length = at-has-term .before in
+    let at-start = at-length .before .before .before .before .before .before in
+    let f = now (at-start .args .f) in
+    let at = at-start .args .self .at in
+    let next = at-start .args .self .next in
+    let number = at-start .args .self .number in
     let er = at-length .before .before .rest-from .ensures in
     let eq = at-length .before .rest-from2 .ensures in
     let en = at-length .atom-length .ensures .0 in
-    let no-term = sym (c .before .before .before .before .before .before .has-term .ensures) ∙ not-true _ (c .before .before .before .before .before .if1 .taken) in
+    let no-term = sym (at-has-term .has-term .ensures) ∙ not-true _ (at-if1 .if1 .taken) in
     let none = row-coeff-none number (drop at f) (drop next f) (rw eq at no-term) in
     record {
-      passed = passed-without f at next number (a .pre .1) (a .pre .2) (a .pre .3) er eq en no-term;
-      view = c .before .before .before .before .no-view .result;
-      viewed = viewed-none _ _ _ _ _ (c .before .before .before .before .no-view .ensures) (view-none _ _ _ none);
-      words = c .before .before .put-view .ensures;
-      kept = ap (set (now (a .args .coeffs)) number) (kept-none (c .before .before .before .before .no-view .result) _ (c .before .before .before .before .no-view .ensures) none);
+      passed = passed-without f at next number (at-start .pre .1) (at-start .pre .2) (at-start .pre .3) er eq en
+          no-term;
+      view = at-no-view .no-view .result;
+      viewed = viewed-none _ _ _ _ _ (at-no-view .no-view .ensures) (view-none _ _ _ none);
+      words = at-put-view .put-view .ensures;
+      kept = ap (set (now (at-start .args .coeffs)) number)
+          (kept-none (at-no-view .no-view .result) _ (at-no-view .no-view .ensures) none);
     }
 
 front-word-requires : tie.Need-front-word-requires
@@ -113,7 +108,10 @@ kept-of-requires : tie.Need-kept-of-requires
 kept-of-requires c κs = search needs
 
 mul-coeffs-2 : tie.Need-mul-coeffs-2
-mul-coeffs-2 c = omega (arith, c .before .before .before .before .before .before .before .before .before .before .before .before .before .before .before .good .1 .1 .1 .1 .1 .0, c .before .before .before .before .before .before .before .before .before .before .before .before .before .before .before .pre .6)
+mul-coeffs-2 c =
+    let at-start = c .before .before .before .before .before .before .before .before .before .before .before .before
+    .before .before .before in
+    omega (arith, at-start .good .1 .1 .1 .1 .1 .0, at-start .pre .6)
 
 slice-write-coeffs-2 : tie.Need-slice-write-coeffs-2
 slice-write-coeffs-2 c = search needs
@@ -122,7 +120,10 @@ add-t16 : tie.Need-add-t16
 add-t16 c = search needs
 
 add-t29 : tie.Need-add-t29
-add-t29 c = omega (arith, c .before .before .before .before .before .before .before .before .before .before .before .before .before .before .before .good .1 .1 .1 .1 .1 .0, c .before .before .before .before .before .before .before .before .before .before .before .before .before .before .before .pre .6)
+add-t29 c =
+    let at-start = c .before .before .before .before .before .before .before .before .before .before .before .before
+    .before .before .before in
+    omega (arith, at-start .good .1 .1 .1 .1 .1 .0, at-start .pre .6)
 
 same-length-3 : tie.Need-same-length-3
 same-length-3 c = search needs
@@ -132,25 +133,31 @@ same-length-4 c = search needs
 
 returns-2 : tie.Need-returns-2
 returns-2 c =
-    let a = c .before .before .before .before .before .before .before .before .before .before .before .before .before .before .before in
-    let at-length = c .before .before .before .before .before .before .before .before .before in
-    let f = now (a .args .f) in
-    let at = a .args .self .at in
-    let next = a .args .self .next in
-    let number = a .args .self .number in
+    let at-put-view2 = c .before .before .before in
+    let at-view-of = at-put-view2 .before .before in
+    let at-front-word = at-view-of .before in
+    let at-if1 = at-front-word .before in
+    let at-has-term = at-if1 .before in
+    let at-length = at-has-term .before in
+    let at-start = at-length .before .before .before .before .before .before in
+    let f = now (at-start .args .f) in
+    let at = at-start .args .self .at in
+    let next = at-start .args .self .next in
+    let number = at-start .args .self .number in
     let er = at-length .before .before .rest-from .ensures in
     let eq = at-length .before .rest-from2 .ensures in
     let en = at-length .atom-length .ensures .0 in
-    let term = sym (c .before .before .before .before .before .before .before .before .has-term .ensures) ∙ not-false _ (c .before .before .before .before .before .before .before .if1 .left) in
+    let term = sym (at-has-term .has-term .ensures) ∙ not-false _ (at-if1 .if1 .left) in
     let coeff = row-coeff number (drop at f) (drop next f)
-    ∙ sym (c .before .before .before .before .before .before .front-word .ensures ∙ coeff-with f at next number (a .pre .1) (a .pre .2) (a .pre .3) er eq en term) in
+    ∙ sym (at-front-word .front-word .ensures ∙ coeff-with f at next number (at-start .pre .1) (at-start .pre .2)
+    (at-start .pre .3) er eq en term) in
     record {
-      passed = passed-with f at next number (a .pre .1) (a .pre .2) (a .pre .3) er eq en term;
-      view = c .before .before .before .before .before .view-of .result;
-      viewed = c .before .before .before .before .before .view-of .ensures _ (row-tree (a .args .w) f at er en number (drop next f)) coeff;
-      words = c .before .before .before .put-view2 .ensures;
-      kept = ap (set (now (a .args .coeffs)) number)
-          (c .kept-of .ensures ∙ ap (keptOf (c .before .before .before .before .before .view-of .result)) (sym coeff));
+      passed = passed-with f at next number (at-start .pre .1) (at-start .pre .2) (at-start .pre .3) er eq en term;
+      view = at-view-of .view-of .result;
+      viewed = at-view-of .view-of .ensures _ (row-tree (at-start .args .w) f at er en number (drop next f)) coeff;
+      words = at-put-view2 .put-view2 .ensures;
+      kept = ap (set (now (at-start .args .coeffs)) number)
+          (c .kept-of .ensures ∙ ap (keptOf (at-view-of .view-of .result)) (sym coeff));
     }
 
 pub read-row-spec : {M : Type 1} → statement M

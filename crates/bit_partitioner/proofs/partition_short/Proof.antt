@@ -1,0 +1,49 @@
+-- `partition_short` meets its contract: the arrays have room for its atoms.
+use mathlib.Core.Path.{sym, _∙_}
+use native.Mathlib.Omega.{arith}
+use lib.ListN.{replicate}
+use lib.Seq.{length-take-le}
+use borrow.Author.Needs.{needs}
+use Rattle.bit_partitioner.proofs.partition_short.Statement.{statement}
+use Rattle.bit_partitioner.proofs.partition_short.Tie as tie
+
+slice-aggregate-partition-atoms : tie.Need-slice-aggregate-partition-atoms
+slice-aggregate-partition-atoms c = search needs
+
+array-borrow-prefix-profile : tie.Need-array-borrow-prefix-profile
+array-borrow-prefix-profile c = search needs
+
+slice-aggregate-partition-atoms-2 : tie.Need-slice-aggregate-partition-atoms-2
+slice-aggregate-partition-atoms-2 c =
+    let at-start = c .before .before .before .before in
+    sym (length-take-le (at-start .args .n) (replicate 16 0) (at-start .pre .3))
+
+partition-atoms-requires : tie.Need-partition-atoms-requires
+partition-atoms-requires c κs =
+    let at-start = c .before .before .before .before .before in
+    let pre = at-start .pre in (
+      pre .0,
+      omega (arith, pre .1, pre .2),
+      omega (arith, pre .1, pre .3),
+      length-take-le (at-start .args .n) (replicate 16 0) (pre .3) ∙ pre .1,
+      pre .4,
+      rw (← pre .1) (pre .5),
+      pre .6,
+    )
+
+same-length : tie.Need-same-length
+same-length c = search needs
+
+returns : tie.Need-returns
+returns c = search needs
+
+pub partition-short-spec : {M : Type 1} → statement M
+partition-short-spec =
+    tie.close
+    (tie.spec
+    slice-aggregate-partition-atoms
+    array-borrow-prefix-profile
+    slice-aggregate-partition-atoms-2
+    partition-atoms-requires
+    same-length
+    returns)
