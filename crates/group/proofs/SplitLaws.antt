@@ -59,13 +59,13 @@ pub only-variable : onlyOf true ≡ variableBasis
 unfolding onlyOf
 only-variable = refl
 
-variable-kind : (b : List ℕ) → sized b ≡ true → kind b ≡ 1 → variableBasis (decode b) ≡ true
+pub variable-kind : (b : List ℕ) → sized b ≡ true → kind b ≡ 1 → variableBasis (decode b) ≡ true
 unfolding variableBasis leaf
 variable-kind b ok e =
     let a : arity (kind b) ≡ 0 = arity-zero-of-lt (kind b) (omega arith) in
     rw (decode-leaf b ok refl a) (simp (ne-eqb (kind b) 0 (omega arith)))
 
-other-kind : (b : List ℕ) → sized b ≡ true → (kind b ≡ 1 → ⊥) → variableBasis (decode b) ≡ false
+pub other-kind : (b : List ℕ) → sized b ≡ true → (kind b ≡ 1 → ⊥) → variableBasis (decode b) ≡ false
 unfolding variableBasis leaf
 other-kind b ok n = go (ℕ-discrete (arity (kind b)) 0) (ℕ-discrete (arity (kind b)) 1)
   where

@@ -1,6 +1,6 @@
 -- The tests of flattening as the code makes them (specs/Flattening.antt): a basis that is a variable is a root of kind
 -- 1, and one variable is a first one without a second.
-use mathlib.Core.Path.{_≡_, refl, ap, sym, _∙_}
+use mathlib.Core.Path.{_≡_, ap, sym, _∙_}
 use Prim.Native.Nat.{ℕ, _+_, _-_, _≤_, _<_}
 use native.Mathlib.Omega.{arith}
 use native.Mathlib.Decide.{ℕ-discrete}
@@ -9,40 +9,29 @@ use mathlib.Core.Bool.{Bool, true, false, not, _&&_}
 use lib.ListN.{length, take, drop}
 use lib.Dec.{eqb}
 use borrow.Author.Tests.{eq-eqb, ne-eqb}
-use Rattle.record.specs.Fields.{kind, arity}
+use Rattle.record.specs.Fields.{kind}
 use Rattle.record.specs.Tree.{Tree}
 use Rattle.record.specs.Span.{sized}
-use Rattle.record.specs.Decode.{leaf, decode}
-use Rattle.record.proofs.FieldsLaws.{arity-zero-of-lt, kind-of-arity-zero}
+use Rattle.record.specs.Decode.{decode}
 use Rattle.record.proofs.SizedLaws.{sized-big}
-use Rattle.record.proofs.DecodeLaws.{decode-leaf, decode-one, decode-two}
 use Rattle.expr.specs.Utils.{hasShr}
 use Rattle.expr.specs.Vars.{noVar, nextVar, support}
 use Rattle.expr.proofs.VarsLaws.{supportFrom, support-from-zero, support-from-next, support-from-end}
 use Rattle.semilinear.specs.declared.decompose.Basis.{Basis}
 use Rattle.semilinear.specs.Basis.{basisSpan, viewOf, IsDecomposed}
 use Rattle.group.specs.Group.{variableBasis}
+use Rattle.group.proofs.SplitLaws.{variable-kind, other-kind}
 use Rattle.structure_recovery.specs.FlattenComplexAtoms.{isPlain}
 use Rattle.structure_recovery.specs.Flattening.{complexTree}
 
 -- ---- plain atoms
 
-module _ (b : List ℕ) (ok : sized b ≡ true) where
-  variable-kind : variableBasis (decode b) ≡ eqb (kind b) 1
-  unfolding variableBasis leaf
-  variable-kind = go (ℕ-discrete (arity (kind b)) 0) (ℕ-discrete (arity (kind b)) 1) (ℕ-discrete (kind b) 0)
-    where
-      inner : (arity (kind b) ≡ 0 → ⊥) → kind b ≡ 1 → ⊥
-      inner n z = n (arity-zero-of-lt (kind b) (omega arith))
-
-      go : Dec (arity (kind b) ≡ 0) → Dec (arity (kind b) ≡ 1) → Dec (kind b ≡ 0)
-          → variableBasis (decode b) ≡ eqb (kind b) 1
-      go (yes a) d (yes z) = rw (decode-leaf b ok refl a, z)
-      go (yes a) d (no n) =
-          let z : kind b ≡ 1 = omega (arith, kind-of-arity-zero (kind b) a) in
-          rw (decode-leaf b ok refl a, z)
-      go (no n) (yes a) d = rw (decode-one b ok refl a refl) (sym (ne-eqb (kind b) 1 (inner n)))
-      go (no n) (no m) d = rw (decode-two b ok refl n m refl refl) (sym (ne-eqb (kind b) 1 (inner n)))
+kind-variable : (b : List ℕ) → sized b ≡ true → variableBasis (decode b) ≡ eqb (kind b) 1
+kind-variable b ok = go (ℕ-discrete (kind b) 1)
+  where
+    go : Dec (kind b ≡ 1) → variableBasis (decode b) ≡ eqb (kind b) 1
+    go (yes e) = variable-kind b ok e ∙ sym (eq-eqb (kind b) 1 e)
+    go (no n) = other-kind b ok n ∙ sym (ne-eqb (kind b) 1 n)
 
 module _ (w : ℕ) (s : List ℕ) (r : Basis) (d : IsDecomposed w s r) where
   pub plain-none : r .valid ≡ false → false ≡ isPlain w (decode s)
@@ -57,7 +46,7 @@ module _ (w : ℕ) (s : List ℕ) (r : Basis) (d : IsDecomposed w s r) where
     pub plain-some : {k : ℕ} → k ≡ kind (take (r .end - r .start) (drop (r .start) s)) → eqb k 1 ≡ isPlain w (decode s)
     unfolding isPlain viewOf basisSpan
     plain-some ek =
-        ap (λ (n : ℕ). eqb n 1) ek ∙ sym (variable-kind (basisSpan s r) (d .ok e)) ∙ rw (← (d .view)) (simp e)
+        ap (λ (n : ℕ). eqb n 1) ek ∙ sym (kind-variable (basisSpan s r) (d .ok e)) ∙ rw (← (d .view)) (simp e)
 
 -- ---- complex atoms
 

@@ -15,7 +15,7 @@ use Rattle.record.specs.Tree.{IsBytes}
 use Rattle.record.proofs.PutLaws.{take-padded, length-padded}
 use Rattle.semilinear.specs.declared.outcome.Answer.{Answer}
 use Rattle.semilinear.specs.declared.table.Table.{Table}
-use Rattle.semilinear.specs.Form.{Row, Form, atomsBytes}
+use Rattle.semilinear.specs.Form.{Row, Form, atomsBytes, fitsTable}
 use Rattle.semilinear.specs.Items.{afterAtoms}
 use Rattle.semilinear.specs.Valid.{frontOk, isSemilinear}
 use Rattle.semilinear.specs.DecodeForm.{rowsOf, decodeForm, readForm}
@@ -23,7 +23,7 @@ use Rattle.semilinear.specs.Answers.{GivesForm}
 use Rattle.semilinear.specs.Compact.{limitOutcome}
 use Rattle.semilinear.specs.Scan.{AtomsEnd}
 use Rattle.semilinear.specs.Table.{Placed}
-use Rattle.semilinear.specs.Terms.{coeffsOf, coeffsIn, Copied, Finished}
+use Rattle.semilinear.specs.Terms.{coeffsOf, coeffsIn, Copied, Ends, Finished}
 use Rattle.semilinear.proofs.AcceptLaws.{written}
 use Rattle.semilinear.proofs.HoldsLaws.{at-holds}
 use Rattle.semilinear.proofs.PassLaws.{semilinear-front}
@@ -89,9 +89,8 @@ coeffs-in-one words (suc n) h =
     ∙ sym (take-suc words n 0 (omega arith))
 
 shown-coeffs : (w : ℕ) (made out coeffs : List ℕ) (l : List Row) → Shown w made out coeffs l
-    → tableOf made .full ≡ false → coeffsIn 1 coeffs (length l) ≡ coeffsOf l
-shown-coeffs w made out coeffs l h more =
-    let fit = h .held .holds .kept more .fits in
+    → fitsTable l ≡ true → coeffsIn 1 coeffs (length l) ≡ coeffsOf l
+shown-coeffs w made out coeffs l h fit =
     let n : length (coeffsOf l) ≡ length l = length-coeffs l in
     let most : length l ≤ 256 = fits-length l fit in
     let same : coeffs ≡ padded 256 (coeffsOf l) = h .terms fit in
@@ -100,14 +99,26 @@ shown-coeffs w made out coeffs l h more =
     ∙ ap₂ (λ (k : ℕ) (d : List ℕ). take k d) (sym n) same
     ∙ take-padded 256 (coeffsOf l)
 
+shown-ends : (w : ℕ) (made out coeffs : List ℕ) (l : List Row) → Shown w made out coeffs l
+    → Ends w (tableOf made) 1 coeffs out l
+shown-ends w made out coeffs l h =
+    let holds = h .held .holds in
+    record {
+      holds = λ _. holds;
+      clean = λ _. h .held .clean;
+      coeffs = λ more. shown-coeffs w made out coeffs l h (holds .kept more .fits);
+      past = holds .past;
+    }
+
 module _ {w k len : ℕ} {l : List Row} {g : Bool} {made out coeffs : List ℕ} {tab : Table}
     (h : RowsFlattened w l k len g made out coeffs) (et : tab ≡ tableOf made) where
   -- the end has room for all terms
   pub flatten-room : len ≡ 57360
-      → Placed tab (length out) × (length out ≡ 57360) × (tab .full ≡ false → 1 * tab .count ≤ length coeffs)
+      → (tab .full ≡ false → Placed tab (length out)) × (length out ≡ 57360)
+      × (tab .full ≡ false → 1 * tab .count ≤ length coeffs)
   flatten-room e =
       let placed : Placed tab (length out) = rw et (h .room .placed) in
-      (placed, h .long ∙ e, λ _. omega (arith, placed .atoms-le, h .wide))
+      (λ _. placed, h .long ∙ e, λ _. omega (arith, placed .atoms-le, h .wide))
 
   -- and gives the flattened rows, or 9
   flatten-gives : (r : Answer) {out′ : List ℕ} → Finished w tab 1 coeffs (getD made 5 0) g out r out′
@@ -118,8 +129,7 @@ module _ {w k len : ℕ} {l : List Row} {g : Bool} {made out coeffs : List ℕ} 
   flatten-gives r finished =
       let x = h .works in
       let end = rw (et, x .constant, x .flag) at finished in
-      end .gives (flatRows w l k .added) (x .shown .held .holds) (x .shown .held .clean)
-      (shown-coeffs w made out coeffs (flatRows w l k .added) (x .shown))
+      end .gives (flatRows w l k .added) (shown-ends w made out coeffs (flatRows w l k .added) (x .shown))
 
 -- of the rows of a form it is the flattened form
 pub flatten-end : (s : List ℕ) {w k len : ℕ} {b : List ℕ} → w ≡ width s → k ≡ literal s → b ≡ body s

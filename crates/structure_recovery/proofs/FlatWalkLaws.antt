@@ -11,15 +11,16 @@ use Rattle.record.specs.Put.{padded}
 use Rattle.semilinear.specs.Form.{Row}
 use Rattle.semilinear.specs.Items.{isAtom, atomCount, afterAtoms}
 use Rattle.semilinear.specs.Valid.{atomsOk, termsOk}
-use Rattle.semilinear.specs.DecodeForm.{afterTerm, rowsOf}
+use Rattle.semilinear.specs.DecodeForm.{rowsOf}
 use Rattle.semilinear.specs.Scan.{AtomsEnd}
 use Rattle.semilinear.specs.Terms.{coeffsOf}
 use Rattle.semilinear.proofs.HoldsLaws.{bareRows, holds-bare}
-use Rattle.semilinear.proofs.ItemsLaws.{fold-atom, fold-done, atoms-ind, rows-atom, rows-end}
+use Rattle.semilinear.proofs.ItemsLaws.{fold-atom, rows-atom, rows-end}
 use Rattle.semilinear.proofs.ValidLaws.{FrontParts}
 use Rattle.semilinear.proofs.SumLaws.{later-atoms-ok}
 use Rattle.semilinear.proofs.CompactLaws.{terms-after}
 use Rattle.group.specs.Made.{tableOf, Room, Held}
+use Rattle.group.proofs.ReadLaws.{length-rows}
 use Rattle.structure_recovery.specs.declared.flatten.Flattening.{Flattening}
 use Rattle.structure_recovery.specs.FlattenComplexAtoms.{Flat, flattenRow}
 use Rattle.structure_recovery.specs.FlattenComplexAtoms.{flattenRows, keptRows}
@@ -120,15 +121,6 @@ works-row w k g h made out coeffs made′ out′ coeffs′ done rest x turn was 
     (front (flattenRows w (done ++ (x ∷ [])) (flat [] k false))
     ∙ rows (flattenRows w (done ++ (x ∷ [])) (flat [] k false))) in
     rw (← same) (turn a (b ++ s .added) (s .constant) (s .flag) (length-kept w done) was)
-
--- a row for each atom
-length-rows : (r : List ℕ) (i : ℕ) (q : List ℕ) → length (rowsOf i r q) ≡ atomCount r
-length-rows =
-    atoms-ind (λ (r : List ℕ). (i : ℕ) (q : List ℕ) → length (rowsOf i r q) ≡ atomCount r)
-    (λ r e i q. ap length (rows-end i r q e) ∙ sym (fold-done (λ r. 0) (λ r n. 1 + n) r e))
-    (λ r e below i q.
-    ap length (rows-atom i r q e)
-    ∙ omega (arith, below (i + 1) (afterTerm i q), fold-atom (λ r. 0) (λ r n. 1 + n) r e))
 
 module _ (w : ℕ) (f : List ℕ) (k len : ℕ) where
   pub walked-start : FrontParts w f → (terms : ℕ) → AtomsEnd f terms → (made out coeffs : List ℕ)

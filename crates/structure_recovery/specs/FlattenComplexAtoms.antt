@@ -13,7 +13,7 @@ use Rattle.record.specs.Tree.Tree.{Variable}
 use Rattle.expr.specs.Utils.{hasShr}
 use Rattle.expr.specs.Vars.{nextVar, support}
 use Rattle.expr.specs.Value.{value}
-use Rattle.semilinear.specs.Form.{Row, Form}
+use Rattle.semilinear.specs.Form.{andFamily, Row, Form}
 use Rattle.semilinear.specs.Decompose.{Decomposed, opaque, masked, decomposeAtom}
 use Rattle.group.specs.Group.{variableBasis, maskedTree}
 use Rattle.semilinear.specs.Outcome.{Outcome}
@@ -50,7 +50,7 @@ pub record Flat : Type 0 where
 unfoldable pub flatRow : ℕ → ℕ → ℕ → ℕ → List Row → List Row
 flatRow w v m c l =
     when (eqb m 0) (λ _. l)
-    (λ _. l ++ (record { provenance = 0; tree = maskedTree w (Variable v) m; coeff = c } ∷ []))
+    (λ _. l ++ (record { provenance = andFamily; tree = maskedTree w (Variable v) m; coeff = c } ∷ []))
 
 -- the bits passed before the bits inverted
 unfoldable pub flattenRow : ℕ → Row → Flat → Flat
