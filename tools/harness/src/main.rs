@@ -17,6 +17,7 @@ mod bench_table;
 mod bridge;
 mod cases;
 mod collide;
+mod columns;
 #[cfg(feature = "library")]
 mod compare;
 mod dump;
@@ -43,14 +44,31 @@ mod normal_small;
 #[cfg(feature = "library")]
 mod normal_stack;
 mod normal_table;
+mod pass;
+#[cfg(any(feature = "library", test))]
+mod pass_atoms;
+#[cfg(any(feature = "library", test))]
+mod pass_cases;
+#[cfg(feature = "library")]
+mod pass_compare;
+#[cfg(any(feature = "library", test))]
+mod pass_examples;
+#[cfg(any(feature = "library", test))]
+mod pass_groups;
+#[cfg(feature = "library")]
+mod pass_library;
+#[cfg(test)]
+mod pass_tests;
 mod prng;
 mod published;
 mod random;
 mod record;
+mod refusal;
 #[cfg(feature = "library")]
 mod stack;
 #[cfg(test)]
 mod tests;
+mod written;
 
 use std::io::{ErrorKind, Write};
 use std::process::ExitCode;
@@ -68,6 +86,8 @@ fn main() -> ExitCode {
         ["compare"] => compare::run(),
         #[cfg(feature = "library")]
         ["compare", "normalize"] => normal_compare::run(),
+        #[cfg(feature = "library")]
+        ["compare", "passes"] => pass_compare::run(),
         #[cfg(feature = "library")]
         ["stack"] => stack::run(),
         #[cfg(feature = "library")]
