@@ -120,7 +120,7 @@ fn refusal_from_4(record: &Record, width: u8) -> u64 {
 }
 
 /// Writes the form and zeros behind it, or refuses by 9.
-fn write(ir: &SemilinearIR, out: &mut [u8]) -> Result<[u64; 3], u64> {
+pub fn write(ir: &SemilinearIR, out: &mut [u8]) -> Result<[u64; 3], u64> {
     if out.len() != RESULT_BYTES {
         return Err(RESULT_LENGTH);
     }
@@ -183,12 +183,13 @@ fn put_tree(tree: &Expr, w: u8, out: &mut [u8], at: usize) -> usize {
     put(Record::new(kind, arg, size, w, literal), out, end)
 }
 
-/// A form that was read: its atoms' trees and its terms, coefficient and atom.
+/// A form that was read: its atoms' heads and trees, and its terms, coefficient and atom.
 pub struct Sum {
-    w: u32,
-    constant: u64,
-    atoms: Vec<Arc<Expr>>,
-    terms: Vec<(u64, usize)>,
+    pub w: u32,
+    pub constant: u64,
+    pub heads: Vec<Record>,
+    pub atoms: Vec<Arc<Expr>>,
+    pub terms: Vec<(u64, usize)>,
 }
 
 /// The value of a form from its bytes.
@@ -217,16 +218,17 @@ pub fn read_form(bytes: &[u8]) -> Result<Sum, u64> {
     let mut sum = Sum {
         w: u32::from(width),
         constant: 0,
+        heads: Vec::new(),
         atoms: Vec::new(),
         terms: Vec::new(),
     };
-    let after = read_atoms(bytes, width, &mut sum.atoms).ok_or(NO_FORM)?;
+    let after = read_atoms(bytes, width, &mut sum).ok_or(NO_FORM)?;
     read_terms(&bytes[after..], width, &mut sum).ok_or(NO_FORM)?;
     Ok(sum)
 }
 
 /// Reads the atoms at the front; returns where they end.
-fn read_atoms(bytes: &[u8], width: u8, atoms: &mut Vec<Arc<Expr>>) -> Option<usize> {
+fn read_atoms(bytes: &[u8], width: u8, sum: &mut Sum) -> Option<usize> {
     let mut at = 0;
     let mut records = 0;
     while bytes.get(at) == Some(&ATOM) {
@@ -240,10 +242,11 @@ fn read_atoms(bytes: &[u8], width: u8, atoms: &mut Vec<Arc<Expr>>) -> Option<usi
             && is_atom(&tree) == Some(true)
             && head.literal == structural_hash(&tree);
         records += size;
-        if !valid || records > MAX_TREE_RECORDS || atoms.len() == MAX_ATOMS {
+        if !valid || records > MAX_TREE_RECORDS || sum.atoms.len() == MAX_ATOMS {
             return None;
         }
-        atoms.push(tree);
+        sum.heads.push(head);
+        sum.atoms.push(tree);
         at = end;
     }
     Some(at)

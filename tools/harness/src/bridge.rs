@@ -17,7 +17,7 @@ use crate::record::Record;
 use crate::refusal::NONLINEAR;
 
 /// Provenances, by their numbers in document 01.
-const FAMILIES: [OperatorFamily; 5] = [
+pub const FAMILIES: [OperatorFamily; 5] = [
     OperatorFamily::And,
     OperatorFamily::Or,
     OperatorFamily::Xor,

@@ -9,7 +9,11 @@ include!(concat!(env!("OUT_DIR"), "/published.rs"));
 #[cfg(feature = "library")]
 mod bench;
 #[cfg(feature = "library")]
+mod bench_forms;
+#[cfg(feature = "library")]
 mod bench_inputs;
+#[cfg(feature = "library")]
+mod bench_passes;
 #[cfg(feature = "library")]
 mod bench_rust;
 #[cfg(feature = "library")]
@@ -57,6 +61,8 @@ mod pass_examples;
 mod pass_groups;
 #[cfg(feature = "library")]
 mod pass_library;
+#[cfg(feature = "library")]
+mod pass_stack;
 #[cfg(test)]
 mod pass_tests;
 mod prng;

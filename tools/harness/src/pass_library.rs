@@ -2,6 +2,7 @@
 //! of them yet: build.rs looks which it has, and the others are not asked.
 
 use crate::columns::Columns;
+#[allow(unused_imports)]
 use crate::library::{guarded, write_into, GUARD, UNWRITTEN};
 use crate::pass::Pass;
 use crate::written::Written;
