@@ -74,23 +74,3 @@ pub fn settled(mut passed: Passed) -> Written {
         ..written(&passed.form)
     }
 }
-
-/// The smallest set of partings with which the Rust gives `wanted`.
-pub fn needed(pass: Pass, valid: &Form, wanted: &Written) -> Option<u8> {
-    let mut sets: Vec<u8> = (0..=ALL).filter(|set| set & !ALL == 0).collect();
-    sets.sort_by_key(|set| set.count_ones());
-    sets.into_iter()
-        .find(|set| parted(pass, valid, *set) == *wanted)
-}
-
-/// Whether what is accepted is a valid form, of the same value under two assignments: the given
-/// one, and it with the words turned.
-pub fn keeps_value(form: &Form, answer: &Written, vars: &[u64]) -> bool {
-    let turned: Vec<u64> = vars.iter().map(|word| !word.rotate_left(7)).collect();
-    match form_model::read(&answer.out[..answer.used as usize]) {
-        Ok(after) => [vars, &turned]
-            .iter()
-            .all(|vars| form_model::value(&after, vars) == form_model::value(form, vars)),
-        Err(_) => false,
-    }
-}

@@ -1,8 +1,9 @@
 //! Forms written directly, of atoms over several variables with literals and shifts, and forms whose
 //! table is near one of its limits.
 
-use crate::form::{Form, MAX_ATOMS, MAX_TREE_RECORDS};
+use crate::form::{Form, MAX_ATOMS, MAX_TREE_RECORDS, MIXED};
 use crate::normal_random::either;
+use crate::pass_cases::{case, Case};
 use crate::pass_groups::{bare, coefficient, form_of, one, several, Entry};
 use crate::prng::Prng;
 use crate::random;
@@ -115,4 +116,34 @@ fn fill(rng: &mut Prng, form: &mut Form, more: &Form) {
         let kind = rng.pick(&[NOT, SHR]);
         form.push(rng.byte() % 5, nested(&[kind], left - 1, variable(w, 0)));
     }
+}
+
+/// A term that refining cuts, one that it leaves, and one that is flattened, beside atoms without
+/// terms: tables that a pass fills just up to one of the limits, and tables in which it passes it.
+pub fn edges() -> Vec<Case> {
+    let (w, a) = (8, || variable(8, 0));
+    let new_atom = binary(AND, a(), literal(w, 15));
+    let mut all = Vec::new();
+    for (tree, coeff) in [
+        (a(), 16),
+        (new_atom.clone(), 3),
+        (unary(NOT, 0, new_atom.clone()), 1),
+    ] {
+        for atoms in [MAX_ATOMS - 1, MAX_ATOMS] {
+            let mut form = Form::new(w, 1);
+            for number in 1..atoms {
+                form.push(MIXED, variable(w, number as u8));
+            }
+            form.push_term(MIXED, tree.clone(), coeff);
+            all.push(case(&form));
+        }
+        for short in [new_atom.len(), new_atom.len() - 1] {
+            let mut form = Form::new(w, 1);
+            let depth = MAX_TREE_RECORDS - short - tree.len() - 1;
+            form.push(MIXED, nested(&[NOT], depth, a()));
+            form.push_term(MIXED, tree.clone(), coeff);
+            all.push(case(&form));
+        }
+    }
+    all
 }

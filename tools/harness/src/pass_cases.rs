@@ -57,7 +57,7 @@ const fn family(
 }
 
 /// All families.
-pub const FAMILIES: [Family; 13] = [
+pub const FAMILIES: [Family; 14] = [
     family("worked examples", 0, |_, _| pass_examples::cases()),
     family("as normalising makes them", 20_000, normalised),
     family("along lists of passes", 20_000, along_lists),
@@ -77,6 +77,7 @@ pub const FAMILIES: [Family; 13] = [
     family("one to seven variables", 12_000, |rng, n| {
         made(rng, n, pass_atoms::atoms)
     }),
+    family("edges of the table", 0, |_, _| pass_atoms::edges()),
     family("near the limits", 1_500, |rng, n| {
         made(rng, n, pass_atoms::near_limits)
     }),

@@ -14,6 +14,7 @@ use crate::form_model;
 use crate::parted;
 use crate::pass::{self, Pass, PASSES};
 use crate::pass_cases::{Case, FAMILIES};
+use crate::pass_checks;
 use crate::pass_library as library;
 use crate::prng::Prng;
 use crate::refusal::{INPUT_LENGTH, NO_FORM, NUMBERS, RESULT_LENGTH, TABLE_FULL};
@@ -185,7 +186,7 @@ impl Comparison {
         }
         if let (Ok(form), 0) = (form, case.excess) {
             self.check_builds(pass, case, form, &wanted);
-            if wanted.refusal == 0 && !pass::keeps_value(form, &wanted, vars) {
+            if wanted.refusal == 0 && !pass_checks::keeps_value(form, &wanted, vars) {
                 self.fault(pass.name(), "no valid form of the same value", case);
             }
         }
@@ -213,7 +214,13 @@ impl Comparison {
         if sorted == *wanted {
             return;
         }
-        let needed = pass::needed(pass, form, wanted).unwrap_or(0);
+        let Some(needed) = pass_checks::needed(pass, form, wanted) else {
+            return self.fault(
+                name,
+                "the Rust with sorted maps differs, for no parting",
+                case,
+            );
+        };
         let numbers: Vec<String> = (1..8)
             .filter(|number| needed >> number & 1 == 1)
             .map(|number| number.to_string())
@@ -238,7 +245,7 @@ impl Comparison {
             if columns::settled(classes) != wanted || columns::settled(as_is) != wanted {
                 self.fault(COLUMNS, "the builds differ in more than an order", case);
             }
-            if !columns::hold(form, &wanted, vars) {
+            if !pass_checks::hold(form, &wanted, vars) {
                 self.fault(COLUMNS, "the columns do not tell the atoms' bits", case);
             }
         }

@@ -107,10 +107,15 @@ fn flatten_into(form: &[u8], out: &mut [u8]) -> [u64; 4] {
     [refusal, used, terms, flag]
 }
 
+#[cfg(not(hogzelt = "compute_partitions"))]
+pub fn columns_into(_: &[u8], _: &mut [u64]) -> [u64; 2] {
+    unreachable!("only what the archive has is asked")
+}
+
 /// The columns of the archive into `out`: the refusal and the count of classes.
+#[cfg(hogzelt = "compute_partitions")]
 pub fn columns_into(form: &[u8], out: &mut [u64]) -> [u64; 2] {
     let mut classes = UNWRITTEN;
-    #[cfg(hogzelt = "compute_partitions")]
     // SAFETY: both slices are valid for their lengths; what is written lies in neither and apart.
     let refusal = unsafe {
         raw::hogzelt_compute_partitions(
@@ -121,8 +126,6 @@ pub fn columns_into(form: &[u8], out: &mut [u64]) -> [u64; 2] {
             &mut classes,
         )
     };
-    #[cfg(not(hogzelt = "compute_partitions"))]
-    let refusal = unreachable!("only what the archive has is asked");
     [refusal, classes]
 }
 

@@ -7,6 +7,7 @@ use crate::form::{Form, Term, FROM_AND, FROM_XOR, MIXED, RESULT_BYTES};
 use crate::form_model;
 use crate::pass::{self, Pass, ALL, PASSES};
 use crate::pass_cases::FAMILIES;
+use crate::pass_checks;
 use crate::pass_examples::{a, and, b, form, like_b, like_masked, not};
 use crate::prng::Prng;
 use crate::record::{binary, literal, unary, Records, AND, SHR, XOR};
@@ -135,10 +136,10 @@ fn columns_by_hand() {
     let answer = columns::answer(&form.bytes(), columns::RESULT_WORDS);
     assert_eq!([answer.refusal, answer.classes], [0, 2]);
     assert_eq!(answer.out[..5], [15, 2, 240, 0, 0]);
-    assert!(columns::hold(&form, &answer, &[0x5A]));
+    assert!(pass_checks::hold(&form, &answer, &[0x5A]));
     let mut wrong = answer.clone();
     wrong.out[1] = 1;
-    assert!(!columns::hold(&form, &wrong, &[0x5A]));
+    assert!(!pass_checks::hold(&form, &wrong, &[0x5A]));
 }
 
 /// Every accepted answer is a valid form of the same value, and columns tell the bits of values.
@@ -153,11 +154,11 @@ fn values_are_kept() {
             };
             for pass in PASSES {
                 let answer = pass::answer(pass, &case.file, case.bytes());
-                let kept = || pass::keeps_value(&form, &answer, &vars);
+                let kept = || pass_checks::keeps_value(&form, &answer, &vars);
                 assert!(answer.refusal != 0 || kept(), "{pass:?}, {form:?}");
             }
             let answer = columns::answer(&case.file, case.words());
-            let told = || columns::hold(&form, &answer, &vars);
+            let told = || pass_checks::hold(&form, &answer, &vars);
             assert!(answer.refusal != 0 || told(), "{form:?}");
         }
     }
@@ -177,7 +178,7 @@ fn partings_are_needed() {
     ] {
         let wanted = pass::parted(pass, &form, ALL);
         assert!(pass::parted(pass, &form, ALL & !(1 << number)) != wanted);
-        assert_eq!(pass::needed(pass, &form, &wanted), Some(1 << number));
+        assert_eq!(pass_checks::needed(pass, &form, &wanted), Some(1 << number));
     }
 }
 
