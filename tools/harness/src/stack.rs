@@ -18,6 +18,7 @@ use crate::record::{
     balanced, bytes, left_chain, nested, right_chain, unary, variable, Records, ADD, AND,
     MAX_RECORDS, NEG, NOT, RECORD_BYTES, SHR,
 };
+use crate::written::same_bytes;
 
 const VARS: [u64; 3] = [1, 2, 3];
 
@@ -101,7 +102,8 @@ fn form_stacks() -> Result<usize, String> {
         let mut answer = None;
         let used = stack_used(&mut || answer = Some(library::compact_into(&form, &mut out)))?;
         let wanted = form_model::compact(&form, RESULT_BYTES);
-        if answer != Some([wanted.refusal, wanted.used, wanted.terms]) || out != wanted.out {
+        let numbers = [wanted.refusal, wanted.used, wanted.terms];
+        if answer != Some(numbers) || !same_bytes(&out, &wanted.out) {
             return Err(format!(
                 "hogzelt_compact_atom_table differs from the model: {shape}"
             ));
