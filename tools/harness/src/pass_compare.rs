@@ -19,7 +19,7 @@ use crate::pass_library as library;
 use crate::prng::Prng;
 use crate::refusal::{INPUT_LENGTH, NO_FORM, NUMBERS, RESULT_LENGTH, TABLE_FULL};
 use crate::sorted;
-use crate::written::{refused, Written};
+use crate::written::Written;
 
 const COLUMNS: &str = "compute_partitions";
 
@@ -175,12 +175,7 @@ impl Comparison {
         form: &Result<Form, u64>,
         vars: &[u64],
     ) -> Written {
-        let wanted = match form {
-            Ok(form) if case.excess == 0 => pass::parted(pass, form, pass::ALL),
-            Err(INPUT_LENGTH) => refused(INPUT_LENGTH, case.bytes()),
-            _ if case.excess != 0 => refused(RESULT_LENGTH, case.bytes()),
-            _ => refused(NO_FORM, case.bytes()),
-        };
+        let wanted = pass::answer(pass, &case.file, case.bytes());
         if library::has(pass) && library::passed(pass, &case.file, case.bytes()) != wanted {
             self.fault(pass.name(), "the library differs", case);
         }
