@@ -1,12 +1,24 @@
 //! Writes the module file that compiles the published Rust sources where they stand, below the
 //! directory named by COBRA_SRC, with the stand-ins of this package beside them, and then again in
-//! two builds with edited text: `sorted`, whose maps are sorted, and `parted`, which also has
-//! document 01's partings. Edited files stand in OUT_DIR. With the feature `library` it also links
-//! the archive named by HOGZELT_LIB.
+//! two builds with edited text (edits.rs): `sorted`, whose maps are sorted, and `parted`, which also
+//! has document 01's partings. Edited files stand in OUT_DIR. With the feature `library` it also
+//! links the archive named by HOGZELT_LIB, and says which functions it has.
 
+mod edits;
+
+use edits::{Edit, CALLED, EDITED, PARTING_1, PARTING_2, PARTING_3, PARTING_5, SORTED_MAPS};
 use std::env;
 use std::fs;
 use std::path::{Path, PathBuf};
+
+/// The functions of the library that the archive may not have yet.
+const PROBED: [&str; 5] = [
+    "refine_terms",
+    "recover_structure",
+    "coalesce_terms",
+    "flatten_complex_atoms",
+    "compute_partitions",
+];
 
 /// A module of the published crate: its submodules, and those that have stand-ins.
 struct Module {
@@ -42,57 +54,20 @@ const MODULES: [Module; 3] = [
     },
 ];
 
-/// A text in a published file of `cobra-ir`, and what stands in its place everywhere.
-struct Edit {
-    file: &'static str,
-    old: &'static str,
-    new: &'static str,
-}
-
-/// The files of an edited build.
-const EDITED: [&str; 2] = ["semilinear", "semilinear_normalizer"];
-
-/// Sorted maps, and the order of keys that they need.
-const SORTED_MAPS: [Edit; 2] = [
-    Edit {
-        file: "semilinear_normalizer",
-        old: "HashMap",
-        new: "BTreeMap",
-    },
-    Edit {
-        file: "semilinear",
-        old: "PartialEq, Eq)]\npub struct AtomKey",
-        new: "PartialEq, Eq, PartialOrd, Ord)]\npub struct AtomKey",
-    },
-];
-
-/// Parting 5: refusals 7 and 9 (partings/parting_5.rs).
-const PARTING_5: [Edit; 2] = [
-    Edit {
-        file: "semilinear_normalizer",
-        old: "    if !is_uniform_width(expr, &[], bitwidth) {",
-        new: "    crate::parted::ir::parting_5::refusal_7(expr)?;\n    \
-              if !is_uniform_width(expr, &[], bitwidth) {",
-    },
-    Edit {
-        file: "semilinear_normalizer",
-        old: "    Ok(ir)\n",
-        new: "    crate::parted::ir::parting_5::refusal_9(&ir)?;\n    Ok(ir)\n",
-    },
-];
-
 fn main() {
     println!("cargo:rerun-if-changed=build.rs");
+    println!("cargo:rerun-if-changed=edits.rs");
     println!("cargo:rerun-if-env-changed=COBRA_SRC");
     let sources = PathBuf::from(variable("COBRA_SRC")).join("crates");
     let package = PathBuf::from(variable("CARGO_MANIFEST_DIR"));
     let out = PathBuf::from(variable("OUT_DIR"));
     let mut text = module_file(&sources, &package.join("standins"));
     text += &edited_build("sorted", &[&SORTED_MAPS], &[], &sources, &package, &out);
-    let edits: [&[Edit]; 2] = [&SORTED_MAPS, &PARTING_5];
-    let added = ["parting_5"];
-    text += &edited_build("parted", &edits, &added, &sources, &package, &out);
+    let edits: [&[Edit]; 5] = [&SORTED_MAPS, &PARTING_1, &PARTING_2, &PARTING_3, &PARTING_5];
+    text += &edited_build("parted", &edits, &CALLED, &sources, &package, &out);
     write(&out.join("published.rs"), &text);
+    let probed = PROBED.map(|name| format!("{name:?}")).join(", ");
+    println!("cargo:rustc-check-cfg=cfg(hogzelt, values({probed}))");
     if env::var_os("CARGO_FEATURE_LIBRARY").is_some() {
         link_library();
     }
@@ -126,28 +101,33 @@ fn module_file(sources: &Path, standins: &Path) -> String {
 fn edited_build(
     build: &str,
     edits: &[&[Edit]],
-    added: &[&str],
+    called: &[&str],
     sources: &Path,
     package: &Path,
     out: &Path,
 ) -> String {
     let folder = out.join(build);
     fs::create_dir_all(&folder).expect("OUT_DIR can be written");
-    let mut text = format!("#[allow(dead_code, unused)]\npub mod {build} {{\npub mod ir {{\n");
-    for name in EDITED {
-        let source = sources.join("cobra-ir/src").join(format!("{name}.rs"));
+    let mut modules = [("ir", String::new()), ("passes", String::new())];
+    for file in EDITED {
+        let name = file.name;
+        let source = sources.join(file.folder).join(format!("src/{name}.rs"));
         println!("cargo:rerun-if-changed={}", source.display());
         let published = fs::read_to_string(&source).expect("a published file");
         let edited = edit(published, name, edits);
         let edited = edited.replace("crate::ir::", &format!("crate::{build}::ir::"));
         write(&folder.join(format!("{name}.rs")), &edited);
-        text += &submodule(name, &folder);
+        let module = modules.iter_mut().find(|module| module.0 == file.module);
+        module.expect("ir or passes").1 += &submodule(name, &folder);
     }
-    text += "    pub use crate::ir::dynamic_mask;\n";
-    for name in added {
-        text += &submodule(name, &package.join("partings"));
+    modules[0].1 += "    pub use crate::ir::dynamic_mask;\n";
+    for name in called {
+        modules[0].1 += &submodule(name, &package.join("partings"));
     }
-    text += "}\n";
+    let mut text = format!("#[allow(dead_code, unused)]\npub mod {build} {{\n");
+    for (name, submodules) in modules {
+        text += &format!("pub mod {name} {{\n{submodules}}}\n");
+    }
     text += &submodule("bridge", &package.join("src"));
     text + "}\n"
 }
@@ -179,6 +159,8 @@ fn submodule(name: &str, folder: &Path) -> String {
     format!("    #[path = {file:?}]\n    pub mod {name};\n")
 }
 
+/// Links the archive. Each function of the passes and columns that it has is a value of the cfg
+/// `hogzelt`, so that the harness can be built beside an archive that does not have them all.
 fn link_library() {
     println!("cargo:rerun-if-env-changed=HOGZELT_LIB");
     let archive = PathBuf::from(variable("HOGZELT_LIB"));
@@ -186,4 +168,24 @@ fn link_library() {
     println!("cargo:rerun-if-changed={}", archive.display());
     println!("cargo:rustc-link-search=native={}", folder.display());
     println!("cargo:rustc-link-lib=static=hogzelt");
+    let symbols = symbols(&fs::read(&archive).expect("the archive can be read"));
+    for function in PROBED {
+        if symbols.contains(&format!("hogzelt_{function}")) {
+            println!("cargo:rustc-cfg=hogzelt=\"{function}\"");
+        }
+    }
+}
+
+/// The symbols that an archive of GNU's format defines: its first member, named `/`, is their index,
+/// a big-endian count, that many offsets, and the names, each ended by a zero byte.
+fn symbols(archive: &[u8]) -> Vec<String> {
+    assert!(archive.starts_with(b"!<arch>\n/ "), "an index comes first");
+    let size = std::str::from_utf8(&archive[8 + 48..8 + 58]).expect("digits");
+    let size: usize = size.trim().parse().expect("the size of the index");
+    let index = &archive[68..68 + size];
+    let count = u32::from_be_bytes(index[..4].try_into().expect("four bytes")) as usize;
+    index[4 + 4 * count..]
+        .split(|byte| *byte == 0)
+        .map(|name| String::from_utf8_lossy(name).into_owned())
+        .collect()
 }

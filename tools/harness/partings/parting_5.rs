@@ -6,20 +6,19 @@ use super::semilinear::SemilinearIR;
 use crate::core::expr::{Expr, Kind};
 use crate::core::expr_utils::is_constant_subtree;
 use crate::core::result::{err, CobraError, Result};
+use crate::form::{MAX_ATOMS, MAX_TREE_RECORDS};
+use crate::refusal::{SUM_IN_CONSTANT, TABLE_FULL};
 
-const MAX_ATOMS: usize = 256;
-const MAX_TREE_RECORDS: usize = 3072;
-
-fn refused(refusal: bool, number: &str) -> Result<()> {
+fn refused(refusal: bool, number: u64) -> Result<()> {
     match refusal {
-        true => Err(err(CobraError::InvalidArgument, number)),
+        true => Err(err(CobraError::InvalidArgument, number.to_string())),
         false => Ok(()),
     }
 }
 
 /// An Add, Mul or Neg anywhere below a variable-free And, Or, Xor or Not.
 pub fn refusal_7(expr: &Expr) -> Result<()> {
-    refused(sum_in_constant(expr), "7")
+    refused(sum_in_constant(expr), SUM_IN_CONSTANT)
 }
 
 fn sum_in_constant(expr: &Expr) -> bool {
@@ -41,7 +40,7 @@ pub fn refusal_9(ir: &SemilinearIR) -> Result<()> {
     let records: usize = atoms.iter().map(|atom| size(&atom.original_subtree)).sum();
     refused(
         atoms.len() > MAX_ATOMS || records > MAX_TREE_RECORDS,
-        "9",
+        TABLE_FULL,
     )
 }
 

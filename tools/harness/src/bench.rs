@@ -10,7 +10,10 @@ use crate::bench_table::{text, Measured, Row, CORE, WHOLE};
 use crate::form::RESULT_BYTES;
 use crate::library;
 use crate::measure::{medians, stack_used};
+use crate::pass::{self, PASSES};
 use crate::record::RECORD_BYTES;
+use crate::written::same_bytes;
+use crate::{bench_forms, bench_passes, pass_library};
 
 /// The marks around the printed text in a document.
 const BEGIN: &str = "<!-- printed by tools/harness/run.sh bench -->\n";
@@ -33,12 +36,37 @@ pub fn run(document: Option<&str>) -> Result<(), String> {
     for class in classes.iter().filter(|class| class.refusal == 0) {
         rows.push(row("semilinear_value", class, 0, form_value)?);
     }
+    rows.extend(form_rows(&classes[0].files)?);
     let text = text(&rows);
     print!("{text}");
     match document {
         Some(path) => put_into(path, &text),
         None => Ok(()),
     }
+}
+
+/// The rows of the passes and the columns, as far as the library has them.
+fn form_rows(expressions: &[Vec<u8>]) -> Result<Vec<Row>, String> {
+    let classes = bench_forms::classes(expressions);
+    let mut rows = Vec::new();
+    for pass in PASSES.into_iter().filter(|pass| pass_library::has(*pass)) {
+        for class in &classes {
+            let refusal = pass::answer(pass, &class.files[0], RESULT_BYTES).refusal;
+            let measure = |form: &[u8], refusal| bench_passes::passing(pass, form, refusal);
+            rows.push(row(pass.name(), class, refusal, measure)?);
+        }
+    }
+    if pass_library::HAS_COLUMNS {
+        for class in &classes {
+            rows.push(row(
+                "compute_partitions",
+                class,
+                0,
+                bench_passes::partitioning,
+            )?);
+        }
+    }
+    Ok(rows)
 }
 
 /// Puts the text between the marks of a document.
@@ -57,7 +85,7 @@ fn row(
     function: &'static str,
     class: &Class,
     refusal: u64,
-    measure: fn(&[u8], u64) -> Result<Measured, String>,
+    measure: impl Fn(&[u8], u64) -> Result<Measured, String>,
 ) -> Result<Row, String> {
     let records = class.files.iter().map(|file| file.len() / RECORD_BYTES);
     let inputs: Result<Vec<Measured>, String> = class
@@ -86,7 +114,7 @@ fn normalizing(file: &[u8], refusal: u64) -> Result<Measured, String> {
     out.fill(1);
     let mut answer = [0; 3];
     let stack = stack_used(&mut || answer = library::normalize_into(file, &mut out))?;
-    if answer != wanted || out != bytes || answer[0] != refusal {
+    if answer != wanted || !same_bytes(&out, &bytes) || answer[0] != refusal {
         return Err("the library's answer is not the Rust's".to_string());
     }
     let times = medians(|subject| match subject {

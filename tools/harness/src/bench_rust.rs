@@ -17,6 +17,10 @@ use crate::published::push_node;
 use crate::record::{
     self, arity, Record, CONCAT, CONSTANT, MAX_RECORDS, RECORD_BYTES, SHR, VARIABLE, ZEXT,
 };
+use crate::refusal::{
+    CAST, INPUT_LENGTH, MALFORMED, NONLINEAR, NO_FORM, RESULT_LENGTH, SHIFT_COUNT, TABLE_FULL,
+    WIDTH,
+};
 
 /// A tree and its width.
 pub struct Whole {
@@ -33,7 +37,7 @@ pub fn core(whole: &Whole) -> Published<SemilinearIR> {
 /// the count of terms.
 pub fn normalize(file: &[u8], out: &mut [u8]) -> [u64; 3] {
     let written = read(file).and_then(|whole| {
-        let ir = core(&whole).map_err(|_| 8u64)?;
+        let ir = core(&whole).map_err(|_| NONLINEAR)?;
         write(&ir, out)
     });
     written.unwrap_or_else(|refusal| {
@@ -63,7 +67,7 @@ fn answer(value: Result<u64, u64>) -> Answer {
 pub fn read(file: &[u8]) -> Result<Whole, u64> {
     let records = file.len() / RECORD_BYTES;
     if file.is_empty() || !file.len().is_multiple_of(RECORD_BYTES) || records > MAX_RECORDS {
-        return Err(1);
+        return Err(INPUT_LENGTH);
     }
     let width = file[file.len() - RECORD_BYTES + 4];
     read_tree(file, width).map(|tree| Whole {
@@ -80,14 +84,14 @@ fn read_tree(span: &[u8], width: u8) -> Result<Arc<Expr>, u64> {
     for bytes in span.chunks_exact(RECORD_BYTES) {
         let record = Record::from_bytes(bytes);
         if record.kind > CONCAT || !zeros_hold(&record) {
-            return Err(3);
+            return Err(MALFORMED);
         }
         let mut size = 1;
         for _ in 0..arity(record.kind) {
-            size += sizes.pop().ok_or(3u64)?;
+            size += sizes.pop().ok_or(MALFORMED)?;
         }
         if usize::from(record.size) != size {
-            return Err(3);
+            return Err(MALFORMED);
         }
         sizes.push(size);
         let own = refusal_from_4(&record, width);
@@ -99,38 +103,38 @@ fn read_tree(span: &[u8], width: u8) -> Result<Arc<Expr>, u64> {
     match (nodes.pop(), nodes.is_empty(), lowest) {
         (Some(tree), true, 0) => Ok(tree),
         (Some(_), true, refusal) => Err(refusal),
-        _ => Err(3),
+        _ => Err(MALFORMED),
     }
 }
 
 fn refusal_from_4(record: &Record, width: u8) -> u64 {
     if record.width != width || !(1..=64).contains(&width) {
-        4
+        WIDTH
     } else if (ZEXT..=CONCAT).contains(&record.kind) {
-        5
+        CAST
     } else if record.kind == SHR && record.arg > 63 {
-        6
+        SHIFT_COUNT
     } else {
         0
     }
 }
 
 /// Writes the form and zeros behind it, or refuses by 9.
-fn write(ir: &SemilinearIR, out: &mut [u8]) -> Result<[u64; 3], u64> {
+pub fn write(ir: &SemilinearIR, out: &mut [u8]) -> Result<[u64; 3], u64> {
     if out.len() != RESULT_BYTES {
-        return Err(2);
+        return Err(RESULT_LENGTH);
     }
     let w = ir.bitwidth as u8;
     let mut at = 0;
     let mut records = 0;
     if ir.atom_table.len() > MAX_ATOMS {
-        return Err(9);
+        return Err(TABLE_FULL);
     }
     for info in &ir.atom_table {
         let size = size(&info.original_subtree);
         records += size;
         if records > MAX_TREE_RECORDS {
-            return Err(9);
+            return Err(TABLE_FULL);
         }
         at = put_atom(info, size, w, out, at);
     }
@@ -179,12 +183,13 @@ fn put_tree(tree: &Expr, w: u8, out: &mut [u8], at: usize) -> usize {
     put(Record::new(kind, arg, size, w, literal), out, end)
 }
 
-/// A form that was read: its atoms' trees and its terms, coefficient and atom.
+/// A form that was read: its atoms' heads and trees, and its terms, coefficient and atom.
 pub struct Sum {
-    w: u32,
-    constant: u64,
-    atoms: Vec<Arc<Expr>>,
-    terms: Vec<(u64, usize)>,
+    pub w: u32,
+    pub constant: u64,
+    pub heads: Vec<Record>,
+    pub atoms: Vec<Arc<Expr>>,
+    pub terms: Vec<(u64, usize)>,
 }
 
 /// The value of a form from its bytes.
@@ -204,25 +209,26 @@ pub fn sum_value(sum: &Sum, vars: &[u64]) -> u64 {
 pub fn read_form(bytes: &[u8]) -> Result<Sum, u64> {
     let length = bytes.len();
     if length == 0 || !length.is_multiple_of(RECORD_BYTES) || length > RESULT_BYTES {
-        return Err(1);
+        return Err(INPUT_LENGTH);
     }
     let width = bytes[length - RECORD_BYTES + 4];
     if !(1..=64).contains(&width) {
-        return Err(10);
+        return Err(NO_FORM);
     }
     let mut sum = Sum {
         w: u32::from(width),
         constant: 0,
+        heads: Vec::new(),
         atoms: Vec::new(),
         terms: Vec::new(),
     };
-    let after = read_atoms(bytes, width, &mut sum.atoms).ok_or(10u64)?;
-    read_terms(&bytes[after..], width, &mut sum).ok_or(10u64)?;
+    let after = read_atoms(bytes, width, &mut sum).ok_or(NO_FORM)?;
+    read_terms(&bytes[after..], width, &mut sum).ok_or(NO_FORM)?;
     Ok(sum)
 }
 
 /// Reads the atoms at the front; returns where they end.
-fn read_atoms(bytes: &[u8], width: u8, atoms: &mut Vec<Arc<Expr>>) -> Option<usize> {
+fn read_atoms(bytes: &[u8], width: u8, sum: &mut Sum) -> Option<usize> {
     let mut at = 0;
     let mut records = 0;
     while bytes.get(at) == Some(&ATOM) {
@@ -236,10 +242,11 @@ fn read_atoms(bytes: &[u8], width: u8, atoms: &mut Vec<Arc<Expr>>) -> Option<usi
             && is_atom(&tree) == Some(true)
             && head.literal == structural_hash(&tree);
         records += size;
-        if !valid || records > MAX_TREE_RECORDS || atoms.len() == MAX_ATOMS {
+        if !valid || records > MAX_TREE_RECORDS || sum.atoms.len() == MAX_ATOMS {
             return None;
         }
-        atoms.push(tree);
+        sum.heads.push(head);
+        sum.atoms.push(tree);
         at = end;
     }
     Some(at)

@@ -149,11 +149,12 @@ fn foot() -> String {
 
 const METHOD: &str = "\
 Over several inputs the median of their times is given; a ratio is that of one input. All three have the same
-input bytes. The result slice of 57,360 bytes is not cleared between calls: each call of the Rust with bytes and of the
-library writes all of it. What a call of the Rust allocates and drops is in its time. \"Rust alone\" is the published
-`normalize_to_semilinear` on a tree that is there; the published sources have no evaluator, so there the values are
-those of the harness's recursive one. \"Rust with bytes\" also reads the bytes, with the checks of document 01 except
-refusal 7, and writes the result's. The stack is the library's, the most over the inputs.
+input bytes. The result slice of 57,360 bytes, or 16,448 words, is not cleared between calls: each call of the Rust with
+bytes and of the library writes all of it. What a call of the Rust allocates and drops is in its time. \"Rust alone\" is
+the published function on a tree or a form that is there; a pass changes a copy of the form, which is in its time. The
+published sources have no evaluator, so there the values are those of the harness's recursive one. \"Rust with bytes\"
+also reads the bytes, with the checks of document 01 except refusal 7, and writes the result's; an atom that it reads for
+a pass has its variables and no truth table. The stack is the library's, the most over the inputs.
 ";
 
 /// Whether the target is met, and how many inputs take longer than in the Rust.

@@ -5,13 +5,19 @@ use super::ir::semilinear::{
     compact_atom_table, create_atom, OperatorFamily, SemilinearIR, WeightedAtom,
 };
 use super::ir::semilinear_normalizer::normalize_to_semilinear;
+use super::ir::structure_recovery::{coalesce_terms, flatten_complex_atoms, recover_structure};
+use super::ir::term_refiner::refine_terms;
+use super::passes::bit_partitioner::compute_partitions;
+use crate::columns::Class;
 use crate::core::result::CobraError;
 use crate::form::{Atom, Form, Term};
+use crate::pass::{Pass, Passed};
 use crate::published::{byte, expr, records};
 use crate::record::Record;
+use crate::refusal::NONLINEAR;
 
 /// Provenances, by their numbers in document 01.
-const FAMILIES: [OperatorFamily; 5] = [
+pub const FAMILIES: [OperatorFamily; 5] = [
     OperatorFamily::And,
     OperatorFamily::Or,
     OperatorFamily::Xor,
@@ -58,11 +64,33 @@ fn form(ir: &SemilinearIR) -> Form {
     form
 }
 
-/// `compact_atom_table` of a valid form.
-pub fn compacted(valid: &Form) -> Form {
+/// A pass over a valid form, its terms as the Rust leaves them and its table without limits.
+pub fn passed(pass: Pass, valid: &Form) -> Passed {
     let mut ir = ir(valid);
-    compact_atom_table(&mut ir);
-    form(&ir)
+    let mut flattened = false;
+    match pass {
+        Pass::Refine => refine_terms(&mut ir),
+        Pass::Recover => recover_structure(&mut ir),
+        Pass::Coalesce => coalesce_terms(&mut ir),
+        Pass::Flatten => flattened = flatten_complex_atoms(&mut ir),
+        Pass::Compact => compact_atom_table(&mut ir),
+    }
+    Passed {
+        form: form(&ir),
+        flattened,
+    }
+}
+
+/// `compute_partitions` of a valid form, the classes in the Rust's order.
+#[cfg_attr(not(feature = "library"), allow(dead_code))]
+pub fn partitions(valid: &Form) -> Vec<Class> {
+    compute_partitions(&ir(valid))
+        .into_iter()
+        .map(|class| Class {
+            mask: class.mask,
+            profile: class.profile,
+        })
+        .collect()
 }
 
 /// `normalize_to_semilinear` of an expression without casts, or the refusal: 8 where it is not
@@ -71,7 +99,7 @@ pub fn normalized(records: &[Record]) -> Result<Form, u64> {
     let w = u32::from(records[0].width);
     match normalize_to_semilinear(&expr(records), &[], w) {
         Ok(ir) => Ok(form(&ir)),
-        Err(error) if error.code == CobraError::NonLinearInput => Err(8),
+        Err(error) if error.code == CobraError::NonLinearInput => Err(NONLINEAR),
         Err(error) => Err(error.message.parse().expect("a refusal's number")),
     }
 }

@@ -8,11 +8,12 @@ use crate::entry::{
     VALUE,
 };
 use crate::form::RESULT_BYTES;
-use crate::form_model::Written;
 use crate::model::Answer;
 use crate::prng::Prng;
 use crate::random::{self, Kinds};
-use crate::{form_random, library, masks, normal_compare};
+use crate::refusal::{NUMBERS, OF_COMPACT, OF_EXPR_VALUE, OF_FORM_VALUE};
+use crate::written::Written;
+use crate::{form_random, library, masks, normal_compare, pass_compare};
 
 /// Random inputs for each function, beside the cases of the vector file.
 const RANDOM_INPUTS: usize = 250_000;
@@ -28,12 +29,13 @@ pub fn run() -> Result<(), String> {
     }
     compare_form_values(rng, &edges)?;
     compare_compactions(rng, &edges)?;
-    normal_compare::run()
+    normal_compare::run()?;
+    pass_compare::run()
 }
 
 /// How many inputs had which refusal.
 #[derive(Default)]
-struct Counts([usize; 11]);
+struct Counts([usize; NUMBERS]);
 
 impl Counts {
     fn add(&mut self, refusal: u64) {
@@ -41,10 +43,10 @@ impl Counts {
     }
 
     /// The line of a function without differences.
-    fn show(&self, function: &str, refusals: &[usize]) {
+    fn show(&self, function: &str, refusals: &[u64]) {
         let refused: Vec<String> = refusals
             .iter()
-            .map(|&refusal| format!("{} refused by {refusal}", self.0[refusal]))
+            .map(|&refusal| format!("{} refused by {refusal}", self.0[refusal as usize]))
             .collect();
         println!(
             "{function}: {} inputs ({} accepted, {}), 0 differences",
@@ -68,7 +70,7 @@ fn compare_values(rng: &mut Prng, edges: &[Entry]) -> Result<(), String> {
         };
         counts.add(check_value(&entry)?);
     }
-    counts.show("hogzelt_expr_value", &[1, 3, 4, 5, 6]);
+    counts.show("hogzelt_expr_value", OF_EXPR_VALUE);
     Ok(())
 }
 
@@ -170,7 +172,7 @@ fn compare_form_values(rng: &mut Prng, edges: &[Entry]) -> Result<(), String> {
         let entry = entry::form_value(bytes, random::assignment(rng, w));
         counts.add(check_value(&entry)?);
     }
-    counts.show("hogzelt_semilinear_value", &[1, 10]);
+    counts.show("hogzelt_semilinear_value", OF_FORM_VALUE);
     Ok(())
 }
 
@@ -190,7 +192,7 @@ fn compare_compactions(rng: &mut Prng, edges: &[Entry]) -> Result<(), String> {
         };
         counts.add(check_compaction(&bytes, length)?);
     }
-    counts.show("hogzelt_compact_atom_table", &[1, 2, 10]);
+    counts.show("hogzelt_compact_atom_table", OF_COMPACT);
     Ok(())
 }
 

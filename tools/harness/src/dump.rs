@@ -2,7 +2,7 @@
 
 use crate::entry::{Entry, COMPACT, FORM_VALUE, HASH, NORMALIZE, REDUCE_MASK, TYPE_NAMES, VALUE};
 use crate::record::{split, RECORD_BYTES};
-use crate::{form_model, model, published};
+use crate::{form_model, model, published, refusal};
 
 /// The entries `first` to `last`.
 pub fn text(entries: &[Entry], first: usize, last: usize) -> String {
@@ -49,7 +49,7 @@ fn writing_text(entry: &Entry) -> String {
 }
 
 /// Atoms and terms where the bytes are a valid form, else the bytes, a record to a line.
-fn form_text(name: &str, bytes: &[u8]) -> String {
+pub fn form_text(name: &str, bytes: &[u8]) -> String {
     let mut text = format!("    {name}: {} bytes\n", bytes.len());
     let Ok(form) = form_model::read(bytes) else {
         return text + &lines(bytes);
@@ -102,40 +102,32 @@ pub fn counts(entries: &[Entry]) -> String {
 
 fn outcomes(kind: u8) -> Vec<&'static str> {
     match kind {
-        VALUE => [0, 1, 3, 4, 5, 6].map(refusal_name).to_vec(),
+        VALUE => refused(refusal::OF_EXPR_VALUE),
         HASH => vec!["hash"],
-        FORM_VALUE => [0, 1, 10].map(refusal_name).to_vec(),
-        COMPACT => [0, 1, 2, 10].map(refusal_name).to_vec(),
-        NORMALIZE => (0..=9).map(refusal_name).collect(),
+        FORM_VALUE => refused(refusal::OF_FORM_VALUE),
+        COMPACT => refused(refusal::OF_COMPACT),
+        NORMALIZE => refused(refusal::OF_NORMALIZE),
         REDUCE_MASK => vec!["mask 0", "another mask"],
         _ => vec!["false", "true"],
     }
 }
 
+/// Accepted, and each of the refusals.
+fn refused(refusals: &[u64]) -> Vec<&'static str> {
+    [&[0], refusals]
+        .concat()
+        .into_iter()
+        .map(refusal::name)
+        .collect()
+}
+
 fn outcome(entry: &Entry) -> &'static str {
     match (entry.kind, entry.expected) {
-        (VALUE | FORM_VALUE | COMPACT | NORMALIZE, _) => refusal_name(entry.refusal),
+        (VALUE | FORM_VALUE | COMPACT | NORMALIZE, _) => refusal::name(u64::from(entry.refusal)),
         (HASH, _) => "hash",
         (REDUCE_MASK, 0) => "mask 0",
         (REDUCE_MASK, _) => "another mask",
         (_, 0) => "false",
         _ => "true",
-    }
-}
-
-fn refusal_name(refusal: u8) -> &'static str {
-    match refusal {
-        0 => "accepted",
-        1 => "refusal 1",
-        2 => "refusal 2",
-        3 => "refusal 3",
-        4 => "refusal 4",
-        5 => "refusal 5",
-        6 => "refusal 6",
-        7 => "refusal 7",
-        8 => "refusal 8",
-        9 => "refusal 9",
-        10 => "refusal 10",
-        _ => "another refusal",
     }
 }

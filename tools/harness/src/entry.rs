@@ -1,8 +1,10 @@
 //! The vector file (docs/VECTORS.md): entries of a 16-byte head, words, bytes and zero padding to a
 //! multiple of 16 bytes, all numbers little-endian; an end entry closes the file.
 
-use crate::form_model::{self, Written};
+use crate::form_model;
+use crate::pass::Pass;
 use crate::record::RECORD_BYTES;
+use crate::written::{self, Written};
 use crate::{form, model, normal_model, published, record};
 
 pub const HEAD_BYTES: usize = 16;
@@ -134,7 +136,7 @@ pub fn compact_answer(bytes: &[u8], length: usize) -> Written {
     let written = form_model::compact(bytes, length);
     if written.refusal == 0 {
         let form = form_model::read(bytes).expect("an accepted form");
-        let rust = form_model::written(&published::compacted(&form));
+        let rust = written::written(&published::passed(Pass::Compact, &form).form);
         assert_eq!(written, rust, "the model compacts as the Rust does");
     }
     written
@@ -146,8 +148,8 @@ pub fn normalize_answer(file: &[u8], length: usize) -> Written {
     let written = normal_model::answer(file, length);
     if rust_normalizes(file, length) {
         let rust = match crate::parted::bridge::normalized(&record::split(file)) {
-            Ok(form) => form_model::written(&form),
-            Err(refusal) => form_model::refused(refusal, length),
+            Ok(form) => written::written(&form),
+            Err(refusal) => written::refused(refusal, length),
         };
         assert_eq!(written, rust, "the model normalises as the Rust does");
     }

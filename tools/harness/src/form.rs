@@ -74,6 +74,27 @@ impl Form {
         self.terms.push(Term { atom, coeff });
     }
 
+    /// Document 01's order of terms (parting 4): by atom, those of one atom added modulo 2^w, and a
+    /// sum of 0 dropped.
+    pub fn settle(&mut self) {
+        let top = u64::MAX >> (64 - self.width);
+        self.terms.sort_by_key(|term| term.atom);
+        self.terms.dedup_by(|next, kept| {
+            let same = next.atom == kept.atom;
+            if same {
+                kept.coeff = kept.coeff.wrapping_add(next.coeff) & top;
+            }
+            same
+        });
+        self.terms.retain(|term| term.coeff != 0);
+    }
+
+    /// Whether the table is within its limits.
+    pub fn fits(&self) -> bool {
+        let records: usize = self.atoms.iter().map(|atom| atom.tree.len()).sum();
+        self.atoms.len() <= MAX_ATOMS && records <= MAX_TREE_RECORDS
+    }
+
     pub fn records(&self) -> Records {
         let w = self.width;
         let mut records = Vec::new();

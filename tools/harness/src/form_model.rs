@@ -6,23 +6,25 @@ use crate::form::{Atom, Form, Term, ATOM, MAX_ATOMS, MAX_TREE_RECORDS, RESULT_BY
 use crate::model::{self, Answer};
 use crate::published;
 use crate::record::{split, Record, AND, CONSTANT, NOT, OR, RECORD_BYTES, SHR, VARIABLE, XOR};
-
-/// What compaction and normalising hand over: the refusal, the used length and the count of terms, both 0 beside a
-/// refusal, and every byte of the result slice.
-#[derive(Clone, Debug, PartialEq, Eq)]
-pub struct Written {
-    pub refusal: u64,
-    pub used: u64,
-    pub terms: u64,
-    pub out: Vec<u8>,
-}
+use crate::refusal::{INPUT_LENGTH, NO_FORM, RESULT_LENGTH};
+use crate::written::{refused, written, Written};
 
 /// The form that the bytes are, or the lowest refusal of 1 and 10.
 pub fn read(bytes: &[u8]) -> Result<Form, u64> {
     if !length_allowed(bytes.len()) {
-        return Err(1);
+        return Err(INPUT_LENGTH);
     }
-    form(&split(bytes)).ok_or(10)
+    form(&split(bytes)).ok_or(NO_FORM)
+}
+
+/// The form that a pass reads where its result slice has `length` places of the `wanted` ones, or
+/// the lowest refusal of 1, 2 and 10.
+pub fn read_for(bytes: &[u8], length: usize, wanted: usize) -> Result<Form, u64> {
+    match read(bytes) {
+        Err(INPUT_LENGTH) => Err(INPUT_LENGTH),
+        _ if length != wanted => Err(RESULT_LENGTH),
+        other => other,
+    }
 }
 
 fn length_allowed(length: usize) -> bool {
@@ -151,36 +153,8 @@ pub fn compacted(form: &Form) -> Form {
 
 /// All that compaction gives for the bytes and a result slice of `length` bytes.
 pub fn compact(bytes: &[u8], length: usize) -> Written {
-    let form = match read(bytes) {
-        Err(1) => Err(1),
-        _ if length != RESULT_BYTES => Err(2),
-        other => other,
-    };
-    match form {
+    match read_for(bytes, length, RESULT_BYTES) {
         Ok(form) => written(&compacted(&form)),
         Err(refusal) => refused(refusal, length),
-    }
-}
-
-/// What a refused call hands over: zeros in the whole slice.
-pub fn refused(refusal: u64, length: usize) -> Written {
-    Written {
-        refusal,
-        used: 0,
-        terms: 0,
-        out: vec![0; length],
-    }
-}
-
-/// What an accepted call hands over: the bytes of the form and zeros behind them.
-pub fn written(form: &Form) -> Written {
-    let mut out = form.bytes();
-    let used = out.len() as u64;
-    out.resize(RESULT_BYTES, 0);
-    Written {
-        refusal: 0,
-        used,
-        terms: form.terms.len() as u64,
-        out,
     }
 }

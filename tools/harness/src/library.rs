@@ -39,14 +39,14 @@ mod raw {
 }
 
 use crate::entry::{CHANGE_COEFFICIENT, CHANGE_MASK, REDUCE_MASK};
-use crate::form_model::Written;
 use crate::model::Answer;
+use crate::written::Written;
 
 /// What stands in a result before a call, so that one which is not written shows.
-const UNWRITTEN: u64 = 0xBAD0_BAD0_BAD0_BAD0;
+pub const UNWRITTEN: u64 = 0xBAD0_BAD0_BAD0_BAD0;
 const UNWRITTEN_BYTE: u8 = 0xBA;
-/// The bytes behind a result slice that a call must leave alone.
-const GUARD_BYTES: usize = 64;
+/// How many bytes or words behind a result slice a call must leave alone.
+pub const GUARD: usize = 64;
 
 /// The library's answer for an expression file.
 pub fn expr_value(file: &[u8], vars: &[u64]) -> Answer {
@@ -94,7 +94,7 @@ pub fn semilinear_value(form: &[u8], vars: &[u64]) -> Answer {
 }
 
 /// A function that writes a form: input, result slice, used length and count of terms.
-type Writer = unsafe extern "C" fn(*const u8, usize, *mut u8, usize, *mut u64, *mut u64) -> u64;
+pub type Writer = unsafe extern "C" fn(*const u8, usize, *mut u8, usize, *mut u64, *mut u64) -> u64;
 
 /// The library's compaction of a form into a result slice of `length` bytes.
 pub fn compact(form: &[u8], length: usize) -> Written {
@@ -117,22 +117,29 @@ pub fn normalize_into(file: &[u8], out: &mut [u8]) -> [u64; 3] {
 }
 
 fn written(writer: Writer, input: &[u8], length: usize) -> Written {
-    let mut out = vec![UNWRITTEN_BYTE; length + GUARD_BYTES];
-    let [refusal, used, terms] = write_into(writer, input, &mut out[..length]);
-    let guard = out.split_off(length);
-    assert_eq!(
-        guard, [UNWRITTEN_BYTE; GUARD_BYTES],
-        "bytes behind the slice are written"
-    );
+    let ([refusal, used, terms], out) = guarded(length, |out| write_into(writer, input, out));
     Written {
         refusal,
         used,
         terms,
+        flag: 0,
         out,
     }
 }
 
-fn write_into(writer: Writer, input: &[u8], out: &mut [u8]) -> [u64; 3] {
+/// What a call gives that writes a result slice of `length` bytes, and the slice.
+pub fn guarded<T>(length: usize, call: impl FnOnce(&mut [u8]) -> T) -> (T, Vec<u8>) {
+    let mut out = vec![UNWRITTEN_BYTE; length + GUARD];
+    let answer = call(&mut out[..length]);
+    let guard = out.split_off(length);
+    assert_eq!(
+        guard, [UNWRITTEN_BYTE; GUARD],
+        "bytes behind the slice are written"
+    );
+    (answer, out)
+}
+
+pub fn write_into(writer: Writer, input: &[u8], out: &mut [u8]) -> [u64; 3] {
     let (mut used, mut terms) = (UNWRITTEN, UNWRITTEN);
     // SAFETY: both slices are valid for their lengths; what is written lies in neither and apart.
     let refusal = unsafe {

@@ -9,7 +9,11 @@ include!(concat!(env!("OUT_DIR"), "/published.rs"));
 #[cfg(feature = "library")]
 mod bench;
 #[cfg(feature = "library")]
+mod bench_forms;
+#[cfg(feature = "library")]
 mod bench_inputs;
+#[cfg(feature = "library")]
+mod bench_passes;
 #[cfg(feature = "library")]
 mod bench_rust;
 #[cfg(feature = "library")]
@@ -17,6 +21,8 @@ mod bench_table;
 mod bridge;
 mod cases;
 mod collide;
+#[cfg_attr(not(any(feature = "library", test)), allow(dead_code))]
+mod columns;
 #[cfg(feature = "library")]
 mod compare;
 mod dump;
@@ -43,14 +49,36 @@ mod normal_small;
 #[cfg(feature = "library")]
 mod normal_stack;
 mod normal_table;
+#[cfg_attr(not(any(feature = "library", test)), allow(dead_code))]
+mod pass;
+#[cfg(any(feature = "library", test))]
+mod pass_atoms;
+#[cfg(any(feature = "library", test))]
+mod pass_cases;
+#[cfg(any(feature = "library", test))]
+mod pass_checks;
+#[cfg(feature = "library")]
+mod pass_compare;
+#[cfg(any(feature = "library", test))]
+mod pass_examples;
+#[cfg(any(feature = "library", test))]
+mod pass_groups;
+#[cfg(feature = "library")]
+mod pass_library;
+#[cfg(feature = "library")]
+mod pass_stack;
+#[cfg(test)]
+mod pass_tests;
 mod prng;
 mod published;
 mod random;
 mod record;
+mod refusal;
 #[cfg(feature = "library")]
 mod stack;
 #[cfg(test)]
 mod tests;
+mod written;
 
 use std::io::{ErrorKind, Write};
 use std::process::ExitCode;
@@ -68,6 +96,8 @@ fn main() -> ExitCode {
         ["compare"] => compare::run(),
         #[cfg(feature = "library")]
         ["compare", "normalize"] => normal_compare::run(),
+        #[cfg(feature = "library")]
+        ["compare", "passes"] => pass_compare::run(),
         #[cfg(feature = "library")]
         ["stack"] => stack::run(),
         #[cfg(feature = "library")]

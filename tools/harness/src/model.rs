@@ -7,6 +7,7 @@ use crate::record::{
     arity, split, Record, ADD, AND, CONCAT, CONSTANT, MAX_RECORDS, MUL, NEG, NOT, OR, RECORD_BYTES,
     SHR, TRUNC, VARIABLE, XOR, ZEXT,
 };
+use crate::refusal::{CAST, INPUT_LENGTH, MALFORMED, SHIFT_COUNT, WIDTH};
 
 /// What the entry point returns: a refusal, 0 for accepted, and the value, 0 beside a refusal.
 #[derive(Clone, Copy, Debug, PartialEq, Eq)]
@@ -28,18 +29,18 @@ pub fn answer(file: &[u8], vars: &[u64]) -> Answer {
 /// The lowest refusal that applies to the file, 0 if none does.
 pub fn refusal(file: &[u8]) -> u64 {
     if !length_allowed(file.len()) {
-        return 1;
+        return INPUT_LENGTH;
     }
     let records = split(file);
     let width = records[0].width;
     if !well_formed(&records) {
-        3
+        MALFORMED
     } else if !(1..=64).contains(&width) || records.iter().any(|r| r.width != width) {
-        4
+        WIDTH
     } else if records.iter().any(|r| (ZEXT..=CONCAT).contains(&r.kind)) {
-        5
+        CAST
     } else if records.iter().any(|r| r.kind == SHR && r.arg > 63) {
-        6
+        SHIFT_COUNT
     } else {
         0
     }

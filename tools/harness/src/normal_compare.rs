@@ -7,7 +7,7 @@ use std::collections::BTreeMap;
 use crate::cases::SEED;
 use crate::entry;
 use crate::form::{Form, RESULT_BYTES};
-use crate::form_model::{self, Written};
+use crate::form_model;
 use crate::library;
 use crate::model;
 use crate::normal_cases::{Case, FAMILIES};
@@ -15,6 +15,8 @@ use crate::normal_model;
 use crate::prng::Prng;
 use crate::published;
 use crate::record::{split, RECORD_BYTES};
+use crate::refusal::{NONLINEAR, OF_NORMALIZE, SUM_IN_CONSTANT, TABLE_FULL};
+use crate::written::{self, Written};
 use crate::{parted, sorted};
 
 /// The name of a difference between the sources as they stand and with sorted maps.
@@ -27,7 +29,7 @@ const SHOWN_RECORDS: usize = 8;
 /// those of each refusal.
 #[derive(Clone, Copy, Default)]
 struct Counts {
-    outcomes: [usize; 10],
+    outcomes: [usize; 1 + OF_NORMALIZE.len()],
     two_terms: usize,
 }
 
@@ -150,12 +152,16 @@ fn check(case: &Case, faults: &mut Differences, partings: &mut Differences) -> W
     if published::normalized(&records) != sorted {
         partings.add(MAP_ORDERS, case);
     }
-    let refused_8 = sorted == Err(8);
+    let nonlinear = sorted == Err(NONLINEAR);
     if written(sorted) != wanted {
-        match (wanted.refusal, refused_8) {
-            (7, false) => partings.add("parting 5, refusal 7, accepted by the Rust", case),
-            (7, true) => partings.add("parting 5, refusal 7, the Rust's NonLinearInput", case),
-            (9, false) => partings.add("parting 5, refusal 9, accepted by the Rust", case),
+        match (wanted.refusal, nonlinear) {
+            (SUM_IN_CONSTANT, false) => {
+                partings.add("parting 5, refusal 7, accepted by the Rust", case)
+            }
+            (SUM_IN_CONSTANT, true) => {
+                partings.add("parting 5, refusal 7, the Rust's NonLinearInput", case)
+            }
+            (TABLE_FULL, false) => partings.add("parting 5, refusal 9, accepted by the Rust", case),
             _ => faults.add("the Rust with sorted maps differs, for no parting", case),
         }
     }
@@ -176,7 +182,7 @@ fn keeps_value(rng: &mut Prng, case: &Case, wanted: &Written) -> bool {
 /// its length.
 fn written(answer: Result<Form, u64>) -> Written {
     match answer {
-        Ok(form) => form_model::written(&form),
-        Err(refusal) => form_model::refused(refusal, RESULT_BYTES),
+        Ok(form) => written::written(&form),
+        Err(refusal) => written::refused(refusal, RESULT_BYTES),
     }
 }

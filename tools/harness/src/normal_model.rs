@@ -2,27 +2,28 @@
 //! descent that it takes from the Rust told in its own way: a list of what is still to be taken
 //! apart. The atoms go one after the other into a table without limits (normal_table.rs).
 
-use crate::form::{Form, MAX_ATOMS, MAX_TREE_RECORDS, RESULT_BYTES};
-use crate::form_model::{self, Written};
+use crate::form::{Form, RESULT_BYTES};
 use crate::model;
 use crate::normal_table;
 use crate::record::{
     binary, literal, split, Record, Records, ADD, AND, MUL, NEG, NOT, OR, VARIABLE, XOR,
 };
+use crate::refusal::{INPUT_LENGTH, NONLINEAR, RESULT_LENGTH, SUM_IN_CONSTANT, TABLE_FULL};
+use crate::written::{self, Written};
 
 /// All that normalising gives for the bytes of an expression and a result slice of `length` bytes.
 pub fn answer(file: &[u8], length: usize) -> Written {
     match normalized(file, length) {
-        Ok(form) => form_model::written(&form),
-        Err(refusal) => form_model::refused(refusal, length),
+        Ok(form) => written::written(&form),
+        Err(refusal) => written::refused(refusal, length),
     }
 }
 
 /// The form, or the lowest refusal that applies.
 fn normalized(file: &[u8], length: usize) -> Result<Form, u64> {
     let refusal = match model::refusal(file) {
-        1 => 1,
-        _ if length != RESULT_BYTES => 2,
+        INPUT_LENGTH => INPUT_LENGTH,
+        _ if length != RESULT_BYTES => RESULT_LENGTH,
         other => other,
     };
     if refusal != 0 {
@@ -30,15 +31,14 @@ fn normalized(file: &[u8], length: usize) -> Result<Form, u64> {
     }
     let tree = split(file);
     if sum_in_constant(&tree) {
-        return Err(7);
+        return Err(SUM_IN_CONSTANT);
     }
-    let collected = collected(&tree).ok_or(8u64)?;
+    let collected = collected(&tree).ok_or(NONLINEAR)?;
     let form = normal_table::form(collected, tree[0].width);
-    let records: usize = form.atoms.iter().map(|atom| atom.tree.len()).sum();
-    if form.atoms.len() > MAX_ATOMS || records > MAX_TREE_RECORDS {
-        return Err(9);
+    match form.fits() {
+        true => Ok(form),
+        false => Err(TABLE_FULL),
     }
-    Ok(form)
 }
 
 fn has_variable(tree: &[Record]) -> bool {

@@ -7,7 +7,7 @@ use crate::core::expr::{render, Expr, Kind};
 use crate::ir::semilinear::structural_hash;
 use crate::record::{self, Record, Records};
 
-pub use crate::bridge::{compacted, normalized};
+pub use crate::bridge::{normalized, passed};
 pub use crate::ir::term_refiner::{can_change_coefficient_to, can_change_mask_to, reduce_mask};
 
 /// The tree of a well-formed expression.

@@ -11,12 +11,14 @@ use crate::library;
 use crate::measure::{stack_used, time_of};
 use crate::model;
 use crate::normal_stack;
+use crate::pass_stack;
 use crate::prng::Prng;
 use crate::random::{self, Kinds};
 use crate::record::{
     balanced, bytes, left_chain, nested, right_chain, unary, variable, Records, ADD, AND,
     MAX_RECORDS, NEG, NOT, RECORD_BYTES, SHR,
 };
+use crate::written::same_bytes;
 
 const VARS: [u64; 3] = [1, 2, 3];
 
@@ -27,13 +29,15 @@ pub fn run() -> Result<(), String> {
     println!("stack, no call: {} bytes", stack_used(&mut || {})?);
     let most = expression_stacks()?
         .max(form_stacks()?)
-        .max(normal_stack::stacks()?);
+        .max(normal_stack::stacks()?)
+        .max(pass_stack::stacks()?);
     println!("stack, most: {most} bytes");
     if most > STACK_BAR {
         return Err(format!("a call used more than {STACK_BAR} bytes of stack"));
     }
     expression_times();
     form_times();
+    pass_stack::times();
     normal_stack::times()
 }
 
@@ -98,7 +102,8 @@ fn form_stacks() -> Result<usize, String> {
         let mut answer = None;
         let used = stack_used(&mut || answer = Some(library::compact_into(&form, &mut out)))?;
         let wanted = form_model::compact(&form, RESULT_BYTES);
-        if answer != Some([wanted.refusal, wanted.used, wanted.terms]) || out != wanted.out {
+        let numbers = [wanted.refusal, wanted.used, wanted.terms];
+        if answer != Some(numbers) || !same_bytes(&out, &wanted.out) {
             return Err(format!(
                 "hogzelt_compact_atom_table differs from the model: {shape}"
             ));
@@ -109,7 +114,7 @@ fn form_stacks() -> Result<usize, String> {
 }
 
 /// Forms of one atom, whose tree is as deep as it may be, and the longest form.
-fn forms() -> Vec<(&'static str, Vec<u8>)> {
+pub fn forms() -> Vec<(&'static str, Vec<u8>)> {
     let leaf = |i: usize| variable(64, i as u8);
     let leaves = MAX_TREE_RECORDS / 2;
     let trees: [(&'static str, Records); 4] = [

@@ -1,0 +1,31 @@
+//! Which of partings 1 to 3 hold in the passes of the build that has them all. Each can be let go,
+//! so that a difference from the published answers can be named by the partings that it needs.
+
+use std::cell::Cell;
+
+/// The set of partings 1 to 3: bit n for parting n.
+pub const ALL: u8 = 0b1110;
+
+thread_local! {
+    static HELD: Cell<u8> = const { Cell::new(ALL) };
+}
+
+/// What `work` gives where just the partings of the set hold.
+pub fn with<T>(set: u8, work: impl FnOnce() -> T) -> T {
+    let before = HELD.replace(set);
+    let result = work();
+    HELD.set(before);
+    result
+}
+
+pub fn held(number: u32) -> bool {
+    HELD.get() >> number & 1 == 1
+}
+
+/// Parting 3: the width at which a mask is read, w or 64.
+pub fn mask_width(modmask: u64) -> u32 {
+    match held(3) {
+        true => modmask.count_ones(),
+        false => u64::BITS,
+    }
+}

@@ -1,0 +1,145 @@
+//! Forms written directly, of atoms over several variables with literals and shifts, and forms whose
+//! table is near one of its limits.
+
+use crate::form::{Form, MAX_ATOMS, MAX_TREE_RECORDS, MIXED};
+use crate::normal_random::either;
+use crate::pass_cases::{case, Case};
+use crate::pass_groups::{bare, coefficient, form_of, one, several, Entry};
+use crate::prng::Prng;
+use crate::random;
+use crate::record::{
+    binary, literal, nested, unary, variable, Records, AND, CONSTANT, NOT, OR, SHR, XOR,
+};
+
+/// Forms of atoms over one to seven variables with literals and shifts, the shifts over variables
+/// and over literals.
+pub fn atoms(rng: &mut Prng, w: u8) -> Form {
+    let mut entries = Vec::new();
+    let most = rng.pick(&[4, 4, 4, 12, 40]);
+    for _ in 0..1 + rng.below(most) {
+        let variables = rng.pick(&[1, 1, 1, 1, 2, 3, 5, 6, 7]);
+        let tree = atom(rng, variables, w);
+        let coeff = match rng.one_in(6) {
+            true => 0,
+            false => coefficient(rng, &[], w),
+        };
+        entries.push(Entry { tree, coeff });
+    }
+    form_of(rng, entries, w)
+}
+
+/// A tree over exactly so many variables, with a few literals and shifts among them.
+fn atom(rng: &mut Prng, variables: usize, w: u8) -> Records {
+    let from = rng.byte() % 4;
+    let mut tree = variable(w, from);
+    for number in 1..variables {
+        let next = decorated(rng, variable(w, from + number as u8), w);
+        let kind = rng.pick(&[AND, OR, XOR]);
+        tree = either(rng, kind, tree, next);
+    }
+    for _ in 0..1 + rng.below(4) {
+        tree = decorated(rng, tree, w);
+    }
+    tree
+}
+
+/// The tree below one more operator: Not, a shift, or a literal beside it.
+fn decorated(rng: &mut Prng, tree: Records, w: u8) -> Records {
+    let mut word = literal(w, random::word(rng, w));
+    if rng.one_in(12) {
+        word = unary(SHR, rng.pick(&[0, 1, w.min(63)]), word);
+    }
+    match rng.below(10) {
+        0 | 1 => unary(NOT, 0, tree),
+        2 if rng.one_in(2) => unary(SHR, rng.pick(&[0, 0, 1, w - 1]), tree),
+        3 => tree,
+        4 => {
+            let mut same = tree.clone();
+            // the same tree again, its literals changed
+            for record in same.iter_mut().filter(|r| r.kind == CONSTANT) {
+                record.literal ^= rng.word();
+            }
+            let kind = rng.pick(&[AND, OR, XOR]);
+            binary(kind, tree, unary(NOT, 0, same))
+        }
+        _ => {
+            let kind = rng.pick(&[AND, OR, XOR]);
+            either(rng, kind, tree, word)
+        }
+    }
+}
+
+/// Forms whose table is at one of its limits, or a few short of it: a small form, and atoms without
+/// terms in front or behind.
+pub fn near_limits(rng: &mut Prng, w: u8) -> Form {
+    let small = match rng.below(4) {
+        0 => one(rng, w),
+        1 => bare(rng, w),
+        2 => atoms(rng, w),
+        _ => several(rng, w),
+    };
+    let mut form = Form::new(w, small.constant);
+    let in_front = rng.one_in(2);
+    if in_front {
+        fill(rng, &mut form, &small);
+    }
+    let first = form.atoms.len() as u16;
+    form.atoms.extend(small.atoms.iter().cloned());
+    for term in &small.terms {
+        let mut term = *term;
+        term.atom += first;
+        form.terms.push(term);
+    }
+    if !in_front {
+        fill(rng, &mut form, &Form::new(w, 0));
+    }
+    form
+}
+
+/// Atoms without terms, so many that the form and `more` are near one of the limits.
+fn fill(rng: &mut Prng, form: &mut Form, more: &Form) {
+    let w = form.width;
+    let short = rng.pick(&[0, 0, 1, 2, 3, 4, 6, 8]);
+    let size = |form: &Form| form.atoms.iter().map(|atom| atom.tree.len()).sum::<usize>();
+    let atoms = form.atoms.len() + more.atoms.len();
+    let records = size(form) + size(more);
+    if rng.one_in(2) {
+        for _ in atoms..MAX_ATOMS.saturating_sub(short) {
+            if size(form) + size(more) < MAX_TREE_RECORDS {
+                form.push(rng.byte() % 5, variable(w, rng.byte()));
+            }
+        }
+        return;
+    }
+    let left = MAX_TREE_RECORDS.saturating_sub(records + short);
+    if left > 0 && atoms < MAX_ATOMS {
+        let kind = rng.pick(&[NOT, SHR]);
+        form.push(rng.byte() % 5, nested(&[kind], left - 1, variable(w, 0)));
+    }
+}
+
+/// A term that refining cuts, and one that is flattened, beside atoms without terms: tables that the
+/// pass fills just up to one of the limits, and tables in which it passes it.
+pub fn edges() -> Vec<Case> {
+    let (w, a) = (8, || variable(8, 0));
+    let new_atom = binary(AND, a(), literal(w, 15));
+    let mut all = Vec::new();
+    for (tree, coeff) in [(a(), 16), (unary(NOT, 0, new_atom.clone()), 1)] {
+        for atoms in [MAX_ATOMS - 1, MAX_ATOMS] {
+            let mut form = Form::new(w, 1);
+            for number in 1..atoms {
+                form.push(MIXED, variable(w, number as u8));
+            }
+            form.push_term(MIXED, tree.clone(), coeff);
+            all.push(case(&form));
+        }
+        for short in [new_atom.len(), new_atom.len() - 1] {
+            let mut form = Form::new(w, 1);
+            let depth = MAX_TREE_RECORDS - short - tree.len() - 1;
+            form.push(MIXED, nested(&[NOT], depth, a()));
+            form.push_term(MIXED, tree.clone(), coeff);
+            all.push(case(&form));
+        }
+    }
+    all
+}

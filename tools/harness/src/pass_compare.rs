@@ -1,0 +1,256 @@
+//! The passes and the columns: the static library, for what it has, beside the published Rust in the
+//! build with document 01's partings. Every difference from the build with sorted maps alone is
+//! named by the partings that it needs. Values before and after a pass are compared under random
+//! assignments, and columns with the bits of the atoms' values.
+
+use std::collections::BTreeMap;
+
+use crate::bridge;
+use crate::cases::SEED;
+use crate::columns::{self, Columns};
+use crate::dump;
+use crate::form::Form;
+use crate::form_model;
+use crate::parted;
+use crate::pass::{self, Pass, PASSES};
+use crate::pass_cases::{Case, FAMILIES};
+use crate::pass_checks;
+use crate::pass_library as library;
+use crate::prng::Prng;
+use crate::refusal::{INPUT_LENGTH, NO_FORM, NUMBERS, RESULT_LENGTH, TABLE_FULL};
+use crate::sorted;
+use crate::written::Written;
+
+const COLUMNS: &str = "compute_partitions";
+
+/// Inputs of more bytes are not printed for a parting.
+const SHOWN_BYTES: usize = 320;
+
+/// What the cases of a family came to: for the passes and, last, the columns, the answers by their
+/// refusal, and those of them that changed something.
+#[derive(Clone, Copy, Default)]
+struct Counts {
+    outcomes: [[usize; NUMBERS]; PASSES.len() + 1],
+    changed: [usize; PASSES.len() + 1],
+}
+
+impl Counts {
+    fn add(&mut self, function: usize, refusal: u64, changed: bool) {
+        self.outcomes[function][refusal as usize] += 1;
+        self.changed[function] += usize::from(changed);
+    }
+
+    fn plus(&mut self, other: &Self) {
+        for function in 0..=PASSES.len() {
+            for number in 0..NUMBERS {
+                self.outcomes[function][number] += other.outcomes[function][number];
+            }
+            self.changed[function] += other.changed[function];
+        }
+    }
+
+    fn line(&self, name: &str) -> String {
+        let inputs = self.outcomes[0].iter().sum();
+        let mut numbers: Vec<usize> = vec![inputs];
+        let columns = &self.outcomes[PASSES.len()];
+        for refusal in [0, INPUT_LENGTH, RESULT_LENGTH, NO_FORM] {
+            numbers.push(columns[refusal as usize]);
+        }
+        for (function, changed) in self.changed.iter().enumerate() {
+            numbers.push(*changed);
+            if function + 2 < self.changed.len() {
+                numbers.push(self.outcomes[function][TABLE_FULL as usize]);
+            }
+        }
+        let numbers: Vec<String> = numbers.iter().map(usize::to_string).collect();
+        format!("| {name} | {} |", numbers.join(" | "))
+    }
+}
+
+const HEAD: &str = "\
+| family | inputs | forms | 1 | 2 | 10 | refining changed | 9 | recovering | 9 | coalescing | 9 | flattening | 9 \
+| compacting | two classes or more |
+|---|---|---|---|---|---|---|---|---|---|---|---|---|---|---|---|";
+
+/// By function and name, how many inputs differ, and the smallest of them.
+#[derive(Default)]
+struct Differences(BTreeMap<(&'static str, String), (usize, Option<Case>)>);
+
+impl Differences {
+    fn add(&mut self, function: &'static str, name: String, case: &Case) {
+        let (count, smallest) = self.0.entry((function, name)).or_default();
+        *count += 1;
+        let length = smallest.as_ref().map_or(usize::MAX, |s| s.file.len());
+        if case.file.len() < length {
+            *smallest = Some(case.clone());
+        }
+    }
+
+    fn total(&self) -> usize {
+        self.0.values().map(|(count, _)| count).sum()
+    }
+
+    /// A line for each name, and the smallest input where it has at most `most` bytes.
+    fn show(&self, most: usize) {
+        for ((function, name), (count, smallest)) in &self.0 {
+            println!("{function}, {name}: {count} inputs");
+            let Some(case) = smallest.as_ref().filter(|case| case.file.len() <= most) else {
+                continue;
+            };
+            let hex: String = case.file.iter().map(|b| format!("{b:02x}")).collect();
+            println!("  result slice: the right length and {}", case.excess);
+            println!("{}    {hex}", dump::form_text("smallest", &case.file));
+        }
+    }
+}
+
+struct Comparison {
+    rng: Prng,
+    faults: Differences,
+    partings: Differences,
+}
+
+pub fn run() -> Result<(), String> {
+    let mut all = Counts::default();
+    let mut comparison = Comparison {
+        rng: Prng::new(SEED + 5),
+        faults: Differences::default(),
+        partings: Differences::default(),
+    };
+    println!("{HEAD}");
+    for family in &FAMILIES {
+        let mut counts = Counts::default();
+        for case in (family.make)(&mut comparison.rng, family.compared) {
+            comparison.check(&case, &mut counts);
+        }
+        println!("{}", counts.line(family.name));
+        all.plus(&counts);
+    }
+    println!("{}", all.line("all"));
+    println!(
+        "where the build with sorted maps alone gives another answer, by the partings needed:"
+    );
+    comparison.partings.show(SHOWN_BYTES);
+    comparison.faults.show(usize::MAX);
+    for pass in PASSES {
+        said(pass.name(), library::has(pass));
+    }
+    said(COLUMNS, library::HAS_COLUMNS);
+    match comparison.faults.total() {
+        0 => Ok(()),
+        n => Err(format!("{n} differences in the passes and columns")),
+    }
+}
+
+fn said(function: &str, has: bool) {
+    match has {
+        true => println!("hogzelt_{function}: compared"),
+        false => println!("hogzelt_{function}: not compared, the archive does not have it"),
+    }
+}
+
+impl Comparison {
+    fn check(&mut self, case: &Case, counts: &mut Counts) {
+        let form = form_model::read(&case.file);
+        let vars: Vec<u64> = (0..256).map(|_| self.rng.word()).collect();
+        for (function, pass) in PASSES.into_iter().enumerate() {
+            let wanted = self.check_pass(pass, case, &form, &vars);
+            let used = &wanted.out[..wanted.used as usize];
+            let changed = wanted.refusal == 0 && *used != case.file;
+            counts.add(function, wanted.refusal, changed);
+        }
+        let columns = self.check_columns(case, &form, &vars);
+        counts.add(PASSES.len(), columns.refusal, columns.classes > 1);
+    }
+
+    fn fault(&mut self, function: &'static str, what: &str, case: &Case) {
+        self.faults.add(function, what.to_string(), case);
+    }
+
+    /// What the Rust with the partings gives. Differences from it are noted.
+    fn check_pass(
+        &mut self,
+        pass: Pass,
+        case: &Case,
+        form: &Result<Form, u64>,
+        vars: &[u64],
+    ) -> Written {
+        let wanted = pass::answer(pass, &case.file, case.bytes());
+        if library::has(pass) && library::passed(pass, &case.file, case.bytes()) != wanted {
+            self.fault(pass.name(), "the library differs", case);
+        }
+        if let (Ok(form), 0) = (form, case.excess) {
+            self.check_builds(pass, case, form, &wanted);
+            if wanted.refusal == 0 && !pass_checks::keeps_value(form, &wanted, vars) {
+                self.fault(pass.name(), "no valid form of the same value", case);
+            }
+        }
+        wanted
+    }
+
+    /// The build with sorted maps and the sources as they stand, beside the one with the partings.
+    fn check_builds(&mut self, pass: Pass, case: &Case, form: &Form, wanted: &Written) {
+        let name = pass.name();
+        let passed = sorted::bridge::passed(pass, form);
+        if bridge::passed(pass, form) != passed {
+            let what = "parting 4, orders of maps, by chance".to_string();
+            self.partings.add(name, what, case);
+        }
+        let mut settled = passed.clone();
+        settled.form.settle();
+        if settled != passed {
+            let what = "parting 4, order or sum of terms".to_string();
+            self.partings.add(name, what, case);
+        }
+        let sorted = pass::settled(passed);
+        if sorted != pass::parted(pass, form, 0) {
+            self.fault(name, "the edits change an answer where none holds", case);
+        }
+        if sorted == *wanted {
+            return;
+        }
+        let Some(needed) = pass_checks::needed(pass, form, wanted) else {
+            return self.fault(
+                name,
+                "the Rust with sorted maps differs, for no parting",
+                case,
+            );
+        };
+        let numbers: Vec<String> = (1..8)
+            .filter(|number| needed >> number & 1 == 1)
+            .map(|number| number.to_string())
+            .collect();
+        let numbers = numbers.join(" and ");
+        self.partings.add(name, format!("parting {numbers}"), case);
+    }
+
+    /// The columns by the same rules; the builds must agree but for the order of the classes.
+    fn check_columns(&mut self, case: &Case, form: &Result<Form, u64>, vars: &[u64]) -> Columns {
+        let wanted = columns::answer(&case.file, case.words());
+        if library::HAS_COLUMNS && library::columns(&case.file, case.words()) != wanted {
+            self.fault(COLUMNS, "the library differs", case);
+        }
+        if let (Ok(form), 0) = (form, case.excess) {
+            let classes = sorted::bridge::partitions(form);
+            let as_is = bridge::partitions(form);
+            if as_is != parted_order(form) {
+                let what = "parting 4, order of classes, by chance".to_string();
+                self.partings.add(COLUMNS, what, case);
+            }
+            if columns::settled(classes) != wanted || columns::settled(as_is) != wanted {
+                self.fault(COLUMNS, "the builds differ in more than an order", case);
+            }
+            if !pass_checks::hold(form, &wanted, vars) {
+                self.fault(COLUMNS, "the columns do not tell the atoms' bits", case);
+            }
+        }
+        wanted
+    }
+}
+
+/// The classes by lowest place.
+fn parted_order(form: &Form) -> Vec<columns::Class> {
+    let mut classes = parted::bridge::partitions(form);
+    classes.sort_by_key(|class| class.mask.trailing_zeros());
+    classes
+}

@@ -1,0 +1,98 @@
+//! The stack and the time of the passes and the columns, as far as the library has them, on the forms
+//! that may take the most of either.
+
+use std::hint::black_box;
+
+use crate::bench_forms;
+use crate::columns::{self, RESULT_WORDS};
+use crate::form::{Form, MAX_TREE_RECORDS, MIXED, RESULT_BYTES};
+use crate::measure::stack_used;
+use crate::pass::{self, Pass, PASSES};
+use crate::pass_library as library;
+use crate::record::{binary, literal, nested, variable, AND, NOT};
+use crate::stack::{forms, show_stack, show_time};
+use crate::written::same_bytes;
+
+/// The most stack that one of these calls may use.
+const STACK_BAR: usize = 420_000;
+
+const COLUMNS: &str = "hogzelt_compute_partitions";
+
+/// The passes that the library has, beside compaction, which stack.rs measures.
+fn passes() -> impl Iterator<Item = Pass> {
+    let measured = |pass: &Pass| *pass != Pass::Compact && library::has(*pass);
+    PASSES.into_iter().filter(measured)
+}
+
+fn shapes() -> Vec<(&'static str, Vec<u8>)> {
+    let mut shapes = forms();
+    let mask = || literal(64, 15);
+    let (leaf, depth) = (variable(64, 0), MAX_TREE_RECORDS - 3);
+    let deep_basis = binary(AND, nested(&[NOT], depth, leaf.clone()), mask());
+    let deep_mask = nested(&[NOT], depth, binary(AND, leaf, mask()));
+    for (shape, tree) in [
+        ("nested Not, masked", deep_basis),
+        ("nested Not of a masked variable", deep_mask),
+    ] {
+        let mut form = Form::new(64, 1);
+        form.push_term(MIXED, tree, 16);
+        shapes.push((shape, form.bytes()));
+    }
+    shapes.push(("256 entries of a group", bench_forms::one_group().bytes()));
+    shapes.push((
+        "256 atoms of 5 variables, 64 unlike places",
+        bench_forms::places().bytes(),
+    ));
+    shapes
+}
+
+/// The most stack that a call used.
+pub fn stacks() -> Result<usize, String> {
+    let mut most = 0;
+    for (shape, form) in shapes() {
+        // the result slice is the caller's and not counted
+        let mut out = vec![1; RESULT_BYTES];
+        for pass in passes() {
+            let function = format!("hogzelt_{}", pass.name());
+            let mut answer = [0; 4];
+            let used = stack_used(&mut || answer = library::pass_into(pass, &form, &mut out))?;
+            let wanted = pass::answer(pass, &form, RESULT_BYTES);
+            if answer != wanted.numbers() || !same_bytes(&out, &wanted.out) {
+                return Err(format!("{function} differs from the Rust: {shape}"));
+            }
+            most = show_stack(&function, shape, &form, used, most);
+        }
+        if library::HAS_COLUMNS {
+            let mut out = vec![1; RESULT_WORDS];
+            let mut answer = [0; 2];
+            let used = stack_used(&mut || answer = library::columns_into(&form, &mut out))?;
+            let wanted = columns::answer(&form, RESULT_WORDS);
+            if answer != [wanted.refusal, wanted.classes] || out != wanted.out {
+                return Err(format!("{COLUMNS} differs from the Rust: {shape}"));
+            }
+            most = show_stack(COLUMNS, shape, &form, used, most);
+        }
+    }
+    match most > STACK_BAR {
+        true => Err(format!("a call used more than {STACK_BAR} bytes of stack")),
+        false => Ok(most),
+    }
+}
+
+/// Times for each shape.
+pub fn times() {
+    for (shape, form) in shapes() {
+        let mut out = vec![1; RESULT_BYTES];
+        for pass in passes() {
+            show_time(&format!("hogzelt_{}", pass.name()), shape, &form, || {
+                black_box(library::pass_into(pass, &form, &mut out));
+            });
+        }
+        if library::HAS_COLUMNS {
+            let mut out = vec![1; RESULT_WORDS];
+            show_time(COLUMNS, shape, &form, || {
+                black_box(library::columns_into(&form, &mut out));
+            });
+        }
+    }
+}

@@ -1,0 +1,54 @@
+//! Document 01's refusals by number ("Refusals"), and which of them each function gives.
+
+pub const INPUT_LENGTH: u64 = 1;
+pub const RESULT_LENGTH: u64 = 2;
+pub const MALFORMED: u64 = 3;
+pub const WIDTH: u64 = 4;
+pub const CAST: u64 = 5;
+pub const SHIFT_COUNT: u64 = 6;
+pub const SUM_IN_CONSTANT: u64 = 7;
+pub const NONLINEAR: u64 = 8;
+pub const TABLE_FULL: u64 = 9;
+pub const NO_FORM: u64 = 10;
+
+/// The names of 0, which is no refusal, and of each refusal.
+const NAMES: [&str; 11] = [
+    "accepted",
+    "refusal 1",
+    "refusal 2",
+    "refusal 3",
+    "refusal 4",
+    "refusal 5",
+    "refusal 6",
+    "refusal 7",
+    "refusal 8",
+    "refusal 9",
+    "refusal 10",
+];
+
+/// How many numbers there are, 0 among them.
+#[cfg_attr(not(feature = "library"), allow(dead_code))]
+pub const NUMBERS: usize = NAMES.len();
+
+pub const OF_EXPR_VALUE: &[u64] = &[INPUT_LENGTH, MALFORMED, WIDTH, CAST, SHIFT_COUNT];
+pub const OF_NORMALIZE: &[u64] = &[
+    INPUT_LENGTH,
+    RESULT_LENGTH,
+    MALFORMED,
+    WIDTH,
+    CAST,
+    SHIFT_COUNT,
+    SUM_IN_CONSTANT,
+    NONLINEAR,
+    TABLE_FULL,
+];
+pub const OF_FORM_VALUE: &[u64] = &[INPUT_LENGTH, NO_FORM];
+pub const OF_COMPACT: &[u64] = &[INPUT_LENGTH, RESULT_LENGTH, NO_FORM];
+
+/// The name of a number that an answer has.
+pub fn name(refusal: u64) -> &'static str {
+    NAMES
+        .get(refusal as usize)
+        .copied()
+        .unwrap_or("another refusal")
+}
