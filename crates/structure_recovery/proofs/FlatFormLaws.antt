@@ -30,39 +30,12 @@ use Rattle.semilinear.proofs.PassLaws.{semilinear-front}
 use Rattle.semilinear.proofs.ValidLaws.{semilinear-parts}
 use Rattle.semilinear.proofs.TermsLaws.{length-coeffs}
 use Rattle.group.specs.Made.{tableOf, flagOf, wordsOf, Held}
-use Rattle.group.proofs.WordsLaws.{held-start}
+use Rattle.group.proofs.ShownLaws.{begun, held-copied, copied-end, shown-ends}
 use Rattle.structure_recovery.specs.FlattenComplexAtoms.{flattened, flattenForm}
-use Rattle.structure_recovery.specs.Flattening.{Shown, flatRows, RowsFlattened}
-use Rattle.structure_recovery.proofs.ShownLaws.{fits-length}
+use Rattle.group.specs.Shown.{Shown}
+use Rattle.structure_recovery.specs.Flattening.{flatRows, RowsFlattened}
 
 -- ---- the begin
-
--- the words of a copied table, with as many rows as atoms
-abbrev pub begun : Table → ℕ → List ℕ
-begun tab k = tab .at ∷ tab .count ∷ tab .records ∷ 0 ∷ tab .count ∷ k ∷ []
-
-pub held-copied : (f : Form) (tab : Table) (out : List ℕ) (k : ℕ) → Copied f tab out
-    → Held (f .bitwidth) (begun tab k) out (f .rows)
-unfolding wordsOf flagOf
-held-copied f tab out k h =
-    let count : tab .count ≡ length (f .rows) = h .holds .kept (h .more) .count in
-    let same : begun tab k ≡ wordsOf tab (length (f .rows)) k =
-    ap₂ (λ (b : Bool) (n : ℕ). tab .at ∷ tab .count ∷ tab .records ∷ flagOf b ∷ n ∷ k ∷ []) (sym (h .more)) count in
-    rw same (held-start (f .bitwidth) tab out (f .rows) k (h .holds) (h .clean))
-
--- the atoms end where the terms begin
-pub copied-end : (s : List ℕ) → IsBytes s → isSemilinear s ≡ true → (tab : Table) (out : List ℕ)
-    → Copied (readForm s) tab out → AtomsEnd (body s) (tab .at)
-unfolding decodeForm
-copied-end s bytes ok tab out h =
-    let rows : List Row = rowsOf 0 (body s) (afterAtoms (body s)) in
-    let atoms : List ℕ = atomsBytes (width s) rows in
-    let all : atoms ++ afterAtoms (body s) ≡ body s = written s bytes ok .atoms in
-    let at : tab .at ≡ length atoms = at-holds (width s) tab out rows (h .holds) (h .more) in
-    record {
-      inside = omega (arith, at, ap length all, length-append atoms (afterAtoms (body s)));
-      rest = ap (drop (tab .at)) (sym all) ∙ drop-at atoms (afterAtoms (body s)) (tab .at) (sym at);
-    }
 
 -- what the rows are flattened with, as the code reads it
 pub flatten-begin : (s : List ℕ) → IsBytes s → isSemilinear s ≡ true → {w k : ℕ} {b : List ℕ} → w ≡ width s → b ≡ body s
@@ -79,36 +52,6 @@ flatten-begin s bytes ok {w} {k} {b} ew eb {tab} {out} h =
     )
 
 -- ---- the end
-
--- words that stand side by side
-coeffs-in-one : (words : List ℕ) (n : ℕ) → n ≤ length words → coeffsIn 1 words n ≡ take n words
-unfolding coeffsIn
-coeffs-in-one words zero h = refl
-coeffs-in-one words (suc n) h =
-    ap₂ (λ (l : List ℕ) (i : ℕ). l ++ (getD words i 0 ∷ [])) (coeffs-in-one words n (omega arith)) (one-mul n)
-    ∙ sym (take-suc words n 0 (omega arith))
-
-shown-coeffs : (w : ℕ) (made out coeffs : List ℕ) (l : List Row) → Shown w made out coeffs l
-    → fitsTable l ≡ true → coeffsIn 1 coeffs (length l) ≡ coeffsOf l
-shown-coeffs w made out coeffs l h fit =
-    let n : length (coeffsOf l) ≡ length l = length-coeffs l in
-    let most : length l ≤ 256 = fits-length l fit in
-    let same : coeffs ≡ padded 256 (coeffsOf l) = h .terms fit in
-    let len : length coeffs ≡ 256 = ap length same ∙ length-padded 256 (coeffsOf l) (omega arith) in
-    coeffs-in-one coeffs (length l) (omega arith)
-    ∙ ap₂ (λ (k : ℕ) (d : List ℕ). take k d) (sym n) same
-    ∙ take-padded 256 (coeffsOf l)
-
-shown-ends : (w : ℕ) (made out coeffs : List ℕ) (l : List Row) → Shown w made out coeffs l
-    → Ends w (tableOf made) 1 coeffs out l
-shown-ends w made out coeffs l h =
-    let holds = h .held .holds in
-    record {
-      holds = λ _. holds;
-      clean = λ _. h .held .clean;
-      coeffs = λ more. shown-coeffs w made out coeffs l h (holds .kept more .fits);
-      past = holds .past;
-    }
 
 module _ {w k len : ℕ} {l : List Row} {g : Bool} {made out coeffs : List ℕ} {tab : Table}
     (h : RowsFlattened w l k len g made out coeffs) (et : tab ≡ tableOf made) where

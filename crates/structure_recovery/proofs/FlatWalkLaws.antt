@@ -24,7 +24,8 @@ use Rattle.group.proofs.ReadLaws.{length-rows}
 use Rattle.structure_recovery.specs.declared.flatten.Flattening.{Flattening}
 use Rattle.structure_recovery.specs.FlattenComplexAtoms.{Flat, flattenRow}
 use Rattle.structure_recovery.specs.FlattenComplexAtoms.{flattenRows, keptRows}
-use Rattle.structure_recovery.specs.Flattening.{Shown, flat, Works, bareRow, keptRow}
+use Rattle.group.specs.Shown.{Shown}
+use Rattle.structure_recovery.specs.Flattening.{flat, Works, bareRow, keptRow}
 use Rattle.structure_recovery.specs.Flattening.{rowOf, RowFlattened, flatRows, RowsFlattened}
 use Rattle.structure_recovery.proofs.ShownLaws.{fits-length}
 use Rattle.structure_recovery.proofs.KeptRowsLaws.{kept-more, length-kept, flatten-more, flatten-behind}

@@ -21,8 +21,10 @@ use Rattle.semilinear.proofs.TermsLaws.{length-coeffs, coeffs-append}
 use Rattle.group.specs.Group.{createRow, maskedTree, createMasked}
 use Rattle.group.specs.Made.{Room, Held, Grew, Basis}
 use Rattle.structure_recovery.specs.FlattenComplexAtoms.{flatRow}
-use Rattle.structure_recovery.specs.Flattening.{bareRow, Shown, Extended}
-use Rattle.structure_recovery.proofs.ShownLaws.{set-behind, fits-length, fits-less}
+use Rattle.group.specs.Shown.{Shown}
+use Rattle.structure_recovery.specs.Flattening.{bareRow, Extended}
+use Rattle.group.proofs.CoeffsLaws.{fits-length, fits-less}
+use Rattle.structure_recovery.proofs.ShownLaws.{set-behind}
 use Rattle.structure_recovery.proofs.ShownLaws.{held-other}
 
 -- the bytes of a variable, as they are written to an array

@@ -17,7 +17,8 @@ use Rattle.semilinear.specs.Terms.{coeffsOf}
 use Rattle.semilinear.proofs.TermsLaws.{length-coeffs, coeffs-append}
 use Rattle.semilinear.proofs.HoldsLaws.{bareRows, holds-bare, past-more}
 use Rattle.group.specs.Made.{tableOf, Room, Held}
-use Rattle.structure_recovery.specs.Flattening.{bareRow, Shown, Extended}
+use Rattle.group.specs.Shown.{Shown}
+use Rattle.structure_recovery.specs.Flattening.{bareRow, Extended}
 
 -- ---- coefficients
 
@@ -41,20 +42,6 @@ set-behind a y n i e h =
     let m : ℕ = n - length (a ++ (y ∷ [])) in
     let k : n - length a ≡ suc m = omega (arith, length-append a (y ∷ [])) in
     rw k (set-at a 0 (replicate m 0) y i (sym e) ∙ sym (append-assoc a (y ∷ []) (replicate m 0)))
-
--- ---- the limits
-
-pub fits-length : (l : List Row) → fitsTable l ≡ true → length l ≤ 256
-unfolding fitsTable
-fits-length l e = leb-true (length l) 256 (and-true (leb (length l) 256) (leb (treeRecords l) 3072) e .0)
-
--- rows that keep the limits keep them without the last ones
-pub fits-less : (l m : List Row) → fitsTable (l ++ m) ≡ true → fitsTable l ≡ true
-fits-less l m e = go (fitsTable l) refl
-  where
-    go : (b : Bool) → fitsTable l ≡ b → fitsTable l ≡ true
-    go true f = f
-    go false f = false-true (sym (past-more l m f) ∙ e)
 
 -- ---- a row with another coefficient
 

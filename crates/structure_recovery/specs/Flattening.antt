@@ -9,15 +9,14 @@ use lib.Bits.{bitAnd}
 use lib.Dec.{eqb}
 use Rattle.arith.specs.Width.{modAdd, modMul, modNeg}
 use Rattle.record.specs.Choice.{when}
-use Rattle.record.specs.Put.{padded}
 use Rattle.record.specs.Tree.{Tree}
 use Rattle.expr.specs.Utils.{hasShr}
 use Rattle.expr.specs.Vars.{nextVar, support}
-use Rattle.semilinear.specs.Form.{Row, fitsTable}
+use Rattle.semilinear.specs.Form.{Row}
 use Rattle.semilinear.specs.DecodeForm.{rowAt}
 use Rattle.semilinear.specs.Running.{RowPassed}
-use Rattle.semilinear.specs.Terms.{coeffsOf}
-use Rattle.group.specs.Made.{Room, Held}
+use Rattle.group.specs.Made.{Room}
+use Rattle.group.specs.Shown.{Shown}
 use Rattle.structure_recovery.specs.declared.flatten.Flattening.{Flattening}
 use Rattle.structure_recovery.specs.FlattenComplexAtoms.{isPlain, isComplex, atZero, atOnes, Flat, flatRow}
 use Rattle.structure_recovery.specs.FlattenComplexAtoms.{flattenRow, flattenRows, keptRows}
@@ -45,11 +44,6 @@ unfoldable pub flatConstant : ℕ → Tree → ℕ → ℕ → ℕ
 flatConstant w t c k = modAdd k (modMul c (atZero w t) w) w
 
 -- ---- the table with its coefficients
-
--- the words and bytes hold the rows l, and the coefficients are theirs where they keep the limits
-pub record Shown (w : ℕ) (made out coeffs : List ℕ) (l : List Row) : Type 0 where
-  pub held : Held w made out l
-  pub terms : fitsTable l ≡ true → coeffs ≡ padded 256 (coeffsOf l)
 
 -- a step: F on the rows, at most n more, and k on the constant
 pub record Extended (w n : ℕ) (F : List Row → List Row) (k : ℕ → ℕ) (made out coeffs made′ out′ coeffs′ : List ℕ)
