@@ -7,3 +7,5 @@ pub mod RefineLaws
 pub mod RefineFormLaws
 pub mod RefiningLaws
 pub mod AllRefinedLaws
+pub mod RowsRefinedLaws
+pub mod RefinedLaws

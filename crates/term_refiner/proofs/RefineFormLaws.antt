@@ -22,9 +22,11 @@ use Rattle.group.proofs.BasesLaws.{risingFrom, risen}
 use Rattle.group.proofs.GroupsLaws.{basisSum, basesSum, groups-share, bases-rising}
 use Rattle.group.proofs.GroupOfLaws.{Fresh, group-of}
 use Rattle.group.proofs.SettleLaws.{owed, owed-live, owed-consumed, settled}
+use Rattle.group.proofs.CoeffsLaws.{fits-length}
 use Rattle.group.proofs.ExtendsLaws.{Extends, extends-trans, grown-extends, settled-extends, ungrouped-extends}
 use Rattle.term_refiner.specs.RefineTerms.{refineGroup, refineAll, refineForm}
-use Rattle.term_refiner.proofs.KeptLaws.{Fits, AllFit, kept-start}
+use Rattle.term_refiner.specs.Refining.{Fair, settledRows, oneRefined, AllFair}
+use Rattle.term_refiner.proofs.KeptLaws.{Fits, AllFit, Kept, kept-start}
 use Rattle.term_refiner.proofs.RefineLaws.{refine-keeps}
 
 -- what the live entries owe is what they come to beside the basis
@@ -60,15 +62,23 @@ module _ (w : ℕ) (hw : w ≤ 64) (vars : List ℕ) (before : List Row) (most :
         atom-value = x .older (e .atom) (f .atom-lt) ∙ f .atom-value;
       }
 
+  -- the group of the basis b, refined
+  kept : (b : Tree) → isAtomTree b ≡ true → (rows : List Row) → Extends w vars before rows
+      → Kept w vars b (groupOf anyBasis w b 0 before emptyGroup) rows (oneRefined w before b rows)
+  kept b hb rows e =
+      let g : Group = groupOf anyBasis w b 0 before emptyGroup in
+      let o = group-of anyBasis w vars b (tree-atom b hb .expr) before most ok in
+      let a : AllFit w vars b g rows =
+      record { fit = λ k lk live. fresh-fits b rows e (at g k) (o .fresh k lk) } in
+      refine-keeps w hw vars b hb g rows (work g rows) (kept-start w vars b g rows (o .sized) a)
+
   step : (b : Tree) → isAtomTree b ≡ true → (rows : List Row) → Extends w vars before rows
       → let x : Work = refineGroup w b (work (groupOf anyBasis w b 0 before emptyGroup) rows) in
       Step b rows (settle w (x .group) (x .rows))
   step b hb rows e =
       let g : Group = groupOf anyBasis w b 0 before emptyGroup in
       let o = group-of anyBasis w vars b (tree-atom b hb .expr) before most ok in
-      let a : AllFit w vars b g rows =
-      record { fit = λ k lk live. fresh-fits b rows e (at g k) (o .fresh k lk) } in
-      let k = refine-keeps w hw vars b hb g rows (work g rows) (kept-start w vars b g rows (o .sized) a) in
+      let k = kept b hb rows e in
       let x : Work = refineGroup w b (work g rows) in
       let s = settled w vars hw (x .group) (x .rows) (λ i li live. k .all-fit .fit i li live .atom-lt) in
       record {
@@ -99,6 +109,27 @@ module _ (w : ℕ) (hw : w ≤ 64) (vars : List ℕ) (before : List Row) (most :
             (eqm-trans (eqm-add (s .sum) (eqm-refl (basesSum anyBasis w vars l before))) (eqm-of-eq (omega arith)));
         extends = t .extends;
       }
+
+  -- and each group was refined fairly: rows without a term are added, and live entries have atoms of the table
+  fair : (b : Tree) → isAtomTree b ≡ true → (rows : List Row) → Extends w vars before rows
+      → Fair rows (oneRefined w before b rows)
+  fair b hb rows e =
+      let k = kept b hb rows e in
+      record {
+        fits = k .grown .fits;
+        coeffs = λ f. k .grown .coeffs 256 (fits-length (oneRefined w before b rows .rows) f);
+        atoms = λ i li live. k .all-fit .fit i li live .atom-lt;
+      }
+
+  fair-steps : (bases : List Tree) (n : ℕ) → risingFrom n bases ≡ true → (rows : List Row) → Extends w vars before rows
+      → AllFair w before bases rows
+  unfolding AllFair settledRows
+  fair-steps [] n r rows e = tt
+  fair-steps (b ∷ l) n r rows e =
+      let p = risen n b l r in
+      let hb = atom-tree b (p .atom) in
+      let s = step b hb rows e in
+      (fair b hb rows e, fair-steps l (structuralHash b) (p .rest) _ (extends-trans w vars e (s .extends)))
 
 -- ---- the form
 
@@ -132,3 +163,12 @@ module _ (f : Form) (e : validForm f ≡ true) where
         h,
         made [] .extends .ok (v .rows-ok),
       )
+
+  -- refining is fair to the rows of a valid form
+  pub all-fair : AllFair (f .bitwidth) (f .rows) (basesOf anyBasis (f .bitwidth) (f .rows) [])
+      (ungrouped anyBasis (f .bitwidth) (f .rows))
+  all-fair =
+      let v = form-parts f e in
+      fair-steps (f .bitwidth) (v .width-le) [] (f .rows) (v .atoms-le) (v .rows-ok)
+      (basesOf anyBasis (f .bitwidth) (f .rows) []) 0 (bases-rising anyBasis (f .bitwidth) (f .rows) (v .rows-ok))
+      (ungrouped anyBasis (f .bitwidth) (f .rows)) (ungrouped-extends anyBasis (f .bitwidth) [] (f .rows))

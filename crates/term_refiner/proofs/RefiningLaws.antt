@@ -25,7 +25,7 @@ use Rattle.group.proofs.GatherLaws.{len-gathered}
 use Rattle.group.proofs.SettleWordsLaws.{length-settle}
 use Rattle.group.proofs.ShownLaws.{shown-settle}
 use Rattle.term_refiner.specs.RefineTerms.{refineGroup}
-use Rattle.term_refiner.specs.Refining.{Fair, settled, GroupRefined}
+use Rattle.term_refiner.specs.Refining.{Fair, settledRows, GroupRefined}
 
 -- ---- the length of a group, as the code has it
 
@@ -56,8 +56,8 @@ module _ {w n : ℕ} (t : Tree) {g r : Group} {made out made′ out′ coeffs co
     (few : n ≤ 262144) (s : Stepped w n (collapsed w t) g made out r made′ out′) (m : ℕ) (em : m ≡ g .len)
     (e : coeffs′ ≡ settleWords w (r .coeffs) (r .atoms) (r .marks) m coeffs) where
   shown-rows : (l : List Row) → Fair l (refineGroup w t (work g l)) → Shown w made out coeffs l
-      → Shown w made′ out′ coeffs′ (settled w (refineGroup w t (work g l)))
-  unfolding settled work
+      → Shown w made′ out′ coeffs′ (settledRows w (refineGroup w t (work g l)))
+  unfolding settledRows work
   shown-rows l fair shown =
       let x : Work = refineGroup w t (work g l) in
       let stands = s .stands (work g l) (record { same = refl; held = shown .held }) in

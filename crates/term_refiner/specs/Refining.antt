@@ -21,9 +21,9 @@ pub record Fair (l : List Row) (x : Work) : Type 0 where
   pub coeffs : fitsTable (x .rows) ≡ true → padded 256 (coeffsOf (x .rows)) ≡ padded 256 (coeffsOf l)
   pub atoms : (i : ℕ) → i < x .group .len → isLive (at (x .group) i) ≡ true → at (x .group) i .atom < length (x .rows)
 
--- a group, refined and settled
-unfoldable pub settled : ℕ → Work → List Row
-settled w x = settle w (x .group) (x .rows)
+-- the rows with a refined group settled
+unfoldable pub settledRows : ℕ → Work → List Row
+settledRows w x = settle w (x .group) (x .rows)
 
 -- the group g of the basis t refined: the table has at most n rows more
 pub record GroupRefined (w n : ℕ) (t : Tree) (g : Group) (made out coeffs made′ out′ coeffs′ : List ℕ) : Type 0 where
@@ -32,7 +32,7 @@ pub record GroupRefined (w n : ℕ) (t : Tree) (g : Group) (made out coeffs made
   pub long : length out′ ≡ length out
   pub wide : length coeffs′ ≡ length coeffs
   pub shown : (l : List Row) → Fair l (refineGroup w t (work g l)) → Shown w made out coeffs l
-      → Shown w made′ out′ coeffs′ (settled w (refineGroup w t (work g l)))
+      → Shown w made′ out′ coeffs′ (settledRows w (refineGroup w t (work g l)))
 
 -- the groups of these bases, read off the rows `before`, in turn
 abbrev pub oneRefined : ℕ → List Row → Tree → List Row → Work
@@ -41,7 +41,7 @@ oneRefined w before b l = refineGroup w b (work (groupOf anyBasis w b 0 before e
 unfoldable pub AllFair : ℕ → List Row → List Tree → List Row → Type 0
 AllFair w before [] l = Unit {0}
 AllFair w before (b ∷ bs) l =
-    Fair l (oneRefined w before b l) × AllFair w before bs (settled w (oneRefined w before b l))
+    Fair l (oneRefined w before b l) × AllFair w before bs (settledRows w (oneRefined w before b l))
 
 -- all groups refined
 pub record AllRefined (w : ℕ) (before : List Row) (bases : List Tree) (made out coeffs made′ out′ coeffs′ : List ℕ)

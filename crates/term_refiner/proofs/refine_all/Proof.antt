@@ -1,47 +1,84 @@
+-- `refine_all` meets its contract: after k turns k groups are refined.
+use mathlib.Core.Path.{_≡_, sym, _∙_}
+use mathlib.Core.List.{[]}
+use Prim.Native.Nat.{_-_, _≤_}
+use native.Mathlib.Omega.{arith}
+use Rattle.semilinear.specs.Items.{afterAtoms}
+use Rattle.semilinear.specs.DecodeForm.{rowsOf}
+use Rattle.group.specs.Group.{anyBasis, basesOf}
+use Rattle.term_refiner.proofs.AllRefinedLaws.{Going, going-start, going-next, going-done}
+use Rattle.term_refiner.proofs.AllRefinedLaws.{readable-at, count-few, count-room, next-at, end-at, group-at}
 use Rattle.term_refiner.proofs.refine_all.Statement.{statement}
 use Rattle.term_refiner.proofs.refine_all.Tie as tie
-use Rattle.term_refiner.proofs.refine_all.Reads as reads
-use Rattle.term_refiner.proofs.refine_all.Lts as lts
-use Rattle.term_refiner.proofs.refine_at.Reads as refine-at-reads
 
 abbrev Inv-loop : tie.InvT-loop
-Inv-loop count bases n views f w made₀ coeffs₀ out₀ k₀ made coeffs out k = ?
+Inv-loop count bases n views f w made₀ coeffs₀ out₀ k₀ made coeffs out k =
+    (k ≤ count)
+    × Going w (rowsOf 0 f (afterAtoms f)) (basesOf anyBasis w (rowsOf 0 f (afterAtoms f)) []) k made₀ out₀ coeffs₀
+    made out coeffs
 
 abbrev μ-loop : tie.MeasureT-loop
-μ-loop count bases n views f w made₀ coeffs₀ out₀ k₀ made coeffs out k = ?
+μ-loop count bases n views f w made₀ coeffs₀ out₀ k₀ made coeffs out k = count - k
 
 loop-holds : tie.Need-loop-holds Inv-loop μ-loop
-loop-holds c = ?
+loop-holds c = (omega arith, going-start _ _ _ _ _ _ (c .before .before .before .before .before .before .pre .0))
 
 mul-first : tie.Need-mul-first Inv-loop μ-loop
-mul-first c = ?
+mul-first c =
+    let pre = c .before .before .before .before .before .before .before .before .pre in
+    omega (arith, c .before .loop .inv .0, count-few _ _ _ _ _ _ _ (pre .4) (pre .5) (pre .6), pre .3)
 
 shared-slice-read-first : tie.Need-shared-slice-read-first Inv-loop μ-loop
-shared-slice-read-first c = ?
+shared-slice-read-first c =
+    let pre = c .before .before .before .before .before .before .before .before .before .pre in
+    omega (arith, c .before .loop-test .taken, count-room _ _ _ _ _ _ _ (pre .4) (pre .5) (pre .6))
 
 refine-at-requires : tie.Need-refine-at-requires Inv-loop μ-loop
-refine-at-requires c κs = ?
+refine-at-requires c κs =
+    let pre = c .before .before .before .before .before .before .before .before .before .before .before .before .pre in
+    let going = c .before .before .before .before .before .loop .inv .1 in
+    let less = c .before .before .before .before .loop-test .taken in
+    let few = count-few _ _ _ _ _ _ _ (pre .4) (pre .5) (pre .6) in
+    let next = next-at _ _ _ _ _ _ _ (pre .4) (pre .5) (pre .6) (c .before .before .before .before .before .loop .k) less in (
+      going .room,
+      readable-at _ _ _ _ _ _ _ (pre .4) (pre .5) (pre .6),
+      omega (arith, next .below, pre .4),
+      pre .3,
+      next .group,
+      omega (arith, going .rows-le, pre .1, less, few, pre .3),
+      pre .2,
+    )
 
 add-k : tie.Need-add-k Inv-loop μ-loop
-add-k c = ?
+add-k c = omega (arith, c .before .before .before .before .before .before .before .before .before .before .before .loop-test .taken)
 
 loop-less : tie.Need-loop-less Inv-loop μ-loop
-loop-less c = ?
+loop-less c = omega (arith, c .before .before .before .before .before .before .before .before .before .before .before .loop-test .taken)
 
 loop-again : tie.Need-loop-again Inv-loop μ-loop
-loop-again c = ?
+loop-again c =
+    let pre = c .before .before .before .before .before .before .before .before .before .before .before .before .before .before .before .before .before .before .before .pre in
+    let less = c .before .before .before .before .before .before .before .before .before .before .before .loop-test .taken in
+    let k = c .before .before .before .before .before .before .before .before .before .before .before .before .loop .k in (
+      omega (arith, less),
+      going-next _ _ _ k (c .before .before .before .before .before .before .before .before .before .before .before .before .loop .inv .1) (next-at _ _ _ _ _ _ _ (pre .4) (pre .5) (pre .6) k less .next)
+          (group-at _ _ _ _ _ _ _ (pre .4) (pre .5) (pre .6) k less) (c .before .before .before .before .before .before .refine-at .ensures),
+    )
 
 same-length : tie.Need-same-length Inv-loop μ-loop
-same-length c = ?
+same-length c = c .before .loop .inv .1 .room .words ∙ sym (c .before .before .before .before .before .before .before .before .pre .0 .words)
 
 same-length-2 : tie.Need-same-length-2 Inv-loop μ-loop
-same-length-2 c = ?
+same-length-2 c = c .before .loop .inv .1 .wide
 
 same-length-3 : tie.Need-same-length-3 Inv-loop μ-loop
-same-length-3 c = ?
+same-length-3 c = c .before .loop .inv .1 .long
 
 returns : tie.Need-returns Inv-loop μ-loop
-returns c = ?
+returns c =
+    let pre = c .before .before .before .before .before .before .before .before .pre in
+    going-done _ _ _ _ (c .before .loop .inv .1)
+    (end-at _ _ _ _ _ _ _ (pre .4) (pre .5) (pre .6) (c .before .loop .k) (c .loop-test .left))
 
 pub refine-all-spec : {M : Type 1} → statement M
 refine-all-spec =

@@ -1,9 +1,8 @@
+-- `refine_at` meets its contract: the words of the row name the basis.
+use Rattle.group.specs.Views.{viewAt, basisBytes}
 use borrow.Author.Needs.{needs}
 use Rattle.term_refiner.proofs.refine_at.Statement.{statement}
 use Rattle.term_refiner.proofs.refine_at.Tie as tie
-use Rattle.term_refiner.proofs.refine_at.Reads as reads
-use Rattle.term_refiner.proofs.refine_at.Lts as lts
-use Rattle.term_refiner.proofs.refine_group.Reads as refine-group-reads
 
 mul-v : tie.Need-mul-v
 mul-v c = search needs
@@ -36,16 +35,22 @@ shared-slice-read-end : tie.Need-shared-slice-read-end
 shared-slice-read-end c = search needs
 
 sub-refine-group : tie.Need-sub-refine-group
-sub-refine-group c = ?
+unfolding viewAt
+sub-refine-group c = c .before .before .before .before .before .before .before .before .pre .4 .start-le
 
 part-refine-group-start : tie.Need-part-refine-group-start
-part-refine-group-start c = ?
+unfolding viewAt
+part-refine-group-start c = c .before .before .before .before .before .before .before .before .pre .4 .start-le
 
 part-refine-group-end : tie.Need-part-refine-group-end
-part-refine-group-end c = ?
+unfolding viewAt
+part-refine-group-end c = c .before .before .before .before .before .before .before .before .pre .4 .end-le
 
 refine-group-requires : tie.Need-refine-group-requires
-refine-group-requires c κs = ?
+unfolding viewAt basisBytes
+refine-group-requires c κs =
+    let pre = c .before .before .before .before .before .before .before .before .before .before .before .before .pre in
+    (pre .0, pre .1, pre .3, pre .4 .basis, pre .5, pre .6)
 
 same-length : tie.Need-same-length
 same-length c = search needs
@@ -57,7 +62,8 @@ same-length-3 : tie.Need-same-length-3
 same-length-3 c = search needs
 
 returns : tie.Need-returns
-returns c = ?
+unfolding viewAt basisBytes
+returns c = c .before .before .before .before .before .before .refine-group .ensures
 
 pub refine-at-spec : {M : Type 1} → statement M
 refine-at-spec =

@@ -1,0 +1,70 @@
+-- `refine_rows` meets its contract: the views, the bases, and then the groups.
+use mathlib.Core.Path.{ap, sym, _∙_}
+use mathlib.Core.List.{[]}
+use native.Mathlib.Omega.{arith}
+use lib.ListN.{length}
+use Rattle.record.proofs.PutLaws.{length-padded}
+use Rattle.term_refiner.proofs.RowsRefinedLaws.{read-count, read-readable, read-any, rows-refined, first-same}
+use borrow.Author.Needs.{needs}
+use Rattle.term_refiner.proofs.refine_rows.Statement.{statement}
+use Rattle.term_refiner.proofs.refine_rows.Tie as tie
+
+read-views-requires : tie.Need-read-views-requires
+read-views-requires c κs =
+    let pre = c .before .before .before .before .before .before .before .before .pre in (
+      pre .0,
+      pre .1,
+      pre .2,
+      pre .3,
+      omega (arith, pre .5, ap length (pre .6) ∙ length-padded 256 [] (omega arith)),
+    )
+
+find-bases-requires : tie.Need-find-bases-requires
+find-bases-requires c κs =
+    let read = c .before .before .before .before .before .before .read-views .ensures in
+    (read-readable read, omega (arith, read-count read, c .before .before .before .before .before .before .before .before .before .before .before .before .before .before .before .pre .4))
+
+refine-all-requires : tie.Need-refine-all-requires
+refine-all-requires c κs =
+    let read = c .before .before .before .before .before .before .before .before .before .before .before .before .before .before .read-views .ensures in
+    let pre = c .before .before .before .before .before .before .before .before .before .before .before .before .before .before .before .before .before .before .before .before .before .before .before .pre in (
+      pre .7,
+      pre .8,
+      pre .0,
+      omega (arith, read-count read, pre .5),
+      read .number,
+      read-any read,
+      first-same (c .before .before .before .before .before .before .before .find-bases .ensures),
+    )
+
+same-length : tie.Need-same-length
+same-length c = search needs
+
+same-length-2 : tie.Need-same-length-2
+same-length-2 c = search needs
+
+same-length-3 : tie.Need-same-length-3
+same-length-3 c = search needs
+
+same-length-4 : tie.Need-same-length-4
+same-length-4 c = search needs
+
+same-length-5 : tie.Need-same-length-5
+same-length-5 c = search needs
+
+returns : tie.Need-returns
+returns c = rows-refined (c .before .before .before .before .before .before .before .before .before .before .before .before .before .before .before .before .before .before .before .before .before .read-views .ensures) (c .before .before .before .before .before .before .before .before .before .before .before .before .before .before .before .before .before .before .before .before .before .before .before .before .before .before .before .before .before .before .pre .6) (c .before .before .before .before .before .before .before .before .before .before .before .before .before .before .before .before .before .before .before .before .before .before .before .before .before .before .before .before .before .before .pre .5) (c .before .before .before .before .before .before .refine-all .ensures)
+
+pub refine-rows-spec : {M : Type 1} → statement M
+refine-rows-spec =
+    tie.close
+    (tie.spec
+    read-views-requires
+    find-bases-requires
+    refine-all-requires
+    same-length
+    same-length-2
+    same-length-3
+    same-length-4
+    same-length-5
+    returns)
