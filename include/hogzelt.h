@@ -2,9 +2,9 @@
  * Hogzelt: the functions of the static library libhogzelt.a.
  *
  * Every pointer must be valid for its length: expr for expr_len bytes, s for s_len bytes, vars for
- * vars_len words, out for out_len bytes, value, used and terms for one word. A pointer with length
- * 0 must not be null and must be aligned. What is written to (value, out, used, terms) must overlap
- * neither the inputs nor one another.
+ * vars_len words, out for out_len bytes (for out_len words of 64 bits in hogzelt_compute_partitions),
+ * value, used, terms, flattened and classes for one word. A pointer with length 0 must not be null
+ * and must be aligned. What is written to must overlap neither the inputs nor one another.
  */
 #ifndef HOGZELT_H
 #define HOGZELT_H
@@ -95,6 +95,48 @@ uint64_t hogzelt_compact_atom_table(const uint8_t *s, size_t s_len, uint8_t *out
  */
 uint64_t hogzelt_normalize_to_semilinear(const uint8_t *expr, size_t expr_len, uint8_t *out,
                                          size_t out_len, uint64_t *used, uint64_t *terms);
+
+/*
+ * A semilinear form with its terms refined: masks are cut to the bits that count, and terms of one
+ * basis are dropped, joined and collapsed where their sum stays the same. The value is that of the
+ * form given, under every assignment; atoms that lose their term stay. out_len must be 57,360.
+ * Returns 0 for accepted, else the lowest refusal that applies:
+ *    1  s_len is 0, not a multiple of 16 or above 57,360
+ *    2  out_len is not 57,360
+ *   10  s is not a form, as for hogzelt_semilinear_value
+ *    9  the result's atoms, those without a term counted, are more than 256 or their trees have more
+ *       than 3,072 records; where 10 applies too, 10 is given
+ * All of out is written. Where the form is accepted, its first *used bytes are the result, the rest
+ * is zero, and *terms is the count of the result's terms. Beside a refusal all out_len bytes are
+ * zero, and so are *used and *terms.
+ */
+uint64_t hogzelt_refine_terms(const uint8_t *s, size_t s_len, uint8_t *out, size_t out_len,
+                              uint64_t *used, uint64_t *terms);
+
+/*
+ * A semilinear form in which every term of an atom that has one variable, no shift and is neither
+ * this variable nor a mask of it is written as a constant, the bits that the variable passes and
+ * those that it inverts. The value is that of the form given, under every assignment. Refusals, out,
+ * *used and *terms are as for hogzelt_refine_terms. *flattened is 1 where there was such a term, 0
+ * where there was none, and 0 beside a refusal.
+ */
+uint64_t hogzelt_flatten_complex_atoms(const uint8_t *s, size_t s_len, uint8_t *out, size_t out_len,
+                                       uint64_t *used, uint64_t *terms, uint64_t *flattened);
+
+/*
+ * The places of a semilinear form, 0 to w - 1, in classes (document 01: hint columns): the places at
+ * which all atoms have the same table. out_len counts words and must be 16,448. Returns 0 for
+ * accepted, else the lowest refusal that applies: 1 and 10 as for hogzelt_semilinear_value, and
+ * between them 2 where out_len is not 16,448.
+ * For each class, by rising lowest place, out has its mask and then one word for each atom, used or
+ * not; the rest of out is zero and *classes is the count of classes, 0 without atoms. Bit i of an
+ * atom's word is the atom's bit at the places of the class when its j-th smallest variable has bit j
+ * of i there; the bits from 2^n up are 0, where n is the number of its variables. An atom of more
+ * than five variables or with a shift by another count than 0 has the word 0xDEAD000000000000 with
+ * its number in the low bits. Beside a refusal all of out and *classes are zero.
+ */
+uint64_t hogzelt_compute_partitions(const uint8_t *s, size_t s_len, uint64_t *out, size_t out_len,
+                                    uint64_t *classes);
 
 #ifdef __cplusplus
 }

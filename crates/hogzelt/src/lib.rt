@@ -5,9 +5,12 @@ ghost use mathlib.Core.List.{[], _∷_};
 ghost use lib.ListN.{length};
 ghost use Rattle.expr.specs.ExprValue.{IsExprValue};
 ghost use Rattle.semilinear.specs.Value.{IsSemilinearValue};
-ghost use Rattle.semilinear.specs.Outcome.{Gives};
+ghost use Rattle.semilinear.specs.Outcome.{flagNumber, Gives};
 ghost use Rattle.semilinear.specs.Compact.{compactAtomTable};
 ghost use Rattle.semilinear_normalizer.specs.Normalize.{normalizeToSemilinear};
+ghost use Rattle.term_refiner.specs.RefineTerms.{refineTerms};
+ghost use Rattle.structure_recovery.specs.FlattenComplexAtoms.{flattenComplexAtoms};
+ghost use Rattle.bit_partitioner.specs.Partition.{computePartitions};
 
 // The value of an expression under an assignment; returns the refusal, 0 where it is accepted.
 #[no_mangle]
@@ -90,5 +93,64 @@ pub extern "C" fn hogzelt_normalize_to_semilinear(
     let found = semilinear_normalizer::normalize_to_semilinear(expr, out);
     *used = found.used;
     *terms = found.terms;
+    found.refusal
+}
+
+// The form s with its terms refined; returns the refusal, 0 where it is accepted.
+#[no_mangle]
+pub extern "C" fn hogzelt_refine_terms(
+    s: &[u8],
+    out: &mut [u8],
+    used: &mut u64,
+    terms: &mut u64,
+) -> u64
+    ensures { λ r. ⌜ Gives (refineTerms (now (s .entry)) (length (now (out .entry))))
+        (length (now (out .entry))) r (now (used .exit) ∷ now (terms .exit) ∷ []) (now (out .exit)) ⌝ }
+{
+    let refined = term_refiner::refine_terms(s, out);
+    *used = refined.used;
+    *terms = refined.terms;
+    refined.refusal
+}
+
+// A flag as a number.
+fn flag_number(flag: bool) -> u64
+    ensures { λ r. ⌜ r ≡ flagNumber flag ⌝ }
+{
+    if flag {
+        return 1;
+    }
+    0
+}
+
+// The form s with its complex atoms flattened, and whether there was one; returns the refusal, 0
+// where it is accepted.
+#[no_mangle]
+pub extern "C" fn hogzelt_flatten_complex_atoms(
+    s: &[u8],
+    out: &mut [u8],
+    used: &mut u64,
+    terms: &mut u64,
+    flattened: &mut u64,
+) -> u64
+    ensures { λ r. ⌜ Gives (flattenComplexAtoms (now (s .entry)) (length (now (out .entry))))
+        (length (now (out .entry))) r (now (used .exit) ∷ now (terms .exit) ∷ now (flattened .exit) ∷ [])
+        (now (out .exit)) ⌝ }
+{
+    let flat = structure_recovery::flatten::flatten_complex_atoms(s, out);
+    *used = flat.used;
+    *terms = flat.terms;
+    *flattened = flag_number(flat.flag);
+    flat.refusal
+}
+
+// The classes of the places of s; returns the refusal, 0 where it is accepted.
+#[no_mangle]
+pub extern "C" fn hogzelt_compute_partitions(s: &[u8], out: &mut [u64], classes: &mut u64) -> u64
+    ensures { λ r. ⌜ Gives (computePartitions (now (s .entry)) (length (now (out .entry))))
+        (length (now (out .entry))) r (now (classes .exit) ∷ []) (now (out .exit)) ⌝ }
+{
+    let found = bit_partitioner::compute_partitions(s, out);
+    *classes = found.classes;
     found.refusal
 }

@@ -27,7 +27,7 @@ use Rattle.structure_recovery.specs.FlattenComplexAtoms.{flattenRows, ke
 use Rattle.group.specs.Shown.{Shown}
 use Rattle.structure_recovery.specs.Flattening.{flat, Works, bareRow, keptRow}
 use Rattle.structure_recovery.specs.Flattening.{rowOf, RowFlattened, flatRows, RowsFlattened}
-use Rattle.structure_recovery.proofs.ShownLaws.{fits-length}
+use Rattle.group.proofs.CoeffsLaws.{fits-length}
 use Rattle.structure_recovery.proofs.KeptRowsLaws.{kept-more, length-kept, flatten-more, flatten-behind}
 
 -- the rows that are left

@@ -1,4 +1,6 @@
 // The functions under test, each run on an entry's words and bytes.
+use crate::columns;
+
 pub struct Answer {
     pub refusal: u64,
     pub value: u64,
@@ -7,15 +9,15 @@ pub struct Answer {
 // The refusal of an entry whose words or lengths are not those of its type. No entry expects it.
 const MALFORMED: u64 = 256;
 
-// The refusal of an entry of type 7 or 8 with other result bytes than expected. No entry expects it.
-const OTHER_BYTES: u64 = 257;
+// The refusal of an entry with other results than expected. No entry expects it.
+pub const OTHER_BYTES: u64 = 257;
 
 // What stands in a result before a call, so that one which is not written shows.
-const UNWRITTEN: u64 = 0xBAD0_BAD0_BAD0_BAD0;
+pub const UNWRITTEN: u64 = 0xBAD0_BAD0_BAD0_BAD0;
 
 const UNWRITTEN_BYTE: u8 = 0xBA;
 
-fn malformed() -> Answer {
+pub fn malformed() -> Answer {
     Answer {
         refusal: MALFORMED,
         value: 0,
@@ -108,33 +110,54 @@ fn result_ok(refusal: u64, out: &[u8], wanted: &[u8]) -> bool {
     is_padded(out, wanted)
 }
 
-// The used length in the low half, the count of terms in the high half. Where one is too long for
-// its half, the answer is a number that no entry expects.
-fn packed(used: u64, terms: u64) -> u64 {
+// The used length in the low half, then the count of terms or classes, and the flag in the highest
+// bit. Where one is too long for its place, the answer is a number that no entry expects.
+pub fn packed(used: u64, count: u64, flag: u64) -> u64 {
     if 0xFFFF_FFFF < used {
         return UNWRITTEN;
     }
-    if 0xFFFF_FFFF < terms {
+    if 0x7FFF_FFFF < count {
         return UNWRITTEN;
     }
-    (terms << 32) | used
-}
-
-// What the function of type 7 or 8 gives for an input.
-fn write_form(kind: u8, input: &[u8], out: &mut [u8], used: &mut u64, terms: &mut u64) -> u64 {
-    if kind == 7 {
-        return hogzelt::hogzelt_compact_atom_table(input, out, used, terms);
+    if 1 < flag {
+        return UNWRITTEN;
     }
-    hogzelt::hogzelt_normalize_to_semilinear(input, out, used, terms)
+    (flag << 63) | (count << 32) | used
 }
 
-// Types 7 and 8, over the result slice out: the refusal and the numbers found.
+// What the function of type 7, 8 or 9 gives for an input.
+fn write_form(kind: u8, input: &[u8], out: &mut [u8], used: &mut u64, terms: &mut u64) -> u64 {
+    match kind {
+        7 => hogzelt::hogzelt_compact_atom_table(input, out, used, terms),
+        8 => hogzelt::hogzelt_normalize_to_semilinear(input, out, used, terms),
+        _ => hogzelt::hogzelt_refine_terms(input, out, used, terms),
+    }
+}
+
+// What the function of types 7 to 10 gives for an input; only type 10 has a flag.
+fn write_flagged(
+    kind: u8,
+    input: &[u8],
+    out: &mut [u8],
+    used: &mut u64,
+    terms: &mut u64,
+    flag: &mut u64,
+) -> u64 {
+    if kind == 10 {
+        return hogzelt::hogzelt_flatten_complex_atoms(input, out, used, terms, flag);
+    }
+    *flag = 0;
+    write_form(kind, input, out, used, terms)
+}
+
+// Types 7 to 10, over the result slice out: the refusal and the numbers found.
 fn written(kind: u8, input: &[u8], wanted: &[u8], out: &mut [u8]) -> Answer {
     fill(out);
     let mut used = UNWRITTEN;
     let mut terms = UNWRITTEN;
-    let refusal = write_form(kind, input, out, &mut used, &mut terms);
-    let value = packed(used, terms);
+    let mut flag = UNWRITTEN;
+    let refusal = write_flagged(kind, input, out, &mut used, &mut terms, &mut flag);
+    let value = packed(used, terms, flag);
     if !result_ok(refusal, out, wanted) {
         return Answer {
             refusal: OTHER_BYTES,
@@ -144,7 +167,7 @@ fn written(kind: u8, input: &[u8], wanted: &[u8], out: &mut [u8]) -> Answer {
     Answer { refusal, value }
 }
 
-// Types 7 and 8, which have one word, the length of the result slice: the last `used` bytes are the
+// Types 7 to 10, which have one word, the length of the result slice: the last `used` bytes are the
 // expected result, those before them the form or the expression.
 fn writing(kind: u8, bytes: &[u8], words: &[u64], used: usize, out: &mut [u8]) -> Answer {
     if words.len() != 1 {
@@ -161,13 +184,23 @@ fn writing(kind: u8, bytes: &[u8], words: &[u64], used: usize, out: &mut [u8]) -
     written(kind, &bytes[..n], &bytes[n..], &mut out[..length])
 }
 
-// What the function of a type gives. `value` is the expected value, `out` room for a result slice.
-pub fn answer_of(kind: u8, value: u64, bytes: &[u8], words: &[u64], out: &mut [u8]) -> Answer {
+// What the function of a type gives. `value` is the expected value; `out` and `classes` are room
+// for a result.
+pub fn answer_of(
+    kind: u8,
+    value: u64,
+    bytes: &[u8],
+    words: &[u64],
+    out: &mut [u8],
+    classes: &mut [u64],
+) -> Answer {
+    let used = (value % 0x1_0000_0000) as usize;
     match kind {
         1 => expr_value(bytes, words),
         2 => hash(bytes),
         6 => form_value(bytes, words),
-        7 | 8 => writing(kind, bytes, words, (value % 0x1_0000_0000) as usize, out),
+        7 | 8 | 9 | 10 => writing(kind, bytes, words, used, out),
+        11 => columns::partitioning(bytes, words, used, classes),
         _ => masks(kind, words),
     }
 }

@@ -58,7 +58,7 @@ fn read_words(bytes: &[u8], words: &mut [u64], count: usize)
 }
 
 // What the function under test gives for an entry whose words and bytes stand in bytes.
-fn run(head: Head, bytes: &[u8], out: &mut [u8]) -> Answer
+fn run(head: Head, bytes: &[u8], out: &mut [u8], classes: &mut [u64]) -> Answer
     requires { ⌜ (head .words ≤ 256) × (8 * head .words + head .size ≤ length (now bytes)) ⌝ }
 {
     let mut words = word_buffer();
@@ -73,20 +73,21 @@ fn run(head: Head, bytes: &[u8], out: &mut [u8]) -> Answer
         &bytes[start..stop],
         &words[..count],
         out,
+        classes,
     )
 }
 
 // One more in the count of a type. It does not wrap, since the number of entries is bounded.
-fn count(counts: &mut [u64; 9], kind: u8)
-    requires { ⌜ kind < 9 ⌝ }
+fn count(counts: &mut [u64; 12], kind: u8)
+    requires { ⌜ kind < 12 ⌝ }
 {
     let k = kind as usize;
     counts[k] = std::num::wrapping_add_u64(counts[k], 1);
 }
 
 // Counts a difference; the first five of a type are printed.
-fn differ(at: u64, head: Head, found: Answer, differences: &mut [u64; 9])
-    requires { ⌜ head .kind < 9 ⌝ }
+fn differ(at: u64, head: Head, found: Answer, differences: &mut [u64; 12])
+    requires { ⌜ head .kind < 12 ⌝ }
 {
     let k = head.kind as usize;
     if differences[k] < 5 {
@@ -96,8 +97,8 @@ fn differ(at: u64, head: Head, found: Answer, differences: &mut [u64; 9])
 }
 
 // Counts an entry, and compares what was found with what is expected.
-fn compare(at: u64, head: Head, found: Answer, entries: &mut [u64; 9], differences: &mut [u64; 9])
-    requires { ⌜ head .kind < 9 ⌝ }
+fn compare(at: u64, head: Head, found: Answer, entries: &mut [u64; 12], differences: &mut [u64; 12])
+    requires { ⌜ head .kind < 12 ⌝ }
 {
     count(entries, head.kind);
     let expected = head.expected;
@@ -114,18 +115,19 @@ fn compare(at: u64, head: Head, found: Answer, entries: &mut [u64; 9], differenc
 fn body(
     at: u64,
     head: Head,
-    bytes: &mut [u8; 116784],
+    bytes: &mut [u8; 191008],
     out: &mut [u8; 57376],
-    entries: &mut [u64; 9],
-    differences: &mut [u64; 9],
+    classes: &mut [u64; 16464],
+    entries: &mut [u64; 12],
+    differences: &mut [u64; 12],
 ) -> bool
-    requires { ⌜ head .kind < 9 ⌝ }
+    requires { ⌜ head .kind < 12 ⌝ }
 {
     if 256 < head.words {
         report::malformed(at, b"too many words");
         return false;
     }
-    if 114736 < head.size {
+    if 188960 < head.size {
         report::malformed(at, b"too many bytes");
         return false;
     }
@@ -135,7 +137,13 @@ fn body(
         report::malformed(at, b"the file ends in an entry");
         return false;
     }
-    compare(at, head, run(head, bytes, out), entries, differences);
+    compare(
+        at,
+        head,
+        run(head, bytes, out, classes),
+        entries,
+        differences,
+    );
     true
 }
 
@@ -154,10 +162,11 @@ fn end(at: u64, value: u64) {
 // Replays the entry with the number at; false after the end entry and on a malformed file.
 pub fn step(
     at: u64,
-    bytes: &mut [u8; 116784],
+    bytes: &mut [u8; 191008],
     out: &mut [u8; 57376],
-    entries: &mut [u64; 9],
-    differences: &mut [u64; 9],
+    classes: &mut [u64; 16464],
+    entries: &mut [u64; 12],
+    differences: &mut [u64; 12],
 ) -> bool {
     let mut front = [0u8; 16];
     if io::read_full(0, &mut front) != 16 {
@@ -170,9 +179,9 @@ pub fn step(
         end(at, expected.value);
         return false;
     }
-    if 8 < head.kind {
+    if 11 < head.kind {
         report::malformed(at, b"unknown type");
         return false;
     }
-    body(at, head, bytes, out, entries, differences)
+    body(at, head, bytes, out, classes, entries, differences)
 }

@@ -1,6 +1,7 @@
 // Replays the vector file on standard input (docs/VECTORS.md): runs the function that each entry
 // names, compares refusal and value with the expected ones, and prints a line for each type.
 mod answer;
+mod columns;
 mod entry;
 mod report;
 
@@ -9,14 +10,15 @@ const MOST_ENTRIES: u64 = 1_000_000;
 
 // Replays entries up to the end entry, or to the first thing that is no entry.
 fn replay(
-    bytes: &mut [u8; 116784],
+    bytes: &mut [u8; 191008],
     out: &mut [u8; 57376],
-    entries: &mut [u64; 9],
-    differences: &mut [u64; 9],
+    classes: &mut [u64; 16464],
+    entries: &mut [u64; 12],
+    differences: &mut [u64; 12],
 ) {
     let mut at = 0;
     while at < MOST_ENTRIES {
-        if !entry::step(at, bytes, out, entries, differences) {
+        if !entry::step(at, bytes, out, classes, entries, differences) {
             return;
         }
         at += 1;
@@ -25,20 +27,27 @@ fn replay(
 }
 
 // A line for each type.
-fn summary(entries: &[u64; 9], differences: &[u64; 9]) {
+fn summary(entries: &[u64; 12], differences: &[u64; 12]) {
     let mut kind = 1;
-    while kind < 9 {
+    while kind < 12 {
         report::summary(kind, entries[kind], differences[kind]);
         kind += 1;
     }
 }
 
-// Room for the longest payload and for the longest result slice is lent to every entry.
+// Room for the longest payload and for the longest result slices is lent to every entry.
 fn main() {
-    let mut bytes = [0u8; 116784];
+    let mut bytes = [0u8; 191008];
     let mut out = [0u8; 57376];
-    let mut entries = [0u64; 9];
-    let mut differences = [0u64; 9];
-    replay(&mut bytes, &mut out, &mut entries, &mut differences);
+    let mut classes = [0u64; 16464];
+    let mut entries = [0u64; 12];
+    let mut differences = [0u64; 12];
+    replay(
+        &mut bytes,
+        &mut out,
+        &mut classes,
+        &mut entries,
+        &mut differences,
+    );
     summary(&entries, &differences);
 }

@@ -48,7 +48,10 @@ fn name(kind: usize) {
         5 => text(b"can_change_coefficient_to"),
         6 => text(b"semilinear value"),
         7 => text(b"compact_atom_table"),
-        _ => text(b"normalize_to_semilinear"),
+        8 => text(b"normalize_to_semilinear"),
+        9 => text(b"refine_terms"),
+        10 => text(b"flatten_complex_atoms"),
+        _ => text(b"compute_partitions"),
     }
 }
 

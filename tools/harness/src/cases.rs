@@ -1,7 +1,8 @@
 //! All cases of the vector file: the hand-chosen expression files, random and damaged ones, hashes,
-//! calls of the mask functions, semilinear forms, and expressions to be normalised.
+//! calls of the mask functions, semilinear forms, expressions to be normalised, and forms for the
+//! passes and columns.
 
-use crate::entry::{self, Entry, CHANGE_COEFFICIENT, CHANGE_MASK, REDUCE_MASK};
+use crate::entry::{self, Entry, CHANGE_COEFFICIENT, CHANGE_MASK, FLATTEN, REDUCE_MASK, REFINE};
 use crate::form::{Form, RESULT_BYTES};
 use crate::prng::Prng;
 use crate::random::{self, Kinds};
@@ -9,7 +10,9 @@ use crate::record::{
     self, balanced, binary, literal, nested, smallest, unary, variable, ADD, MAX_RECORDS, NEG, SHR,
     XOR,
 };
-use crate::{edges, form_edges, form_limits, form_random, masks, normal_cases, published};
+use crate::{
+    edges, form_edges, form_limits, form_random, masks, normal_cases, pass_cases, published,
+};
 
 /// The seed of the vector file: the letters of "hogzelt".
 pub const SEED: u64 = 0x0068_6F67_7A65_6C74;
@@ -47,6 +50,14 @@ pub fn entries() -> Vec<Entry> {
     for family in &normal_cases::FAMILIES {
         for case in (family.make)(rng, family.stored) {
             all.push(entry::normalize(case.file, case.length));
+        }
+    }
+    for family in &pass_cases::FAMILIES {
+        for case in (family.make)(rng, family.stored) {
+            let bytes = case.bytes();
+            all.push(entry::pass(REFINE, case.file.clone(), bytes));
+            all.push(entry::pass(FLATTEN, case.file.clone(), bytes));
+            all.push(entry::columns(case.file.clone(), case.words()));
         }
     }
     all

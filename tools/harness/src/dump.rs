@@ -1,6 +1,9 @@
 //! A vector file as text, one block of lines for each entry.
 
-use crate::entry::{Entry, COMPACT, FORM_VALUE, HASH, NORMALIZE, REDUCE_MASK, TYPE_NAMES, VALUE};
+use crate::entry::{
+    Entry, COLUMNS, COMPACT, FLATTEN, FORM_VALUE, HASH, NORMALIZE, REDUCE_MASK, REFINE, TYPE_NAMES,
+    VALUE,
+};
 use crate::record::{split, RECORD_BYTES};
 use crate::{form_model, model, published, refusal};
 
@@ -23,7 +26,7 @@ fn entry_text(number: usize, entry: &Entry) -> String {
     let bytes = match entry.kind {
         VALUE | HASH => expression_text(&entry.bytes),
         FORM_VALUE => form_text("form", &entry.bytes),
-        COMPACT | NORMALIZE => writing_text(entry),
+        COMPACT..=COLUMNS => writing_text(entry),
         _ => String::new(),
     };
     format!(
@@ -37,13 +40,14 @@ fn entry_text(number: usize, entry: &Entry) -> String {
 fn writing_text(entry: &Entry) -> String {
     let used = entry.expected as u32 as usize;
     let (input, result) = entry.bytes.split_at(entry.bytes.len().saturating_sub(used));
-    let result = match used {
-        0 => String::new(),
+    let result = match (entry.kind, used) {
+        (_, 0) => String::new(),
+        (COLUMNS, _) => format!("    result: {used} bytes\n") + &lines(result),
         _ => form_text("result", result),
     };
     let input = match entry.kind {
-        COMPACT => form_text("form", input),
-        _ => expression_text(input),
+        NORMALIZE => expression_text(input),
+        _ => form_text("form", input),
     };
     input + &result
 }
@@ -106,6 +110,8 @@ fn outcomes(kind: u8) -> Vec<&'static str> {
         HASH => vec!["hash"],
         FORM_VALUE => refused(refusal::OF_FORM_VALUE),
         COMPACT => refused(refusal::OF_COMPACT),
+        REFINE | FLATTEN => refused(refusal::OF_PASSES),
+        COLUMNS => refused(refusal::OF_COLUMNS),
         NORMALIZE => refused(refusal::OF_NORMALIZE),
         REDUCE_MASK => vec!["mask 0", "another mask"],
         _ => vec!["false", "true"],
@@ -123,7 +129,7 @@ fn refused(refusals: &[u64]) -> Vec<&'static str> {
 
 fn outcome(entry: &Entry) -> &'static str {
     match (entry.kind, entry.expected) {
-        (VALUE | FORM_VALUE | COMPACT | NORMALIZE, _) => refusal::name(u64::from(entry.refusal)),
+        (VALUE | FORM_VALUE..=COLUMNS, _) => refusal::name(u64::from(entry.refusal)),
         (HASH, _) => "hash",
         (REDUCE_MASK, 0) => "mask 0",
         (REDUCE_MASK, _) => "another mask",

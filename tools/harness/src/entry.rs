@@ -2,15 +2,15 @@
 //! multiple of 16 bytes, all numbers little-endian; an end entry closes the file.
 
 use crate::form_model;
-use crate::pass::Pass;
+use crate::pass::{self, Pass};
 use crate::record::RECORD_BYTES;
 use crate::written::{self, Written};
-use crate::{form, model, normal_model, published, record};
+use crate::{columns, form, model, normal_model, published, record};
 
 pub const HEAD_BYTES: usize = 16;
 pub const MAX_WORDS: usize = 256;
-/// A form of one record more than there may be, and a whole result slice.
-pub const MAX_BYTES: usize = 2 * form::RESULT_BYTES + RECORD_BYTES;
+/// A form of one record more than there may be, and the longest result, that of the columns.
+pub const MAX_BYTES: usize = form::RESULT_BYTES + RECORD_BYTES + 8 * columns::RESULT_WORDS;
 
 pub const END: u8 = 0;
 pub const VALUE: u8 = 1;
@@ -21,9 +21,12 @@ pub const CHANGE_COEFFICIENT: u8 = 5;
 pub const FORM_VALUE: u8 = 6;
 pub const COMPACT: u8 = 7;
 pub const NORMALIZE: u8 = 8;
+pub const REFINE: u8 = 9;
+pub const FLATTEN: u8 = 10;
+pub const COLUMNS: u8 = 11;
 
 /// The names of the entry types, by number.
-pub const TYPE_NAMES: [&str; 9] = [
+pub const TYPE_NAMES: [&str; 12] = [
     "end",
     "expression value",
     "structural hash",
@@ -33,6 +36,9 @@ pub const TYPE_NAMES: [&str; 9] = [
     "semilinear value",
     "compact_atom_table",
     "normalize_to_semilinear",
+    "refine_terms",
+    "flatten_complex_atoms",
+    "compute_partitions",
 ];
 
 #[derive(Clone, Debug, PartialEq, Eq)]
@@ -41,7 +47,7 @@ pub struct Entry {
     pub refusal: u8,
     pub expected: u64,
     pub words: Vec<u64>,
-    /// the expression or the form; in types 7 and 8 the used part of the result stands behind it
+    /// the expression or the form; from type 7 on the used part of the result stands behind it
     pub bytes: Vec<u8>,
 }
 
@@ -119,13 +125,42 @@ pub fn normalize(file: Vec<u8>, length: usize) -> Entry {
     writing(NORMALIZE, file, length, &written)
 }
 
+/// An entry of refining or flattening a form into a result slice of `length` bytes.
+pub fn pass(kind: u8, bytes: Vec<u8>, length: usize) -> Entry {
+    let pass = match kind {
+        REFINE => Pass::Refine,
+        _ => Pass::Flatten,
+    };
+    let written = pass::answer(pass, &bytes, length);
+    writing(kind, bytes, length, &written)
+}
+
+/// An entry of the columns of a form in a result slice of `length` words.
+pub fn columns(mut bytes: Vec<u8>, length: usize) -> Entry {
+    let answer = columns::answer(&bytes, length);
+    let atoms = form_model::read(&bytes).map_or(0, |form| form.atoms.len());
+    let words = answer.classes as usize * (1 + atoms);
+    bytes.extend(
+        answer.out[..words]
+            .iter()
+            .flat_map(|word| word.to_le_bytes()),
+    );
+    Entry {
+        kind: COLUMNS,
+        refusal: answer.refusal as u8,
+        expected: answer.classes << 32 | 8 * words as u64,
+        words: vec![length as u64],
+        bytes,
+    }
+}
+
 /// An entry of a function that writes a form, with what it is to write.
 fn writing(kind: u8, mut bytes: Vec<u8>, length: usize, written: &Written) -> Entry {
     bytes.extend(&written.out[..written.used as usize]);
     Entry {
         kind,
         refusal: written.refusal as u8,
-        expected: written.terms << 32 | written.used,
+        expected: written.flag << 63 | written.terms << 32 | written.used,
         words: vec![length as u64],
         bytes,
     }

@@ -21,7 +21,6 @@ mod bench_table;
 mod bridge;
 mod cases;
 mod collide;
-#[cfg_attr(not(any(feature = "library", test)), allow(dead_code))]
 mod columns;
 #[cfg(feature = "library")]
 mod compare;
@@ -49,19 +48,14 @@ mod normal_small;
 #[cfg(feature = "library")]
 mod normal_stack;
 mod normal_table;
-#[cfg_attr(not(any(feature = "library", test)), allow(dead_code))]
 mod pass;
-#[cfg(any(feature = "library", test))]
 mod pass_atoms;
-#[cfg(any(feature = "library", test))]
 mod pass_cases;
 #[cfg(any(feature = "library", test))]
 mod pass_checks;
 #[cfg(feature = "library")]
 mod pass_compare;
-#[cfg(any(feature = "library", test))]
 mod pass_examples;
-#[cfg(any(feature = "library", test))]
 mod pass_groups;
 #[cfg(feature = "library")]
 mod pass_library;

@@ -36,54 +36,60 @@ impl Case {
 }
 
 /// A family of calls. `make` makes as many as it is asked for; a fixed list takes 0 for all of it.
+#[cfg_attr(not(feature = "library"), allow(dead_code))]
 pub struct Family {
-    #[cfg_attr(not(feature = "library"), allow(dead_code))]
     pub name: &'static str,
-    /// how many are compared
+    /// how many are compared with the library
     pub compared: usize,
+    /// how many are kept in the vector file
+    pub stored: usize,
     pub make: fn(&mut Prng, usize) -> Vec<Case>,
 }
 
 const fn family(
     name: &'static str,
     compared: usize,
+    stored: usize,
     make: fn(&mut Prng, usize) -> Vec<Case>,
 ) -> Family {
     Family {
         name,
         compared,
+        stored,
         make,
     }
 }
 
 /// All families.
 pub const FAMILIES: [Family; 14] = [
-    family("worked examples", 0, |_, _| pass_examples::cases()),
-    family("as normalising makes them", 20_000, normalised),
-    family("along lists of passes", 20_000, along_lists),
-    family("one group", 25_000, |rng, n| made(rng, n, pass_groups::one)),
-    family("masks apart", 8_000, |rng, n| {
+    family("worked examples", 0, 0, |_, _| pass_examples::cases()),
+    family("as normalising makes them", 20_000, 40, normalised),
+    family("along lists of passes", 20_000, 40, along_lists),
+    family("one group", 25_000, 50, |rng, n| {
+        made(rng, n, pass_groups::one)
+    }),
+    family("masks apart", 8_000, 30, |rng, n| {
         made(rng, n, pass_groups::apart)
     }),
-    family("several groups", 10_000, |rng, n| {
+    family("several groups", 10_000, 30, |rng, n| {
         made(rng, n, pass_groups::several)
     }),
-    family("one hash", 8_000, |rng, n| {
+    family("one hash", 8_000, 40, |rng, n| {
         made(rng, n, pass_groups::colliding)
     }),
-    family("bare atoms", 8_000, |rng, n| {
+    family("bare atoms", 8_000, 30, |rng, n| {
         made(rng, n, pass_groups::bare)
     }),
-    family("one to seven variables", 12_000, |rng, n| {
+    family("one to seven variables", 12_000, 40, |rng, n| {
         made(rng, n, pass_atoms::atoms)
     }),
-    family("edges of the table", 0, |_, _| pass_atoms::edges()),
-    family("near the limits", 1_500, |rng, n| {
+    family("edges of the table", 0, 0, |_, _| pass_atoms::edges()),
+    family("near the limits", 1_500, 0, |rng, n| {
         made(rng, n, pass_atoms::near_limits)
     }),
-    family("any form", 4_000, any),
-    family("damaged", 12_000, damaged),
-    family("lengths", 2_000, lengths),
+    family("any form", 4_000, 20, any),
+    family("damaged", 12_000, 80, damaged),
+    family("lengths", 2_000, 40, lengths),
 ];
 
 /// A call with a result slice of the right length.

@@ -44,6 +44,8 @@ pub const OF_NORMALIZE: &[u64] = &[
 ];
 pub const OF_FORM_VALUE: &[u64] = &[INPUT_LENGTH, NO_FORM];
 pub const OF_COMPACT: &[u64] = &[INPUT_LENGTH, RESULT_LENGTH, NO_FORM];
+pub const OF_PASSES: &[u64] = &[INPUT_LENGTH, RESULT_LENGTH, TABLE_FULL, NO_FORM];
+pub const OF_COLUMNS: &[u64] = OF_COMPACT;
 
 /// The name of a number that an answer has.
 pub fn name(refusal: u64) -> &'static str {

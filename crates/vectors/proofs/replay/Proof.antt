@@ -6,10 +6,10 @@ use Rattle.vectors.proofs.replay.Statement.{statement}
 use Rattle.vectors.proofs.replay.Tie as tie
 
 abbrev Inv-loop : tie.InvT-loop
-Inv-loop bytes₀ out₀ entries₀ differences₀ at₀ t6 bytes out entries differences at = at ≤ 1_000_000
+Inv-loop bytes₀ out₀ classes₀ entries₀ differences₀ at₀ t7 bytes out classes entries differences at = at ≤ 1_000_000
 
 abbrev μ-loop : tie.MeasureT-loop
-μ-loop bytes₀ out₀ entries₀ differences₀ at₀ t6 bytes out entries differences at = 1_000_000 - at
+μ-loop bytes₀ out₀ classes₀ entries₀ differences₀ at₀ t7 bytes out classes entries differences at = 1_000_000 - at
 
 loop-holds : tie.Need-loop-holds Inv-loop μ-loop
 loop-holds c = search needs

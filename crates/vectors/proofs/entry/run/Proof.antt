@@ -47,6 +47,9 @@ answer-of-requires c κs = search needs
 same-length : tie.Need-same-length
 same-length c = search needs
 
+same-length-2 : tie.Need-same-length-2
+same-length-2 c = search needs
+
 returns : tie.Need-returns
 returns c = search needs
 
@@ -68,4 +71,5 @@ run-spec =
     slice-aggregate-answer-of
     answer-of-requires
     same-length
+    same-length-2
     returns)
