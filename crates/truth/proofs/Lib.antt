@@ -6,3 +6,4 @@ pub mod RowsLaws
 pub mod FirstVarsLaws
 mod WordTableLaws
 pub mod KeyLaws
+mod HalvesLaws

@@ -4,7 +4,7 @@ pub mod key;
 
 ghost use mathlib.Core.Path.{_≡_};
 ghost use mathlib.Core.Bool.{true};
-ghost use Prim.Native.Nat.{ℕ, _<_, _≤_};
+ghost use Prim.Native.Nat.{ℕ, _/_, _%_, _<_, _≤_};
 ghost use lib.ListN.{length};
 ghost use Rattle.arith.specs.Bit.{bitAt};
 ghost use Rattle.record.specs.Span.{sized};
@@ -78,29 +78,40 @@ fn join_rows(k: u8, x: u64, y: u64) -> u64
     }
 }
 
-// The rows of the tree of t at a place of w, over the variables of a list. A shift reads a higher
-// place, and is 0 from w on. Corresponds to `eval_atom_at_bit`.
-pub fn rows_at(t: &[u8], vars: &[u64], place: u32, w: u32) -> u64
+// The rows of the tree of t, over the variables of a list, at the place and the width that are the
+// low and the high half of `at`: a recursion of 3,072 levels carries one number less. A shift reads a
+// higher place, and is 0 from the width on. Corresponds to `eval_atom_at_bit`.
+fn rows_in(t: &[u8], vars: &[u64], at: u64) -> u64
     requires { ⌜ sized (now t) ≡ true ⌝ }
-    ensures { λ r. ⌜ r ≡ tableF 64 w place (now (vars .entry)) (decode (now (t .entry))) ⌝ }
+    ensures { λ r. ⌜ r ≡ tableF 64 (at / 4294967296) (at % 4294967296) (now (vars .entry))
+        (decode (now (t .entry))) ⌝ }
 {
     let children = record::root_arity(t);
     if children == 0 {
-        return leaf_rows(t, vars, place);
+        return leaf_rows(t, vars, (at % 0x1_0000_0000) as u32);
     }
     let k = record::kind(t);
     if children == 1 {
         if k == 7 {
-            let x = rows_at(record::body(t), vars, place, w);
+            let x = rows_in(record::body(t), vars, at);
             return !x;
         }
-        let source = place as u64 + record::amount(t);
-        if w as u64 <= source {
+        let a = record::amount(t);
+        let source = at % 0x1_0000_0000 + a;
+        if at / 0x1_0000_0000 <= source {
             return 0;
         }
-        return rows_at(record::body(t), vars, source as u32, w);
+        return rows_in(record::body(t), vars, at + a);
     }
-    let x = rows_at(record::left(t), vars, place, w);
-    let y = rows_at(record::right(t), vars, place, w);
+    let x = rows_in(record::left(t), vars, at);
+    let y = rows_in(record::right(t), vars, at);
     join_rows(k, x, y)
+}
+
+// The rows of the tree of t at a place of w, over the variables of a list.
+pub fn rows_at(t: &[u8], vars: &[u64], place: u32, w: u32) -> u64
+    requires { ⌜ sized (now t) ≡ true ⌝ }
+    ensures { λ r. ⌜ r ≡ tableF 64 w place (now (vars .entry)) (decode (now (t .entry))) ⌝ }
+{
+    rows_in(t, vars, place as u64 + w as u64 * 0x1_0000_0000)
 }
