@@ -28,10 +28,14 @@ slice-aggregate-refine-table-2 c = search needs
 
 refine-table-requires : tie.Need-refine-table-requires
 refine-table-requires c κs =
-    let at-start = c .before .before .before .before .before .before .before .before .before .before .before .before in
+    let at-body = c .before .before .before in
+    let at-copy = at-body .before .before .before in
+    let at-width = at-copy .before .before .before in
+    let at-known = at-width .before .before in
+    let at-start = at-known .before in
     let p =
-    refine-begin (now (at-start .args .s)) (λ i. c .before .before .before .before .before .before .before .before .before .before .before .shared-slice-known .given i .fits) (at-start .pre .0)
-    (c .before .before .before .before .before .before .before .before .before .width .ensures) (c .before .before .before .body .ensures) (c .before .before .before .before .before .before .copy-atoms .ensures) in
+    refine-begin (now (at-start .args .s)) (λ i. at-known .shared-slice-known .given i .fits) (at-start .pre .0)
+    (at-width .width .ensures) (at-body .body .ensures) (at-copy .copy-atoms .ensures) in
     (p .0, p .1, p .2, p .3, p .4, padded-nil 256, p .5, p .6)
 
 slice-aggregate-load : tie.Need-slice-aggregate-load
@@ -45,7 +49,10 @@ slice-aggregate-finish c = search needs
 
 finish-requires : tie.Need-finish-requires
 finish-requires c κs =
-    let p = refine-room (c .before .before .before .before .before .before .before .before .refine-table .ensures) (c .before .before .load .ensures) (c .before .before .before .before .before .before .before .before .before .before .before .before .before .before .before .copy-atoms .ensures .long) in
+    let at-table = c .before .before .before .before .before .before .before .before in
+    let at-copy = at-table .before .before .before .before .before .before .before in
+    let p =
+    refine-room (at-table .refine-table .ensures) (c .before .before .load .ensures) (at-copy .copy-atoms .ensures .long) in
     (p .0, p .1, p .2, omega arith, omega arith)
 
 same-length : tie.Need-same-length
@@ -53,10 +60,16 @@ same-length c = search needs
 
 returns : tie.Need-returns
 returns c =
-    let at-start = c .before .before .before .before .before .before .before .before .before .before .before .before .before .before .before .before .before .before .before .before .before .before .before .before in
-    refine-end (now (at-start .args .s)) (λ i. c .before .before .before .before .before .before .before .before .before .before .before .before .before .before .before .before .before .before .before .before .before .before .before .shared-slice-known .given i .fits) (at-start .pre .0)
-    (c .before .before .before .before .before .before .before .before .before .before .before .before .before .before .before .before .before .before .before .before .before .width .ensures) (c .before .before .before .before .before .before .before .before .before .before .before .before .before .before .before .before .before .before .before .before .literal .ensures) (c .before .before .before .before .before .before .before .before .before .before .before .before .before .before .before .body .ensures) (c .before .before .before .before .before .before .before .before .before .before .before .before .before .before .before .before .before .before .copy-atoms .ensures)
-    (c .before .before .before .before .before .before .before .before .before .before .before .refine-table .ensures) (c .before .before .before .before .before .load .ensures) (c .before .before .finish .result) (c .before .before .finish .ensures)
+    let at-table = c .before .before .before .before .before .before .before .before .before .before .before in
+    let at-body = at-table .before .before .before .before in
+    let at-copy = at-body .before .before .before in
+    let at-literal = at-copy .before .before in
+    let at-width = at-literal .before in
+    let at-known = at-width .before .before in
+    let at-start = at-known .before in
+    refine-end (now (at-start .args .s)) (λ i. at-known .shared-slice-known .given i .fits) (at-start .pre .0)
+    (at-width .width .ensures) (at-literal .literal .ensures) (at-body .body .ensures) (at-copy .copy-atoms .ensures)
+    (at-table .refine-table .ensures) (c .before .before .before .before .before .load .ensures) (c .before .before .finish .result) (c .before .before .finish .ensures)
 
 pub refine-form-spec : {M : Type 1} → statement M
 refine-form-spec =

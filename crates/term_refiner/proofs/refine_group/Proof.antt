@@ -46,32 +46,58 @@ claims = (
   settle-reads.Learnt,
 )
 
--- where the ways meet after each stage: the stages so far, taken or not
+-- the group as it was gathered and the begin of the function, seen from where the ways meet after each stage
+abbrev gather1 : lts.Joined1 claims reads.Pre reads.Post → lts.After-gather claims reads.Pre reads.Post
+gather1 c = c .before .before .before .before .before .before
+
+abbrev gather2 : lts.Joined2 claims reads.Pre reads.Post → lts.After-gather claims reads.Pre reads.Post
+gather2 c = gather1 (c .before .before .before .before .before .before)
+
+abbrev gather3 : lts.Joined3 claims reads.Pre reads.Post → lts.After-gather claims reads.Pre reads.Post
+gather3 c = gather2 (c .before .before .before .before .before .before)
+
+abbrev begin1 : lts.Joined1 claims reads.Pre reads.Post → lts.Start claims reads.Pre reads.Post
+begin1 c = gather1 c .before .before .before .before .before .before .before
+
+abbrev begin2 : lts.Joined2 claims reads.Pre reads.Post → lts.Start claims reads.Pre reads.Post
+begin2 c = begin1 (c .before .before .before .before .before .before)
+
+abbrev begin3 : lts.Joined3 claims reads.Pre reads.Post → lts.Start claims reads.Pre reads.Post
+begin3 c = begin2 (c .before .before .before .before .before .before)
+
+-- the stages so far, taken or not
 joined1 : (c : lts.Joined1 claims reads.Pre reads.Post)
-    → Stepped (c .before .before .before .before .before .before .before .before .before .before .before .before .before .args .w) 256 (cutAndDrop (c .before .before .before .before .before .before .before .before .before .before .before .before .before .args .w) (decode (now (c .before .before .before .before .before .before .before .before .before .before .before .before .before .args .b)))) (c .before .before .before .before .before .before .gather .result)
-    (now (c .before .before .before .before .before .before .before .before .before .before .before .before .before .args .made)) (now (c .before .before .before .before .before .before .before .before .before .before .before .before .before .args .out)) (c .if1 .g) (c .if1 .made) (c .if1 .out)
+    → Stepped (begin1 c .args .w) 256 (cutAndDrop (begin1 c .args .w) (decode (now (begin1 c .args .b))))
+    (gather1 c .gather .result) (now (begin1 c .args .made)) (now (begin1 c .args .out)) (c .if1 .g) (c .if1 .made)
+    (c .if1 .out)
 joined1 c =
     ⊎-elim (λ k. stepped-met (k .8) (k .9) (k .10) (k .3 .ensures))
-    (λ k. stepped-met (k .1) (k .2) (k .3) (single-none _ (c .before .any-single .ensures (k .0 .left)) (c .before .before .before .before .before .before .before .before .before .before .before .before .before .pre .0)))
+    (λ k. stepped-met (k .1) (k .2) (k .3)
+    (single-none _ (c .before .any-single .ensures (k .0 .left)) (begin1 c .pre .0)))
     (c .if1 .came)
 
 joined2 : (c : lts.Joined2 claims reads.Pre reads.Post)
-    → Stepped (c .before .before .before .before .before .before .before .before .before .before .before .before .before .before .before .before .before .before .before .args .w) 196864 (merged (c .before .before .before .before .before .before .before .before .before .before .before .before .before .before .before .before .before .before .before .args .w) (decode (now (c .before .before .before .before .before .before .before .before .before .before .before .before .before .before .before .before .before .before .before .args .b)))) (c .before .before .before .before .before .before .before .before .before .before .before .before .gather .result)
-    (now (c .before .before .before .before .before .before .before .before .before .before .before .before .before .before .before .before .before .before .before .args .made)) (now (c .before .before .before .before .before .before .before .before .before .before .before .before .before .before .before .before .before .before .before .args .out)) (c .if2 .g) (c .if2 .made) (c .if2 .out)
+    → Stepped (begin2 c .args .w) 196864 (merged (begin2 c .args .w) (decode (now (begin2 c .args .b))))
+    (gather2 c .gather .result) (now (begin2 c .args .made)) (now (begin2 c .args .out)) (c .if2 .g) (c .if2 .made)
+    (c .if2 .out)
 joined2 c =
-    let one = joined1 (c .before .before .before .before .before .before) in
+    let before = c .before .before .before .before .before .before in
+    let one = joined1 before in
     stepped-then one
     (⊎-elim (λ k. stepped-met (k .8) (k .9) (k .10) (k .3 .ensures))
     (λ k. stepped-met (k .1) (k .2) (k .3)
-    (merge-none _ (no-merge-at (c .before .before .before .before .before .before .if1 .g) (sym (one .len)) (c .before .any-merge .ensures (k .0 .left))) (one .room)))
+    (merge-none _ (no-merge-at (before .if1 .g) (sym (one .len)) (c .before .any-merge .ensures (k .0 .left)))
+    (one .room)))
     (c .if2 .came))
 
 joined3 : (c : lts.Joined3 claims reads.Pre reads.Post)
-    → Stepped (c .before .before .before .before .before .before .before .before .before .before .before .before .before .before .before .before .before .before .before .before .before .before .before .before .before .args .w) 196866 (collapsed (c .before .before .before .before .before .before .before .before .before .before .before .before .before .before .before .before .before .before .before .before .before .before .before .before .before .args .w) (decode (now (c .before .before .before .before .before .before .before .before .before .before .before .before .before .before .before .before .before .before .before .before .before .before .before .before .before .args .b)))) (c .before .before .before .before .before .before .before .before .before .before .before .before .before .before .before .before .before .before .gather .result)
-    (now (c .before .before .before .before .before .before .before .before .before .before .before .before .before .before .before .before .before .before .before .before .before .before .before .before .before .args .made)) (now (c .before .before .before .before .before .before .before .before .before .before .before .before .before .before .before .before .before .before .before .before .before .before .before .before .before .args .out)) (c .if3 .g) (c .if3 .made) (c .if3 .out)
+    → Stepped (begin3 c .args .w) 196866 (collapsed (begin3 c .args .w) (decode (now (begin3 c .args .b))))
+    (gather3 c .gather .result) (now (begin3 c .args .made)) (now (begin3 c .args .out)) (c .if3 .g) (c .if3 .made)
+    (c .if3 .out)
 joined3 c =
-    let two = joined2 (c .before .before .before .before .before .before) in
-    let found = found-at (c .before .before .before .before .before .before .if2 .g) (sym (two .len)) (c .before .find-three .ensures) in
+    let before = c .before .before .before .before .before .before in
+    let two = joined2 before in
+    let found = found-at (before .if2 .g) (sym (two .len)) (c .before .find-three .ensures) in
     stepped-then two
     (⊎-elim
     (λ k. collapse-met _ found (omega (arith, k .0 .taken, two .len)) (k .3 .ensures) (k .8) (k .9) (k .10))
@@ -82,26 +108,34 @@ gather-requires : tie.Need-gather-requires
 gather-requires c κs = search needs
 
 any-single-requires : tie.Need-any-single-requires
-any-single-requires c κs = few-entries _ _ _ _ _ (c .before .before .before .before .gather .ensures) (c .before .before .before .before .before .before .before .before .before .before .before .pre .2)
+any-single-requires c κs =
+    let at-gather = c .before .before .before .before in
+    let at-start = at-gather .before .before .before .before .before .before .before in
+    few-entries _ _ _ _ _ (at-gather .gather .ensures) (at-start .pre .2)
 
 cut-and-drop-requires : tie.Need-cut-and-drop-requires
 cut-and-drop-requires c κs =
-    let pre = c .before .before .before .before .before .before .before .before .before .before .before .before .before .before .before .pre in (
+    let at-gather = c .before .before .before .before .before .before .before .before in
+    let pre = at-gather .before .before .before .before .before .before .before .pre in (
       pre .0,
       pre .3,
       omega (arith, pre .4),
       pre .5,
-      few-entries _ _ _ _ _ (c .before .before .before .before .before .before .before .before .gather .ensures) (pre .2),
+      few-entries _ _ _ _ _ (at-gather .gather .ensures) (pre .2),
     )
 
 any-merge-requires : tie.Need-any-merge-requires
-any-merge-requires c κs = (few-entries _ _ _ _ _ (c .before .before .before .before .before .before .before .before .before .before .gather .ensures) (c .before .before .before .before .before .before .before .before .before .before .before .before .before .before .before .before .before .pre .2), c .before .before .before .before .before .before .before .before .before .before .before .before .before .before .before .before .before .pre .5)
+any-merge-requires c κs =
+    let met = c .before .before .before .before in
+    let pre = begin1 met .pre in
+    (few-entries _ _ _ _ _ (gather1 met .gather .ensures) (pre .2), pre .5)
 
 merge-all-requires : tie.Need-merge-all-requires
 merge-all-requires c κs =
-    let pre = c .before .before .before .before .before .before .before .before .before .before .before .before .before .before .before .before .before .before .before .before .before .pre in
-    let one = joined1 (c .before .before .before .before .before .before .before .before) in
-    let few = few-entries _ _ _ _ _ (c .before .before .before .before .before .before .before .before .before .before .before .before .before .before .gather .ensures) (pre .2) in (
+    let met = c .before .before .before .before .before .before .before .before in
+    let pre = begin1 met .pre in
+    let one = joined1 met in
+    let few = few-entries _ _ _ _ _ (gather1 met .gather .ensures) (pre .2) in (
       one .room,
       pre .3,
       omega (arith, one .later .rows-le, pre .4),
@@ -110,15 +144,18 @@ merge-all-requires c κs =
     )
 
 find-three-requires : tie.Need-find-three-requires
-find-three-requires c κs = few-entries _ _ _ _ _ (c .before .before .before .before .before .before .before .before .before .before .before .before .before .before .before .before .gather .ensures) (c .before .before .before .before .before .before .before .before .before .before .before .before .before .before .before .before .before .before .before .before .before .before .before .pre .2)
+find-three-requires c κs =
+    let met = c .before .before .before .before in
+    few-entries _ _ _ _ _ (gather2 met .gather .ensures) (begin2 met .pre .2)
 
 collapse-at-requires : tie.Need-collapse-at-requires
 collapse-at-requires c κs =
-    let pre = c .before .before .before .before .before .before .before .before .before .before .before .before .before .before .before .before .before .before .before .before .before .before .before .before .before .before .before .pre in
-    let two = joined2 (c .before .before .before .before .before .before .before .before) in
-    let found = found-at (c .before .before .before .before .before .before .before .before .if2 .g) (sym (two .len)) (c .before .before .before .find-three .ensures) in
+    let met = c .before .before .before .before .before .before .before .before in
+    let pre = begin2 met .pre in
+    let two = joined2 met in
+    let found = found-at (met .if2 .g) (sym (two .len)) (c .before .before .before .find-three .ensures) in
     let three = three-collapsible found (omega (arith, c .before .before .if3 .taken, two .len)) in
-    let few = few-entries _ _ _ _ _ (c .before .before .before .before .before .before .before .before .before .before .before .before .before .before .before .before .before .before .before .before .gather .ensures) (pre .2) in (
+    let few = few-entries _ _ _ _ _ (gather2 met .gather .ensures) (pre .2) in (
       two .room,
       pre .3,
       omega (arith, two .later .rows-le, pre .4),
@@ -131,10 +168,14 @@ collapse-at-requires c κs =
     )
 
 settle-requires : tie.Need-settle-requires
-settle-requires c κs = few-entries _ _ _ _ _ (c .before .before .before .before .before .before .before .before .before .before .before .before .before .before .before .before .before .before .before .before .before .before .before .gather .ensures) (c .before .before .before .before .before .before .before .before .before .before .before .before .before .before .before .before .before .before .before .before .before .before .before .before .before .before .before .before .before .before .pre .2)
+settle-requires c κs =
+    let met = c .before .before .before .before .before in
+    few-entries _ _ _ _ _ (gather3 met .gather .ensures) (begin3 met .pre .2)
 
 same-length : tie.Need-same-length
-same-length c = joined3 (c .before .before .before .before .before .before .before .before) .room .words ∙ sym (c .before .before .before .before .before .before .before .before .before .before .before .before .before .before .before .before .before .before .before .before .before .before .before .before .before .before .before .before .before .before .before .before .before .pre .0 .words)
+same-length c =
+    let met = c .before .before .before .before .before .before .before .before in
+    joined3 met .room .words ∙ sym (begin3 met .pre .0 .words)
 
 same-length-2 : tie.Need-same-length-2
 same-length-2 c = search needs
@@ -144,7 +185,9 @@ same-length-3 c = joined3 (c .before .before .before .before .before .before .be
 
 returns : tie.Need-returns
 returns c =
-    group-refined _ (c .before .before .before .before .before .before .before .before .before .before .before .before .before .before .before .before .before .before .before .before .before .before .before .before .before .before .before .before .before .before .before .before .before .pre .5) (omega arith) (joined3 (c .before .before .before .before .before .before .before .before)) _ refl (c .before .before .settle .ensures) (c .before .before .before .before .before .before .before .before .before .before .before .before .before .before .before .before .before .before .before .before .before .before .before .before .before .before .gather .ensures)
+    let met = c .before .before .before .before .before .before .before .before in
+    group-refined _ (begin3 met .pre .5) (omega arith) (joined3 met) _ refl (c .before .before .settle .ensures)
+    (gather3 met .gather .ensures)
 
 pub refine-group-spec : {M : Type 1} → statement M
 refine-group-spec =

@@ -26,8 +26,9 @@ find-bases-requires c κs =
 
 refine-all-requires : tie.Need-refine-all-requires
 refine-all-requires c κs =
-    let read = c .before .before .before .before .before .before .before .before .before .before .before .before .before .before .read-views .ensures in
-    let pre = c .before .before .before .before .before .before .before .before .before .before .before .before .before .before .before .before .before .before .before .before .before .before .before .pre in (
+    let at-views = c .before .before .before .before .before .before .before .before .before .before .before .before .before .before in
+    let read = at-views .read-views .ensures in
+    let pre = at-views .before .before .before .before .before .before .before .before .before .pre in (
       pre .7,
       pre .8,
       pre .0,
@@ -53,7 +54,10 @@ same-length-5 : tie.Need-same-length-5
 same-length-5 c = search needs
 
 returns : tie.Need-returns
-returns c = rows-refined (c .before .before .before .before .before .before .before .before .before .before .before .before .before .before .before .before .before .before .before .before .before .read-views .ensures) (c .before .before .before .before .before .before .before .before .before .before .before .before .before .before .before .before .before .before .before .before .before .before .before .before .before .before .before .before .before .before .pre .6) (c .before .before .before .before .before .before .before .before .before .before .before .before .before .before .before .before .before .before .before .before .before .before .before .before .before .before .before .before .before .before .pre .5) (c .before .before .before .before .before .before .refine-all .ensures)
+returns c =
+    let at-views = c .before .before .before .before .before .before .before .before .before .before .before .before .before .before .before .before .before .before .before .before .before in
+    let pre = at-views .before .before .before .before .before .before .before .before .before .pre in
+    rows-refined (at-views .read-views .ensures) (pre .6) (pre .5) (c .before .before .before .before .before .before .refine-all .ensures)
 
 pub refine-rows-spec : {M : Type 1} → statement M
 refine-rows-spec =
