@@ -19,9 +19,8 @@ use Rattle.record.proofs.SizedLaws.{or-of-r}
 use Rattle.expr.specs.Vars.{noVar, firstVars, support}
 use Rattle.truth.specs.Truth.{hasShift, placeOf, tableF}
 use Rattle.truth.proofs.FirstVarsLaws.{place-first, table-first}
-use Rattle.bit_partitioner.specs.declared.facts.Facts.{Facts}
 use Rattle.bit_partitioner.specs.Partition.{columnVars, isOpaque, opaqueWord, profileWord}
-use Rattle.bit_partitioner.specs.Edges.{edgesOf, factsOf, atomEdges}
+use Rattle.bit_partitioner.specs.Edges.{edgesOf, atomEdges}
 use Rattle.bit_partitioner.specs.Index.{atomWords}
 use Rattle.bit_partitioner.proofs.ProfileLaws.{tabled, profile-word-tabled, profile-word-opaque}
 
@@ -35,53 +34,44 @@ module _ (at : ℕ) (t : Tree) where
   unfolding atomWords
   words-tabled e = simp e
 
-  -- ---- what the code makes; x is what the tree has
+  -- ---- what the code makes
 
-  module _ {x : Facts} (hx : x ≡ factsOf t) where
-    shift-of : hasShift t ≡ x .shift
-    unfolding factsOf
-    shift-of = ap (λ (y : Facts). y .shift) (sym hx)
+  pub words-shift : {x : Bool} → x ≡ hasShift t → x ≡ true → at ∷ 1 ∷ replicate 7 0 ≡ atomWords at t
+  unfolding isOpaque
+  words-shift hx e = words-opaque (or-of-r (ltb columnVars (length (support t))) (hasShift t) (sym hx ∙ e))
 
-    edges-of : x .edges ≡ edgesOf t
-    unfolding factsOf
-    edges-of = ap (λ (y : Facts). y .edges) hx
+  -- n: the place of the first of the six words vs that is no variable
+  module _ {vs : List ℕ} {n : ℕ} (hv : vs ≡ firstVars 6 0 t) (hn : n ≡ placeOf noVar vs) where
+    counted : n ≡ min 6 (length (support t))
+    counted = hn ∙ ap (placeOf noVar) hv ∙ place-first t 6
 
-    pub words-shift : x .shift ≡ true → at ∷ 1 ∷ replicate 7 0 ≡ atomWords at t
+    pub words-many : 5 < n → at ∷ 1 ∷ replicate 7 0 ≡ atomWords at t
     unfolding isOpaque
-    words-shift e = words-opaque (or-of-r (ltb columnVars (length (support t))) (hasShift t) (shift-of ∙ e))
+    words-many h = words-opaque (simp (lt-ltb columnVars (length (support t)) (omega (arith, counted))))
 
-    -- n: the place of the first of the six words vs that is no variable
-    module _ {vs : List ℕ} {n : ℕ} (hv : vs ≡ firstVars 6 0 t) (hn : n ≡ placeOf noVar vs) where
-      counted : n ≡ min 6 (length (support t))
-      counted = hn ∙ ap (placeOf noVar) hv ∙ place-first t 6
+    table-of : hasShift t ≡ false → n ≤ 5 → isOpaque t ≡ false
+    unfolding isOpaque
+    table-of e h = simp (le-ltb columnVars (length (support t)) (omega (arith, counted)), e)
 
-      pub words-many : 5 < n → at ∷ 1 ∷ replicate 7 0 ≡ atomWords at t
-      unfolding isOpaque
-      words-many h = words-opaque (simp (lt-ltb columnVars (length (support t)) (omega (arith, counted))))
+    ones-of : n ≤ 5 → bitmask (1 * 2 ^ n % 2 ^ 32) ≡ 2 ^ (2 ^ length (support t)) - 1
+    unfolding bitmask
+    ones-of h =
+        let few : 2 ^ n ≤ 2 ^ 5 = pow-mono h in
+        let e : min (1 * 2 ^ n % 2 ^ 32) 64 ≡ 2 ^ n = omega arith in
+        let k : n ≡ length (support t) = omega (arith, counted) in
+        ap (λ (m : ℕ). 2 ^ m - 1) e ∙ ap (λ (m : ℕ). 2 ^ (2 ^ m) - 1) k
 
-      table-of : x .shift ≡ false → n ≤ 5 → isOpaque t ≡ false
-      unfolding isOpaque
-      table-of e h = simp (le-ltb columnVars (length (support t)) (omega (arith, counted)), shift-of ∙ e)
-
-      ones-of : n ≤ 5 → bitmask (1 * 2 ^ n % 2 ^ 32) ≡ 2 ^ (2 ^ length (support t)) - 1
-      unfolding bitmask
-      ones-of h =
-          let few : 2 ^ n ≤ 2 ^ 5 = pow-mono h in
-          let e : min (1 * 2 ^ n % 2 ^ 32) 64 ≡ 2 ^ n = omega arith in
-          let k : n ≡ length (support t) = omega (arith, counted) in
-          ap (λ (m : ℕ). 2 ^ m - 1) e ∙ ap (λ (m : ℕ). 2 ^ (2 ^ m) - 1) k
-
-      pub words-few : x .shift ≡ false → n ≤ 5 → {m : ℕ} → m ≡ bitmask (1 * 2 ^ n % 2 ^ 32)
-          → at ∷ bitOr (x .edges) 1 ∷ m ∷ getD vs 0 0 ∷ getD vs 1 0 ∷ getD vs 2 0 ∷ getD vs 3 0 ∷ getD vs 4 0
-          ∷ getD vs 5 0 ∷ []
-          ≡ atomWords at t
-      unfolding firstVars
-      words-few e h {m} hm =
-          ap₂ (λ (y : ℕ) (l : List ℕ). at ∷ bitOr y 1 ∷ l) edges-of
-          (ap₂
-          (λ (y : ℕ) (l : List ℕ). y ∷ getD l 0 0 ∷ getD l 1 0 ∷ getD l 2 0 ∷ getD l 3 0 ∷ getD l 4 0 ∷ getD l 5 0 ∷ [])
-          (hm ∙ ones-of h) hv)
-          ∙ words-tabled (table-of e h)
+    pub words-few : {x : Bool} → x ≡ hasShift t → x ≡ false → n ≤ 5 → {y : ℕ} → y ≡ edgesOf t
+        → {m : ℕ} → m ≡ bitmask (1 * 2 ^ n % 2 ^ 32)
+        → at ∷ bitOr y 1 ∷ m ∷ getD vs 0 0 ∷ getD vs 1 0 ∷ getD vs 2 0 ∷ getD vs 3 0 ∷ getD vs 4 0 ∷ getD vs 5 0 ∷ []
+        ≡ atomWords at t
+    unfolding firstVars
+    words-few hx e h hy hm =
+        ap₂ (λ (y : ℕ) (l : List ℕ). at ∷ bitOr y 1 ∷ l) hy
+        (ap₂
+        (λ (y : ℕ) (l : List ℕ). y ∷ getD l 0 0 ∷ getD l 1 0 ∷ getD l 2 0 ∷ getD l 3 0 ∷ getD l 4 0 ∷ getD l 5 0 ∷ [])
+        (hm ∙ ones-of h) hv)
+        ∙ words-tabled (table-of (sym hx ∙ e) h)
 
   -- ---- what stands in them
 

@@ -1,14 +1,10 @@
 -- The places at which an atom's profile word may differ from that of the place before: bit p of a word is set where a
 -- literal has unlike bits at p and p - 1. Bit 0 is always set.
 use Prim.Native.Nat.{ℕ, _*_, _%_, _^_}
-use mathlib.Core.Bool.{not, _&&_, _||_}
-use lib.Dec.{eqb}
 use lib.Bits.{bitOr, bitXor}
 use Rattle.record.specs.Choice.{when}
 use Rattle.record.specs.Tree.{Tree}
 use Rattle.record.specs.Tree.Tree.{Constant, Variable, Unary, Binary}
-use Rattle.truth.specs.Truth.{hasShift}
-use Rattle.bit_partitioner.specs.declared.facts.Facts.{Facts}
 use Rattle.bit_partitioner.specs.Partition.{isOpaque}
 
 -- the edges of a tree's literals
@@ -17,18 +13,6 @@ edgesOf (Constant v) = bitXor v (v * 2 ^ 1 % 2 ^ 64)
 edgesOf (Variable i) = 0
 edgesOf (Unary k a t) = edgesOf t
 edgesOf (Binary k l r) = bitOr (edgesOf l) (edgesOf r)
-
--- what the columns ask of a tree
-unfoldable pub factsOf : Tree → Facts
-factsOf t = record { shift = hasShift t; edges = edgesOf t }
-
--- what a root with one child, of kind k and this amount, adds to what the child has
-unfoldable pub nodeFacts : ℕ → ℕ → Facts → Facts
-nodeFacts k a x = record { shift = (eqb k 9 && not (eqb a 0)) || x .shift; edges = x .edges }
-
--- what two children have together
-unfoldable pub joinFacts : Facts → Facts → Facts
-joinFacts x y = record { shift = x .shift || y .shift; edges = bitOr (x .edges) (y .edges) }
 
 -- the edges of an atom, with place 0; an opaque atom has the same word at every place
 unfoldable pub atomEdges : Tree → ℕ

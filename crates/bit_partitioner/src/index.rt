@@ -30,8 +30,7 @@ fn atom_words(t: &[u8], at: u64) -> [u64; 9]
     ensures { λ r. ⌜ r ≡ atomWords at (decode (now (t .entry))) ⌝ }
 {
     let opaque = [at, 1, 0, 0, 0, 0, 0, 0, 0];
-    let found = facts::facts_of(t);
-    if found.shift {
+    if facts::has_shift(t) {
         return opaque;
     }
     let mut vars = [0u64; COLUMN_VARS + 1];
@@ -40,7 +39,7 @@ fn atom_words(t: &[u8], at: u64) -> [u64; 9]
     if COLUMN_VARS < n {
         return opaque;
     }
-    let edges = found.edges | 1;
+    let edges = facts::edges_of(t) | 1;
     let rows = arith::bitmask(1 << n);
     [
         at,

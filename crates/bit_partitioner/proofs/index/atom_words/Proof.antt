@@ -4,11 +4,11 @@ use borrow.Author.Needs.{needs}
 use Rattle.bit_partitioner.proofs.index.atom_words.Statement.{statement}
 use Rattle.bit_partitioner.proofs.index.atom_words.Tie as tie
 
-facts-of-requires : tie.Need-facts-of-requires
-facts-of-requires c κs = search needs
+has-shift-requires : tie.Need-has-shift-requires
+has-shift-requires c κs = search needs
 
 returns : tie.Need-returns
-returns c = words-shift _ _ (c .before .facts-of .ensures) (c .if1 .taken)
+returns c = words-shift _ _ (c .before .has-shift .ensures) (c .if1 .taken)
 
 slice-aggregate-collect-vars : tie.Need-slice-aggregate-collect-vars
 slice-aggregate-collect-vars c = search needs
@@ -25,9 +25,10 @@ place-of-requires c κs = search needs
 returns-2 : tie.Need-returns-2
 returns-2 c =
     let at-collect-vars = c .before .before .before .before in
-    let at-facts-of = at-collect-vars .before .before .before in
-    words-many _ _ (at-facts-of .facts-of .ensures) (at-collect-vars .collect-vars .ensures)
-    (c .before .place-of .ensures) (c .if2 .taken)
+    words-many _ _ (at-collect-vars .collect-vars .ensures) (c .before .place-of .ensures) (c .if2 .taken)
+
+edges-of-requires : tie.Need-edges-of-requires
+edges-of-requires c κs = search needs
 
 cast-bitmask : tie.Need-cast-bitmask
 cast-bitmask c = search needs
@@ -38,8 +39,8 @@ shl-bitmask c = search needs
 bitmask-requires : tie.Need-bitmask-requires
 bitmask-requires c κs = search needs
 
-array-read-t19 : tie.Need-array-read-t19
-array-read-t19 c = search needs
+array-read-t15 : tie.Need-array-read-t15
+array-read-t15 c = search needs
 
 array-read-t22 : tie.Need-array-read-t22
 array-read-t22 c = search needs
@@ -58,29 +59,31 @@ array-read-t34 c = search needs
 
 returns-3 : tie.Need-returns-3
 returns-3 c =
-    let at-if2 = c .before .before in
+    let at-edges-of = c .before in
+    let at-if2 = at-edges-of .before in
     let at-place-of = at-if2 .before in
     let at-collect-vars = at-place-of .before .before .before in
     let at-if1 = at-collect-vars .before .before in
-    let at-facts-of = at-if1 .before in
-    words-few _ _ (at-facts-of .facts-of .ensures) (at-collect-vars .collect-vars .ensures)
-    (at-place-of .place-of .ensures) (at-if1 .if1 .left) (at-if2 .if2 .left) (c .bitmask .ensures)
+    words-few _ _ (at-collect-vars .collect-vars .ensures) (at-place-of .place-of .ensures)
+    (at-if1 .before .has-shift .ensures) (at-if1 .if1 .left) (at-if2 .if2 .left) (at-edges-of .edges-of .ensures)
+    (c .bitmask .ensures)
 
 pub atom-words-spec : {M : Type 1} → statement M
 atom-words-spec =
     tie.close
     (tie.spec
-    facts-of-requires
+    has-shift-requires
     returns
     slice-aggregate-collect-vars
     collect-vars-requires
     slice-aggregate-place-of
     place-of-requires
     returns-2
+    edges-of-requires
     cast-bitmask
     shl-bitmask
     bitmask-requires
-    array-read-t19
+    array-read-t15
     array-read-t22
     array-read-t25
     array-read-t28
