@@ -8,4 +8,5 @@ pub mod ExprValueLaws
 pub mod AcceptLaws
 pub mod VarsLaws
 pub mod SupportLaws
+pub mod BitwiseLaws
 mod ExampleLaws

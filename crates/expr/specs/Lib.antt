@@ -4,4 +4,5 @@ pub mod Value
 pub mod Hash
 pub mod Utils
 pub mod Vars
+pub mod Bitwise
 pub mod ExprValue

@@ -8,7 +8,7 @@ ghost use Rattle.record.specs.Decode.{leaf, decode};
 ghost use Rattle.expr.specs.Hash.{mixHash, tagHash, varHash, structuralHash};
 
 // A hash with a child's hash x joined to it.
-fn mix_hash(h: u64, x: u64) -> u64
+pub fn mix_hash(h: u64, x: u64) -> u64
     ensures { λ r. ⌜ r ≡ mixHash h x ⌝ }
 {
     let seeded = std::num::wrapping_add_u64(x, 0x9E37_79B9_7F4A_7C15);
@@ -17,7 +17,7 @@ fn mix_hash(h: u64, x: u64) -> u64
 }
 
 // A kind's tag with its literal, shift count or cast width.
-fn tag_hash(k: u8, v: u64) -> u64
+pub fn tag_hash(k: u8, v: u64) -> u64
     ensures { λ r. ⌜ r ≡ tagHash k v ⌝ }
 {
     let tag = k as u64;
@@ -33,7 +33,7 @@ fn var_hash(i: u64) -> u64
 }
 
 // The hash of a root without children.
-fn leaf_hash(t: &[u8]) -> u64
+pub fn leaf_hash(t: &[u8]) -> u64
     requires { ⌜ 16 ≤ length (now t) ⌝ }
     ensures { λ r. ⌜ r ≡ structuralHash (leaf (now (t .entry))) ⌝ }
 {

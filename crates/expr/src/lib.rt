@@ -1,4 +1,5 @@
 // Expressions in 16-byte records: their refusals, value, structural hash, tests and variables.
+pub mod bitwise;
 pub mod hash;
 pub mod refusal;
 pub mod utils;

@@ -96,7 +96,7 @@ fn width_ok(w: u8, v: u8) -> bool
 }
 
 // The lowest refusal that applies to the root, in a file of width w.
-fn root_refusal(t: &[u8], w: u8) -> u8
+pub fn root_refusal(t: &[u8], w: u8) -> u8
     requires { ⌜ 16 ≤ length (now t) ⌝ }
     ensures { λ r. ⌜ r ≡ rootRefusal w (now (t .entry)) ⌝ }
 {

@@ -17,7 +17,7 @@ pub struct Traits {
     pub refused: bool,
 }
 
-fn either(a: bool, b: bool) -> bool
+pub fn either(a: bool, b: bool) -> bool
     ensures { λ r. ⌜ r ≡ a || b ⌝ }
 {
     if a {
@@ -26,7 +26,7 @@ fn either(a: bool, b: bool) -> bool
     b
 }
 
-fn is_arith(k: u8) -> bool
+pub fn is_arith(k: u8) -> bool
     ensures { λ r. ⌜ r ≡ isArith k ⌝ }
 {
     match k {
