@@ -65,12 +65,20 @@ root-passed w t e = simp (eq-eqb (rootRefusal w t) 0 e)
 
 -- ---- a tree
 
--- what is not all right is refused
+-- what the walk says, of a tree that is all right and of one that is not
+pub checked-ok : (w : ℕ) (t : List ℕ) → checked w t .ok ≡ bitwiseOk w t
+unfolding checked refused
+checked-ok w t = go (bitwiseOk w t) refl
+  where
+    go : (b : Bool) → bitwiseOk w t ≡ b → checked w t .ok ≡ bitwiseOk w t
+    go true e = simp e
+    go false e = simp e
+
 shut : (w : ℕ) (t : List ℕ) → bitwiseOk w t ≡ false → checked w t ≡ refused
 unfolding checked
 shut w t e = simp e
 
-passes : (w : ℕ) (t : List ℕ) → bitwiseOk w t ≡ true
+pub passes : (w : ℕ) (t : List ℕ) → bitwiseOk w t ≡ true
     → checked w t ≡ passing (hasVarDep (decode t)) (structuralHash (decode t))
 unfolding checked
 passes w t e = simp e

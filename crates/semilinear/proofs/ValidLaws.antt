@@ -1,5 +1,5 @@
 -- Laws of specs/Valid.antt: what each test says, both ways, and the equations of the recursion over terms.
-use mathlib.Core.Path.{_≡_, refl, sym, _∙_}
+use mathlib.Core.Path.{_≡_, refl, sym, ap, _∙_}
 use Prim.Native.Nat.{ℕ, zero, suc, _+_, _^_, _≤_, _<_}
 use native.Mathlib.Omega.{arith}
 use native.Mathlib.Nat.{le-refl}
@@ -15,22 +15,60 @@ use Rattle.record.proofs.SizedLaws.{false-true, and-true}
 use Rattle.expr.specs.Refusal.{treeRefusal}
 use Rattle.expr.specs.Utils.{hasVarDep, hasArith}
 use Rattle.expr.specs.Hash.{structuralHash}
-use Rattle.expr.proofs.RefusalLaws.{sized-accepted}
+use Rattle.expr.specs.declared.bitwise.Checked.{Checked}
+use Rattle.expr.specs.Bitwise.{bitwiseOk, passing, checked}
+use Rattle.expr.proofs.BitwiseLaws.{checked-ok, passes}
 use Rattle.semilinear.specs.Items.{provenance, frontNumber, frontWidth, frontSpare, frontWord, treeSpan}
 use Rattle.semilinear.specs.Items.{atomCount, atomRecords, afterAtoms, isTerm}
-use Rattle.semilinear.specs.Valid.{atomTreeOk, atomOk, atomsOk, termOk, termsOkF, termsOk, sumOk, frontOk}
+use Rattle.semilinear.specs.Valid.{atomTreeOk, treeOk, atomOk, atomsOk, termOk, termsOkF, termsOk, sumOk, frontOk}
 use Rattle.semilinear.specs.Valid.{isSemilinear}
 use Rattle.semilinear.specs.DecodeForm.{hasTerm}
 use Rattle.semilinear.proofs.ItemsLaws.{term-big}
 
 -- ---- the atom at the front
 
--- the size fields of an atom's tree are right
-pub atom-tree-sized : (w : ℕ) (t : List ℕ) → atomTreeOk w t ≡ true → sized t ≡ true
-unfolding atomTreeOk
-atom-tree-sized w t e =
-    let b : Bool = hasVarDep (decode t) && not (hasArith (decode t)) in
-    sized-accepted w t (eqb-true _ _ (and-true (eqb (treeRefusal w t) 0) b e .0))
+no-and : (a c v b : Bool) → a && not c ≡ false → (a && (v && not c)) && b ≡ false
+no-and false c v b e = refl
+no-and true true true b e = refl
+no-and true true false b e = refl
+no-and true false v b e = false-true (sym e)
+
+bare-and : (a c v b : Bool) → v ≡ false → (a && (v && c)) && b ≡ false
+bare-and false c v b e = refl
+bare-and true c v b e = rw e
+
+all-and : (a c v b : Bool) → a && not c ≡ true → v ≡ true → b ≡ (a && (v && not c)) && b
+all-and false c v b e f = false-true e
+all-and true true v b e f = false-true e
+all-and true false v b e f = rw f
+
+-- one walk of its tree says whether it is all right
+module _ (w : ℕ) (t : List ℕ) (h : ℕ) {x : Checked} (e : x ≡ checked w t) where
+  ok-is : (b : Bool) → x .ok ≡ b → bitwiseOk w t ≡ b
+  ok-is b p = sym (checked-ok w t) ∙ sym (ap (λ (r : Checked). r .ok) e) ∙ p
+
+  found : x .ok ≡ true → x ≡ passing (hasVarDep (decode t)) (structuralHash (decode t))
+  found p = e ∙ passes w t (ok-is true p)
+
+  pub tree-shut : x .ok ≡ false → false ≡ treeOk w t h
+  unfolding treeOk atomTreeOk bitwiseOk
+  tree-shut p =
+      sym
+      (no-and (eqb (treeRefusal w t) 0) (hasArith (decode t)) (hasVarDep (decode t))
+      (eqb h (structuralHash (decode t))) (ok-is false p))
+
+  pub tree-bare : x .ok ≡ true → x .variable ≡ false → false ≡ treeOk w t h
+  unfolding treeOk atomTreeOk
+  tree-bare p q =
+      let v : hasVarDep (decode t) ≡ false = sym (ap (λ (r : Checked). r .variable) (found p)) ∙ q in
+      sym (bare-and (eqb (treeRefusal w t) 0) (not (hasArith (decode t))) (hasVarDep (decode t)) (eqb h (structuralHash (decode t))) v)
+
+  pub tree-open : x .ok ≡ true → x .variable ≡ true → eqb h (x .hash) ≡ treeOk w t h
+  unfolding treeOk atomTreeOk bitwiseOk
+  tree-open p q =
+      let v : hasVarDep (decode t) ≡ true = sym (ap (λ (r : Checked). r .variable) (found p)) ∙ q in
+      ap (eqb h) (ap (λ (r : Checked). r .hash) (found p))
+      ∙ all-and (eqb (treeRefusal w t) 0) (hasArith (decode t)) (hasVarDep (decode t)) (eqb h (structuralHash (decode t))) (ok-is true p) v
 
 pub record AtomParts (w : ℕ) (r : List ℕ) : Type 0 where
   pub known : provenance r ≤ 4
@@ -42,7 +80,7 @@ pub record AtomParts (w : ℕ) (r : List ℕ) : Type 0 where
 
 module _ (w : ℕ) (r : List ℕ) where
   pub atom-parts : atomOk w r ≡ true → AtomParts w r
-  unfolding atomOk atomTreeOk
+  unfolding atomOk treeOk atomTreeOk
   atom-parts e =
       let b1 : Bool = eqb (frontWidth r) w in
       let b2 : Bool = eqb (frontSpare r) 0 in
@@ -64,7 +102,7 @@ module _ (w : ℕ) (r : List ℕ) where
       }
 
   pub atom-of-parts : AtomParts w r → atomOk w r ≡ true
-  unfolding atomOk atomTreeOk
+  unfolding atomOk treeOk atomTreeOk
   atom-of-parts a =
       simp (
         le-leb _ _ (a .known),

@@ -18,13 +18,16 @@ use Rattle.semilinear.specs.Items.{foldAtoms, atomCount, atomRecords, af
 unfoldable pub atomTreeOk : ℕ → List ℕ → Bool
 atomTreeOk w t = eqb (treeRefusal w t) 0 && (hasVarDep (decode t) && not (hasArith (decode t)))
 
+-- and it has this hash
+unfoldable pub treeOk : ℕ → List ℕ → ℕ → Bool
+treeOk w t h = atomTreeOk w t && eqb h (structuralHash (decode t))
+
 -- the atom at the front is as it must be, the hash too
 unfoldable pub atomOk : ℕ → List ℕ → Bool
 atomOk w r =
     leb (provenance r) 4
     && (eqb (frontWidth r) w
-    && (eqb (frontSpare r) 0
-    && (atomTreeOk w (treeSpan r) && eqb (frontWord r) (structuralHash (decode (treeSpan r))))))
+    && (eqb (frontSpare r) 0 && treeOk w (treeSpan r) (frontWord r)))
 
 abbrev pub atomsOk : ℕ → List ℕ → Bool
 atomsOk w = foldAtoms (λ r. true) (λ r ok. atomOk w r && ok)

@@ -1,11 +1,11 @@
-// The validator of a semilinear form: refusals 1 and 10. Each atom's tree is walked three times.
+// The validator of a semilinear form: refusals 1 and 10. Each atom's tree is walked once.
 use crate::items;
 ghost use mathlib.Core.Path.{_≡_};
 ghost use mathlib.Core.Bool.{true};
 ghost use Prim.Native.Nat.{ℕ, _^_};
 ghost use lib.Dec.{ltb};
 ghost use Rattle.semilinear.specs.Items.{isAtom, isTerm};
-ghost use Rattle.semilinear.specs.Valid.{atomTreeOk, atomOk, atomsOk, termOk, termsOk, sumOk, frontOk};
+ghost use Rattle.semilinear.specs.Valid.{treeOk, atomOk, atomsOk, termOk, termsOk, sumOk, frontOk};
 ghost use Rattle.semilinear.specs.Scan.{AtomsEnd, IsAtomTable};
 ghost use Rattle.semilinear.specs.Valid.{isSemilinear, lengthRefused, semilinearRefusal};
 
@@ -24,18 +24,18 @@ fn fits_width(x: u64, w: u8) -> bool
     x <= arith::bitmask(width)
 }
 
-// Whether an atom of width w may have the tree t.
-fn atom_tree_ok(t: &[u8], w: u8) -> bool
-    ensures { λ b. ⌜ b ≡ atomTreeOk w (now (t .entry)) ⌝ }
+// Whether an atom of width w may have the tree t, with this hash: all found in one walk.
+fn tree_ok(t: &[u8], w: u8, hash: u64) -> bool
+    ensures { λ b. ⌜ b ≡ treeOk w (now (t .entry)) hash ⌝ }
 {
-    if expr::refusal::tree_refusal(t, w) != 0 {
+    let found = expr::bitwise::check_bitwise(t, w);
+    if !found.ok {
         return false;
     }
-    let found = expr::utils::traits_of(t);
     if !found.variable {
         return false;
     }
-    !found.arith
+    hash == found.hash
 }
 
 // Whether the atom at the front is as it must be at width w.
@@ -53,10 +53,7 @@ fn atom_ok(r: &[u8], w: u8) -> bool
         return false;
     }
     let t = items::tree_span(r);
-    if !atom_tree_ok(t, w) {
-        return false;
-    }
-    items::front_word(r) == expr::hash::structural_hash(t)
+    tree_ok(t, w, items::front_word(r))
 }
 
 // Whether all atoms at the front are as they must be at width w.

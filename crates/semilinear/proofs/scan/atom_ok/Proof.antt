@@ -1,9 +1,7 @@
 -- `atom_ok` meets its contract: a case for each test, in the order of the definition.
 use Rattle.semilinear.specs.Valid.{atomOk}
 use Rattle.semilinear.proofs.ItemsLaws.{atom-room}
-use Rattle.semilinear.proofs.ValidLaws.{atom-tree-sized}
-use borrow.Author.Tests.{eq-eqb, ne-eqb, le-leb, lt-leb, not-true, not-false}
-use mathlib.Core.Path.{sym, _∙_}
+use borrow.Author.Tests.{eq-eqb, ne-eqb, le-leb, lt-leb}
 use borrow.Author.Needs.{needs}
 use Rattle.semilinear.proofs.scan.atom_ok.Statement.{statement}
 use Rattle.semilinear.proofs.scan.atom_ok.Tie as tie
@@ -52,39 +50,19 @@ tree-span-requires c κs =
     let at-start = c .before .before .before .before .before .before .before in
     at-start .pre
 
-atom-tree-ok-requires : tie.Need-atom-tree-ok-requires
-atom-tree-ok-requires c κs = search needs
+front-word-requires : tie.Need-front-word-requires
+front-word-requires c κs =
+    let at-start = c .before .before .before .before .before .before .before .before in
+    atom-room _ (at-start .pre) .big
+
+tree-ok-requires : tie.Need-tree-ok-requires
+tree-ok-requires c κs = search needs
 
 returns-4 : tie.Need-returns-4
 unfolding atomOk
 returns-4 c =
-    let at-if3 = c .before .before .before in
-    let at-front-width = at-if3 .before .before .before in
-    simp (
-      ← at-front-width .before .before .provenance .ensures,
-      le-leb _ _ (at-front-width .before .if1 .left),
-      ← at-front-width .front-width .ensures,
-      eq-eqb _ _ (at-if3 .before .before .if2 .left),
-      ← at-if3 .before .front-spare .ensures,
-      eq-eqb _ _ (at-if3 .if3 .left),
-      ← c .before .before .tree-span .ensures,
-      sym (c .before .atom-tree-ok .ensures) ∙ not-true _ (c .if4 .taken),
-    )
-
-front-word-requires : tie.Need-front-word-requires
-front-word-requires c κs =
-    let at-start = c .before .before .before .before .before .before .before .before .before .before in
-    atom-room _ (at-start .pre) .big
-
-structural-hash-requires : tie.Need-structural-hash-requires
-structural-hash-requires c κs =
-    atom-tree-sized _ _ (sym (c .before .before .atom-tree-ok .ensures) ∙ not-false _ (c .before .if4 .left))
-
-returns-5 : tie.Need-returns-5
-unfolding atomOk
-returns-5 c =
-    let at-atom-tree-ok = c .before .before .before in
-    let at-front-spare = at-atom-tree-ok .before .before .before in
+    let at-tree-span = c .before .before in
+    let at-front-spare = at-tree-span .before .before in
     let at-if1 = at-front-spare .before .before .before in
     simp (
       ← at-if1 .before .provenance .ensures,
@@ -92,12 +70,11 @@ returns-5 c =
       ← at-front-spare .before .before .front-width .ensures,
       eq-eqb _ _ (at-front-spare .before .if2 .left),
       ← at-front-spare .front-spare .ensures,
-      eq-eqb _ _ (at-atom-tree-ok .before .before .if3 .left),
-      ← at-atom-tree-ok .before .tree-span .ensures,
-      sym (at-atom-tree-ok .atom-tree-ok .ensures) ∙ not-false _ (c .before .before .if4 .left),
+      eq-eqb _ _ (at-tree-span .before .if3 .left),
+      ← at-tree-span .tree-span .ensures,
       ← c .before .front-word .ensures,
-      ← c .structural-hash .ensures,
     )
+    (c .tree-ok .ensures)
 
 pub atom-ok-spec : {M : Type 1} → statement M
 atom-ok-spec =
@@ -110,8 +87,6 @@ atom-ok-spec =
     front-spare-requires
     returns-3
     tree-span-requires
-    atom-tree-ok-requires
-    returns-4
     front-word-requires
-    structural-hash-requires
-    returns-5)
+    tree-ok-requires
+    returns-4)
