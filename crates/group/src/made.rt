@@ -7,10 +7,12 @@ ghost use Rattle.record.specs.Tree.{encode};
 ghost use Rattle.record.specs.Tree.Tree.{Constant, Binary};
 ghost use Rattle.record.specs.Put.{put};
 ghost use Rattle.record.specs.Decode.{decode};
+ghost use Rattle.semilinear.specs.Form.{andFamily};
 ghost use Rattle.semilinear.specs.Table.{Placed, storeOf, atomSpan, createAtom};
 ghost use Rattle.group.specs.Group.{createMasked};
 ghost use Rattle.group.specs.Made.{tableOf, flagOf, wordsOf, Room, Grew, Basis};
 use semilinear::table::Table;
+use semilinear::table::{self};
 
 // The table that the words say.
 pub fn load(made: &[u64]) -> Table
@@ -55,10 +57,18 @@ fn put_masked(out: &mut [u8], at: usize, b: &[u8], m: u64, size: u64, hash: u64,
     requires { ⌜ (at + 48 + length (now b) ≤ length (now out)) × Basis w hash (now b)
         × (size < 65536) × (size * 16 ≡ length (now b) + 32) ⌝ }
     ensures { λ _. ⌜ now (out .exit) ≡ put (now (out .entry)) at
-        (atomSpan w 0 (encode w (Binary 4 (decode (now (b .entry))) (Constant m)))) ⌝ }
+        (atomSpan w andFamily (encode w (Binary 4 (decode (now (b .entry))) (Constant m)))) ⌝ }
 {
     let end = at + 16 + b.len();
-    record::write::put_record(out, at, 33, 0, size, w, expr::hash::masked_hash(hash, m));
+    record::write::put_record(
+        out,
+        at,
+        33,
+        table::AND_FAMILY,
+        size,
+        w,
+        expr::hash::masked_hash(hash, m),
+    );
     record::write::put_bytes(out, at + 16, b);
     record::write::put_record(out, end, 0, 0, 1, w, m);
     record::write::put_record(out, end + 16, 4, 0, size, w, 0);
@@ -67,7 +77,7 @@ fn put_masked(out: &mut [u8], at: usize, b: &[u8], m: u64, size: u64, hash: u64,
 // Appends the And of the tree b and the literal m.
 fn create_joined(tab: Table, out: &mut [u8], b: &[u8], m: u64, hash: u64, w: u8) -> Table
     requires { ⌜ Placed tab (length (now out)) × Basis w hash (now b) ⌝ }
-    ensures { λ r. ⌜ storeOf r (now (out .exit)) ≡ createAtom w 0
+    ensures { λ r. ⌜ storeOf r (now (out .exit)) ≡ createAtom w andFamily
         (encode w (Binary 4 (decode (now (b .entry))) (Constant m)))
         (storeOf tab (now (out .entry))) ⌝ }
 {
@@ -103,7 +113,7 @@ pub fn create_masked(made: &mut [u64], out: &mut [u8], b: &[u8], hash: u64, mask
 {
     let tab = load(made);
     if mask == arith::bitmask(w as u32) {
-        let more = tab.create_atom(out, b, hash, 0, w);
+        let more = tab.create_atom(out, b, hash, table::AND_FAMILY, w);
         store(made, more);
         return;
     }

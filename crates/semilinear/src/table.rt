@@ -11,6 +11,17 @@ ghost use Rattle.expr.specs.Hash.{structuralHash};
 ghost use Rattle.semilinear.specs.Form.{termBytes, sumBytes};
 ghost use Rattle.semilinear.specs.Table.{Placed, storeOf, emptyTable, atomSpan, createAtom};
 
+// The operator families of an atom, its provenance.
+pub const AND_FAMILY: u8 = 0;
+
+pub const OR_FAMILY: u8 = 1;
+
+pub const XOR_FAMILY: u8 = 2;
+
+pub const NOT_FAMILY: u8 = 3;
+
+pub const MIXED_FAMILY: u8 = 4;
+
 // Puts an atom, its head and a copy of its tree t, into out from index `at` on. The tree's hash is
 // given: who has looked for the tree has it.
 pub fn put_atom(out: &mut [u8], at: usize, t: &[u8], hash: u64, prov: u8, w: u8)

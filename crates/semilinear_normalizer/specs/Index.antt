@@ -17,7 +17,7 @@ use Rattle.expr.specs.Vars.{sameVars}
 use Rattle.expr.specs.Hash.{structuralHash}
 use Rattle.truth.specs.Key.{notPure, keyOf}
 use Rattle.semilinear.specs.declared.table.Table.{Table}
-use Rattle.semilinear.specs.Form.{Row, fitsTable}
+use Rattle.semilinear.specs.Form.{andFamily, orFamily, xorFamily, mixedFamily, Row, fitsTable}
 use Rattle.semilinear.specs.Table.{Holds, Clean}
 use Rattle.record.specs.Loop.{firstIn}
 use Rattle.semilinear_normalizer.specs.Collect.{Emitted}
@@ -90,8 +90,9 @@ pub record Built (w : ℕ) (t : Tree) (before after : List ℕ) (r : ℕ) : Type
 -- the family of a root of kind k over two children of these families
 unfoldable pub joinProvenance : ℕ → ℕ → ℕ → ℕ
 joinProvenance k x y =
-    when (eqb k 4) (λ _. familyOf 0 x y)
-    (λ _. when (eqb k 5) (λ _. familyOf 1 x y) (λ _. when (eqb k 6) (λ _. familyOf 2 x y) (λ _. 4)))
+    when (eqb k 4) (λ _. familyOf andFamily x y)
+    (λ _. when (eqb k 5) (λ _. familyOf orFamily x y)
+    (λ _. when (eqb k 6) (λ _. familyOf xorFamily x y) (λ _. mixedFamily)))
 
 -- ---- the searches
 

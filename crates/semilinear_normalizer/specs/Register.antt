@@ -13,22 +13,24 @@ use Rattle.record.specs.Tree.Tree.{Constant, Variable, Unary, Binary}
 use Rattle.expr.specs.Vars.{sameVars}
 use Rattle.expr.specs.Hash.{structuralHash}
 use Rattle.truth.specs.Key.{sameTable}
-use Rattle.semilinear.specs.Form.{Row, eqTree}
+use Rattle.semilinear.specs.Form.{andFamily, orFamily, xorFamily, notFamily, mixedFamily, Row, eqTree}
 use Rattle.semilinear_normalizer.specs.Collect.{Emitted}
 
 -- the family f where both children belong to it or are Mixed, otherwise Mixed
 unfoldable pub familyOf : ℕ → ℕ → ℕ → ℕ
-familyOf f x y = when ((eqb x f || eqb x 4) && (eqb y f || eqb y 4)) (λ _. f) (λ _. 4)
+familyOf f x y =
+    when ((eqb x f || eqb x mixedFamily) && (eqb y f || eqb y mixedFamily)) (λ _. f) (λ _. mixedFamily)
 
 -- And over And and Mixed is And, likewise Or and Xor; a Not is Not; all else is Mixed
 unfoldable pub detectProvenance : Tree → ℕ
-detectProvenance (Constant v) = 4
-detectProvenance (Variable i) = 4
-detectProvenance (Unary k a t) = when (eqb k 7) (λ _. 3) (λ _. 4)
+detectProvenance (Constant v) = mixedFamily
+detectProvenance (Variable i) = mixedFamily
+detectProvenance (Unary k a t) = when (eqb k 7) (λ _. notFamily) (λ _. mixedFamily)
 detectProvenance (Binary k l r) =
-    when (eqb k 4) (λ _. familyOf 0 (detectProvenance l) (detectProvenance r))
-    (λ _. when (eqb k 5) (λ _. familyOf 1 (detectProvenance l) (detectProvenance r))
-    (λ _. when (eqb k 6) (λ _. familyOf 2 (detectProvenance l) (detectProvenance r)) (λ _. 4)))
+    when (eqb k 4) (λ _. familyOf andFamily (detectProvenance l) (detectProvenance r))
+    (λ _. when (eqb k 5) (λ _. familyOf orFamily (detectProvenance l) (detectProvenance r))
+    (λ _. when (eqb k 6) (λ _. familyOf xorFamily (detectProvenance l) (detectProvenance r))
+    (λ _. mixedFamily)))
 
 -- the same hash and the same variables
 unfoldable pub sameSlot : Tree → Tree → Bool

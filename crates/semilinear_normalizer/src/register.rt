@@ -3,6 +3,7 @@
 use crate::collect;
 use crate::index;
 use semilinear::table::Table;
+use semilinear::table::{self};
 use truth::key;
 ghost use mathlib.Core.Path.{_≡_};
 ghost use mathlib.Core.Bool.{true, _||_};
@@ -17,6 +18,7 @@ ghost use Rattle.record.specs.Decode.{decode};
 ghost use Rattle.expr.specs.Refusal.{treeRefusal};
 ghost use Rattle.expr.specs.Hash.{structuralHash};
 ghost use Rattle.truth.specs.Key.{keyOf};
+ghost use Rattle.semilinear.specs.Form.{mixedFamily};
 ghost use Rattle.semilinear_normalizer.specs.Register.{familyOf, detectProvenance};
 ghost use Rattle.semilinear_normalizer.specs.Register.{registerAtom, registerAll};
 ghost use Rattle.semilinear_normalizer.specs.Spots.{Accepted, SpotsOk, spotTree, spotAt};
@@ -26,12 +28,12 @@ ghost use Rattle.semilinear_normalizer.specs.Index.{rowsIn, emitted, row
 
 // Whether a child of family x belongs to the family f or is Mixed.
 fn in_family(f: u8, x: u8) -> bool
-    ensures { λ r. ⌜ r ≡ (eqb x f || eqb x 4) ⌝ }
+    ensures { λ r. ⌜ r ≡ (eqb x f || eqb x mixedFamily) ⌝ }
 {
     if x == f {
         return true;
     }
-    x == 4
+    x == table::MIXED_FAMILY
 }
 
 // And over And and Mixed is And, otherwise Mixed; likewise Or and Xor.
@@ -39,10 +41,10 @@ fn family_of(f: u8, x: u8, y: u8) -> u8
     ensures { λ r. ⌜ r ≡ familyOf f x y ⌝ }
 {
     if !in_family(f, x) {
-        return 4;
+        return table::MIXED_FAMILY;
     }
     if !in_family(f, y) {
-        return 4;
+        return table::MIXED_FAMILY;
     }
     f
 }
@@ -52,10 +54,10 @@ fn join_provenance(k: u8, x: u8, y: u8) -> u8
     ensures { λ r. ⌜ r ≡ joinProvenance k x y ⌝ }
 {
     match k {
-        4 => family_of(0, x, y),
-        5 => family_of(1, x, y),
-        6 => family_of(2, x, y),
-        _ => 4,
+        4 => family_of(table::AND_FAMILY, x, y),
+        5 => family_of(table::OR_FAMILY, x, y),
+        6 => family_of(table::XOR_FAMILY, x, y),
+        _ => table::MIXED_FAMILY,
     }
 }
 
@@ -66,14 +68,14 @@ fn detect_provenance(t: &[u8]) -> u8
 {
     let children = record::root_arity(t);
     if children == 0 {
-        return 4;
+        return table::MIXED_FAMILY;
     }
     let k = record::kind(t);
     if children == 1 {
         if k == 7 {
-            return 3;
+            return table::NOT_FAMILY;
         }
-        return 4;
+        return table::MIXED_FAMILY;
     }
     let x = detect_provenance(record::left(t));
     let y = detect_provenance(record::right(t));
