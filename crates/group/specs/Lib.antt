@@ -12,3 +12,4 @@ pub mod Links
 pub mod Views
 pub mod Bases
 pub mod Gathered
+pub mod Lone

@@ -4,6 +4,7 @@ pub mod bases;
 pub mod collapse;
 pub mod gather;
 pub mod links;
+pub mod lone;
 pub mod made;
 pub mod merge;
 pub mod settle;

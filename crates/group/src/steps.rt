@@ -11,7 +11,7 @@ ghost use Rattle.group.specs.Steps.{cutMasks, dropZero, toMinusOne};
 ghost use Rattle.group.specs.Made.{Room, Basis, Stepped, cutOf, dropsOf, negatesOf};
 
 // The mask m of an entry cut to the bits that count; that of a consumed entry as it is.
-fn cut_of(mark: u8, c: u64, m: u64, w: u32) -> u64
+pub fn cut_of(mark: u8, c: u64, m: u64, w: u32) -> u64
     ensures { λ r. ⌜ r ≡ cutOf mark c m w ⌝ }
 {
     if mark == 1 {
@@ -44,7 +44,7 @@ pub fn any_cut<'a>(
 }
 
 // Whether a coefficient c of a live entry may as well be 0 beside the mask m.
-fn drops(mark: u8, c: u64, m: u64, w: u32) -> bool
+pub fn drops(mark: u8, c: u64, m: u64, w: u32) -> bool
     ensures { λ r. ⌜ r ≡ dropsOf mark c m w ⌝ }
 {
     if mark == 1 {
@@ -76,7 +76,7 @@ pub fn any_zero<'a>(
 }
 
 // Whether a coefficient c of a live entry is not 2^w - 1 and may become it beside the mask m.
-fn negates(mark: u8, c: u64, m: u64, w: u32) -> bool
+pub fn negates(mark: u8, c: u64, m: u64, w: u32) -> bool
     requires { ⌜ w ≤ 64 ⌝ }
     ensures { λ r. ⌜ r ≡ negatesOf mark c m w ⌝ }
 {
