@@ -1,23 +1,25 @@
 -- Laws of specs/Lone.antt: the group of a basis that one row alone has, its entry, what refining and settling make of it.
 use mathlib.Core.Path.{_≡_, refl, ap, ap₂, sym, _∙_}
-use Prim.Native.Nat.{ℕ, _+_, _≤_, _<_}
+use Prim.Native.Nat.{ℕ, _+_, _-_, _≤_, _<_}
 use native.Mathlib.Omega.{arith}
 use native.Mathlib.Decide.{decLt, ℕ-discrete}
 use mathlib.Core.List.{List}
 use mathlib.Core.Bool.{Bool, true, false}
-use lib.ListN.{length, getD, replicate, length-replicate}
+use lib.ListN.{length, getD, drop, replicate, length-replicate, length-take}
 use lib.Seq.{getD-set-same}
 use Rattle.record.specs.Loop.{forIn}
 use Rattle.record.proofs.ListsLaws.{eq-list-self}
 use Rattle.record.proofs.LoopLaws.{for-ind, for-none, for-more}
 use Rattle.record.specs.Tree.{Tree}
+use Rattle.record.specs.Decode.{decode}
+use Rattle.record.proofs.EncodeLaws.{length-encode, sizeOf-pos}
 use Rattle.group.specs.declared.Group.{Group}
 use Rattle.group.specs.declared.views.View.{View}
 use Rattle.group.specs.Group.{emptyGroup, pushEntry}
 use Rattle.group.specs.Made.{Room, Stepped}
 use Rattle.group.specs.Stages.{cutAndDrop, mergeAll, NoSingle, NoMerge}
 use Rattle.group.specs.Collapse.{threeTermCollapse}
-use Rattle.group.specs.Views.{viewAt, basisBytes, hasBasis}
+use Rattle.group.specs.Views.{viewAt, basisBytes, hasBasis, InGroup}
 use Rattle.group.specs.Gathered.{gatherAt, gathered, addWord, settleWordAt, settleWords}
 use Rattle.group.specs.Lone.{loneGroup, Stays}
 use Rattle.group.proofs.HasBasisLaws.{basis-same}
@@ -79,9 +81,18 @@ module _ (f views : List ℕ) (hash : ℕ) (b : List ℕ) (first n : ℕ) (lt : 
       for-ind Sofar (gatherAt f views hash b) 0 emptyGroup n (omega arith) turn
       (record { none = λ _. refl; one = λ h. absurd (omega arith) }) .one lt
 
+-- a basis has a record, so that a row in a group has an end
+some-end : {w : ℕ} {f : List ℕ} {v : View} → InGroup w f v → v .end ≡ 0 → ⊥
+unfolding basisBytes
+some-end {w} {f} {v} h z =
+    let b : List ℕ = basisBytes f v in
+    let long : length b ≤ v .end = rw (length-take (v .end - v .start) (drop (v .start) f)) (omega arith) in
+    absurd
+    (omega (arith, length-encode w (decode b), sizeOf-pos (decode b), ap length (h .basis .same), long))
+
 -- a row has its own basis
-pub own-basis : (f : List ℕ) (v : View) → (v .end ≡ 0 → ⊥) → hasBasis f v (v .hash) (basisBytes f v) ≡ true
-own-basis f v n = basis-same f v (v .hash) (basisBytes f v) refl n ∙ eq-list-self (basisBytes f v)
+pub own-basis : {w : ℕ} {f : List ℕ} (v : View) → InGroup w f v → hasBasis f v (v .hash) (basisBytes f v) ≡ true
+own-basis {f = f} v h = basis-same f v (v .hash) (basisBytes f v) refl (some-end h) ∙ eq-list-self (basisBytes f v)
 
 -- ---- its entry
 

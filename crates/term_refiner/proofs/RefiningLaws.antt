@@ -15,7 +15,9 @@ use Rattle.group.specs.Collapse.{collapseAt, threeTermCollapse}
 use Rattle.group.specs.Made.{Room, Stepped, onGroup}
 use Rattle.group.specs.Stages.{cutAndDrop, mergeAll, NoMerge}
 use Rattle.group.specs.Links.{lent, FoundThree}
-use Rattle.group.specs.Gathered.{gathered, settleWords}
+use Rattle.group.specs.declared.views.View.{View}
+use Rattle.group.specs.Gathered.{gathered, addWord, settleWords}
+use Rattle.group.specs.Lone.{loneGroup, Stays}
 use Rattle.group.specs.Shown.{Shown}
 use Rattle.group.proofs.SteppedLaws.{stepped-as, stepped-then, stepped-met}
 use Rattle.group.proofs.StagesLaws.{merge-none}
@@ -24,6 +26,7 @@ use Rattle.group.proofs.CollapseLaws.{collapse-same, collapse-met}
 use Rattle.group.proofs.GatherLaws.{len-gathered}
 use Rattle.group.proofs.SettleWordsLaws.{length-settle}
 use Rattle.group.proofs.ShownLaws.{shown-settle}
+use Rattle.group.proofs.LoneLaws.{lone-len, settle-lone, refined-lone}
 use Rattle.term_refiner.specs.RefineTerms.{refineGroup}
 use Rattle.term_refiner.specs.Refining.{Fair, settledRows, GroupRefined}
 
@@ -84,6 +87,14 @@ module _ {w n : ℕ} (t : Tree) {g r : Group} {made out made′ out′ coeffs co
   -- the same of the group by its name
   pub group-refined : {h : Group} → g ≡ h → GroupRefined w 262144 t h made out coeffs made′ out′ coeffs′
   group-refined q = subst (λ (h : Group). GroupRefined w 262144 t h made out coeffs made′ out′ coeffs′) q of-group
+
+-- a row that is alone in its group and stays as it is
+pub lone-refined : {w : ℕ} (t : Tree) {g : Group} (v : View) (i : ℕ) {made out coeffs coeffs′ : List ℕ} → w ≤ 64
+    → Room made out → g ≡ loneGroup v i → Stays w (v .coeff) (v .mask) → coeffs′ ≡ addWord w (v .coeff) i coeffs
+    → GroupRefined w 262144 t g made out coeffs made out coeffs′
+lone-refined {w} t v i {coeffs = coeffs} hw room lone stays e =
+    group-refined t hw (omega arith) (refined-lone v i stays t room) 1 (sym (lone-len v i))
+    (e ∙ sym (settle-lone v i w coeffs)) (sym lone)
 
 pub few-entries : (f views : List ℕ) (hash : ℕ) (b : List ℕ) (n : ℕ) {g : Group} → g ≡ gathered f views hash b n → n ≤ 256
     → g .len ≤ 256

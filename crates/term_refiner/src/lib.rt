@@ -2,6 +2,7 @@
 use group::Group;
 use group::bases;
 use group::collapse;
+use group::lone;
 use group::made;
 use group::settle;
 use group::stages;
@@ -68,7 +69,7 @@ fn refine_group(
     settle::settle(&g.coeffs, &g.atoms, &g.marks, len, coeffs, w as u32);
 }
 
-// The group of the basis of row `first`.
+// The group of the basis of row `first`; where that row is alone and stays as it is, none is gathered.
 fn refine_at(
     first: usize,
     n: usize,
@@ -93,6 +94,10 @@ fn refine_at(
     let hash = views[v + 1];
     let start = views[v + 2] as usize;
     let end = views[v + 3] as usize;
+    if lone::stays_alone(first, n, hash, &f[start..end], views, f, w as u32) {
+        settle::add_word(coeffs, first as u64, views[v], w as u32);
+        return;
+    }
     refine_group(hash, &f[start..end], n, views, f, w, made, coeffs, out);
 }
 
