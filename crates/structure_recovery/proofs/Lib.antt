@@ -20,3 +20,5 @@ mod FlatTurnLaws
 mod KeptRowsLaws
 mod FlatWalkLaws
 mod FlatFormLaws
+mod SearchLaws
+mod BareFoundLaws

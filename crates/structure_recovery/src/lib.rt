@@ -1,2 +1,3 @@
 // Recovering structure, coalescing and flattening.
+pub mod bare;
 pub mod flatten;
