@@ -22,3 +22,4 @@ mod FlatWalkLaws
 mod FlatFormLaws
 mod SearchLaws
 mod BareFoundLaws
+mod XoredLaws

@@ -5,3 +5,4 @@ pub mod FlattenComplexAtoms
 pub mod Flattening
 pub mod Search
 pub mod Showing
+pub mod Recovering

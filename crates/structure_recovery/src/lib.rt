@@ -1,3 +1,4 @@
 // Recovering structure, coalescing and flattening.
 pub mod bare;
 pub mod flatten;
+pub mod xored;
