@@ -23,3 +23,7 @@ mod FlatFormLaws
 mod SearchLaws
 mod BareFoundLaws
 mod XoredLaws
+mod ConstantLaws
+mod TurnedLaws
+mod PairingLaws
+mod RecoveredLaws

@@ -1,4 +1,4 @@
--- How recovering goes through the entries of a group and through the groups (src/recover.rt): what a turn makes of the
+-- How recovering goes through the entries of a group and through the groups (src/pair.rt, src/recover.rt): what a turn makes of the
 -- group, of the words of the table with the constant, and of the bytes. Where the table is full the rows pass a limit,
 -- and nothing else is said of them (specs/Showing.antt).
 use mathlib.Core.Path.{_≡_}
@@ -40,7 +40,7 @@ pub record Stands (w : ℕ) (g : Group) (made out : List ℕ) (x : Recovery) : T
   pub held : Held w made out (x .rows)
   pub constant : getD made 5 0 ≡ x .constant
 
--- a step that is made where the table is not full: f on what they stand for
+-- a step after which they stand for what f makes of it
 pub record Turned (w n : ℕ) (f : Recovery → Recovery) (g : Group) (made out : List ℕ) (r : Group) (made′ out′ : List ℕ)
     : Type 0 where
   pub room : Room made′ out′
@@ -54,11 +54,11 @@ pub record Recovers (w : ℕ) (g : Group) (made out : List ℕ) (x : Recovery) :
   pub stands : tableOf made .full ≡ false → Stands w g made out x
   pub past : tableOf made .full ≡ true → fitsTable (x .rows) ≡ false
 
--- steps of any table
+-- steps after which it may be
 pub record Recovered (w n : ℕ) (f : Recovery → Recovery) (g : Group) (made out : List ℕ) (r : Group)
     (made′ out′ : List ℕ) : Type 0 where
   pub room : Room made′ out′
   pub rows-le : getD made′ 4 0 ≤ getD made 4 0 + n
   pub long : length out′ ≡ length out
   pub len : r .len ≡ g .len
-  pub recovers : (x : Recovery) → Recovers w g made out x → Recovers w r made′ out′ (f x)
+  pub recovers : (x : Recovery) → Stands w g made out x → Recovers w r made′ out′ (f x)

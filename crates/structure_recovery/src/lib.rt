@@ -1,4 +1,5 @@
 // Recovering structure, coalescing and flattening.
 pub mod bare;
 pub mod flatten;
+pub mod pair;
 pub mod xored;
