@@ -27,3 +27,6 @@ mod ConstantLaws
 mod TurnedLaws
 mod PairingLaws
 mod RecoveredLaws
+mod GroupRecoveredLaws
+mod AllRecoveredLaws
+mod RecoverEndLaws

@@ -16,12 +16,9 @@ use Rattle.group.specs.Group.{at, putEntry, consumed, createRow}
 use Rattle.group.specs.Made.{tableOf, Room, Held, Grew}
 use Rattle.group.proofs.DropLaws.{mk, mk-eq}
 use Rattle.structure_recovery.specs.RecoverStructure.{Recovery, rowWith, withBare, recoverXor, eliminateMask}
-use Rattle.structure_recovery.specs.Recovering.{xorTree, Stands, Turned}
+use Rattle.structure_recovery.specs.Recovering.{xorTree, Stands, Turned, recovery}
 use Rattle.structure_recovery.specs.Showing.{BareFound}
 use Rattle.structure_recovery.proofs.ConstantLaws.{word-kept, room-kept, held-kept}
-
-abbrev pub recovery : Group → List Row → ℕ → Recovery
-recovery g l c = record { group = g; rows = l; constant = c }
 
 -- ---- steps
 

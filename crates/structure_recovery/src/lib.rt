@@ -2,4 +2,5 @@
 pub mod bare;
 pub mod flatten;
 pub mod pair;
+pub mod recover;
 pub mod xored;
