@@ -32,7 +32,8 @@ returns c =
     let pre = at-start .pre in
     grew-create (a .w) (a .p) (now (a .t)) (basis-sized _ _ _ (pre .1)) (pre .1 .same) (now (a .made)) (now (a .out)) (pre .0)
     (c .before .before .before .before .before .before .create-atom .ensures
-    ∙ ap (λ (tab : Table). createAtom (a .w) (a .p) (now (a .t)) (storeOf tab (now (a .out)))) (c .before .before .before .before .before .before .before .before .load .ensures))
+    ∙ ap (λ (tab : Table). createAtom (a .w) (a .p) (now (a .t)) (storeOf tab (now (a .out))))
+    (c .before .before .before .before .before .before .before .before .load .ensures))
     (c .before .before .store .ensures)
 
 pub create-row-spec : {M : Type 1} → statement M

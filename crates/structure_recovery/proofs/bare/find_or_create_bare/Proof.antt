@@ -41,7 +41,8 @@ same-length-3 c = search needs
 returns-2 : tie.Need-returns-2
 returns-2 c =
     let pre = c .before .before .before .before .before .before .before .before .before .before .before .before .before .before .before .pre in
-    bare-created (pre .1) (c .before .before .before .before .before .before .before .before .before .row-with .ensures) (omega (arith, c .before .before .before .before .before .before .before .if1 .left)) (c .before .before .before .before .create-row .ensures)
+    bare-created (pre .1) (c .before .before .before .before .before .before .before .before .before .row-with .ensures)
+    (omega (arith, c .before .before .before .before .before .before .before .if1 .left)) (c .before .before .before .before .create-row .ensures)
 
 pub find-or-create-bare-spec : {M : Type 1} → statement M
 find-or-create-bare-spec =

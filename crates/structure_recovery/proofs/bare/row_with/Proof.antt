@@ -48,7 +48,8 @@ returns-2 c =
     ∙ sym (c .before .same-bytes .ensures) ∙ c .if2 .taken)
 
 add-i : tie.Need-add-i Inv-loop μ-loop
-add-i c = omega (arith, c .before .before .before .before .before .before .loop .inv .bytes, c .before .before .before .before .before .before .loop .inv .inside)
+add-i c = omega
+    (arith, c .before .before .before .before .before .before .loop .inv .bytes, c .before .before .before .before .before .before .loop .inv .inside)
 
 atom-length-requires : tie.Need-atom-length-requires Inv-loop μ-loop
 atom-length-requires c κs = sym (c .before .before .before .before .is-atom .ensures) ∙ not-false _ (c .before .before .before .if1 .left)
@@ -57,7 +58,8 @@ add-at : tie.Need-add-at Inv-loop μ-loop
 add-at c =
     omega (
       arith,
-      atom-inside _ _ _ _ (c .before .before .before .before .before .before .before .loop .inv) (c .before .before .before .before .before .before .rest-from .ensures)
+      atom-inside _ _ _ _ (c .before .before .before .before .before .before .before .loop .inv)
+          (c .before .before .before .before .before .before .rest-from .ensures)
           (sym (c .before .before .before .before .before .is-atom .ensures) ∙ not-false _ (c .before .before .before .before .if1 .left)),
       c .atom-length .ensures .0,
     )
@@ -66,7 +68,8 @@ loop-less : tie.Need-loop-less Inv-loop μ-loop
 loop-less c =
     omega (
       arith,
-      atom-inside _ _ _ _ (c .before .before .before .before .before .before .before .loop .inv) (c .before .before .before .before .before .before .rest-from .ensures)
+      atom-inside _ _ _ _ (c .before .before .before .before .before .before .before .loop .inv)
+          (c .before .before .before .before .before .before .rest-from .ensures)
           (sym (c .before .before .before .before .before .is-atom .ensures) ∙ not-false _ (c .before .before .before .before .if1 .left)),
       c .atom-length .ensures .0,
       c .atom-length .ensures .1,
@@ -76,7 +79,8 @@ loop-again : tie.Need-loop-again Inv-loop μ-loop
 loop-again c =
     let at-start = c .before .before .before .before .before .before .before .before .before .before in
     rw (c .atom-length .ensures .0)
-    (passed-next _ _ _ _ (c .before .before .before .before .before .before .before .loop .inv) (c .before .before .before .before .before .before .rest-from .ensures)
+    (passed-next _ _ _ _ (c .before .before .before .before .before .before .before .loop .inv)
+    (c .before .before .before .before .before .before .rest-from .ensures)
     (sym (c .before .before .before .before .before .is-atom .ensures) ∙ not-false _ (c .before .before .before .before .if1 .left))
     (ap (λ s. eqList s (now (at-start .args .t))) (sym (c .before .before .before .tree-span .ensures))
     ∙ sym (c .before .before .same-bytes .ensures) ∙ c .before .if2 .left))

@@ -50,7 +50,8 @@ loop-again c =
     let a = c .before .before .before .before .before .before .args in
     let found =
     c .before .partner-of .ensures
-    ∙ ap (λ (m : ℕ). partnerIn m (now (a .masks)) (now (a .marks)) (c .before .before .before .before .before .loop .i + 1) (a .n)) (c .before .before .complement .ensures) in (
+    ∙ ap (λ (m : ℕ). partnerIn m (now (a .masks)) (now (a .marks)) (c .before .before .before .before .before .loop .i + 1) (a .n))
+    (c .before .before .complement .ensures) in (
       omega arith,
       below-more
           (λ (k : ℕ). a .n ≤ partnerIn (a .full - getD (now (a .masks)) k 0) (now (a .masks)) (now (a .marks)) (k + 1) (a .n))

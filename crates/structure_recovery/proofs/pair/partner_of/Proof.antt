@@ -37,7 +37,8 @@ returns c =
     let a = c .before .before .before .before .before .before .args in
     sym
     (c .before .before .before .before .before .loop .inv .1
-    ∙ first-here (partnerFits (a .m) (now (a .masks)) (now (a .marks))) (c .before .before .before .before .before .loop .j) (a .n) (c .before .before .before .before .loop-test .taken)
+    ∙ first-here (partnerFits (a .m) (now (a .masks)) (now (a .marks))) (c .before .before .before .before .before .loop .j) (a .n)
+    (c .before .before .before .before .loop-test .taken)
     (sym (c .before .is-partner .ensures) ∙ c .if1 .taken))
 
 add-j : tie.Need-add-j Inv-loop μ-loop
@@ -52,7 +53,8 @@ loop-again c =
     let a = c .before .before .before .before .before .before .args in (
       omega arith,
       c .before .before .before .before .before .loop .inv .1
-          ∙ first-next (partnerFits (a .m) (now (a .masks)) (now (a .marks))) (c .before .before .before .before .before .loop .j) (a .n) (c .before .before .before .before .loop-test .taken)
+          ∙ first-next (partnerFits (a .m) (now (a .masks)) (now (a .marks))) (c .before .before .before .before .before .loop .j) (a .n)
+          (c .before .before .before .before .loop-test .taken)
           (sym (c .before .is-partner .ensures) ∙ c .if1 .left),
     )
 

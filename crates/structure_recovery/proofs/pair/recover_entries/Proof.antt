@@ -34,7 +34,8 @@ same-length-2 c = c .before .before .before .loop .inv .2 .long
 returns : tie.Need-returns Inv-loop μ-loop
 returns c =
     let inv = c .before .before .before .loop .inv in
-    recovered-stop _ _ (inv .2) (inv .1) (inv .0) (omega (arith, inv .1, c .before .before .before .before .before .before .before .pre .4)) (full-at _ (c .if1 .taken))
+    recovered-stop _ _ (inv .2) (inv .1) (inv .0) (omega (arith, inv .1, c .before .before .before .before .before .before .before .pre .4))
+    (full-at _ (c .if1 .taken))
 
 recover-entry-requires : tie.Need-recover-entry-requires Inv-loop μ-loop
 recover-entry-requires c κs =
@@ -57,8 +58,12 @@ loop-less c = omega arith
 
 loop-again : tie.Need-loop-again Inv-loop μ-loop
 loop-again c =
-    let inv = c .before .before .before .before .before .before .before .before .before .before .loop .inv in
-    (omega (arith, c .before .before .before .before .before .before .before .before .before .loop-test .taken), inv .1, recovered-turn _ _ (inv .2) (more-at _ (c .before .before .before .before .before .before .before .if1 .left)) (c .before .before .before .before .recover-entry .ensures))
+    let inv = c .before .before .before .before .before .before .before .before .before .before .loop .inv in (
+      omega (arith, c .before .before .before .before .before .before .before .before .before .loop-test .taken),
+      inv .1,
+      recovered-turn _ _ (inv .2)
+          (more-at _ (c .before .before .before .before .before .before .before .if1 .left)) (c .before .before .before .before .recover-entry .ensures),
+    )
 
 same-length-3 : tie.Need-same-length-3 Inv-loop μ-loop
 same-length-3 c = c .before .loop .inv .2 .room .words ∙ sym (c .before .before .before .before .before .pre .0 .words)

@@ -63,17 +63,26 @@ same-length-2 c = search needs
 
 returns-3 : tie.Need-returns-3
 returns-3 c =
-    let a = c .before .before .before .before .before .before .before .before .before .before .before .before .before .before .before .before .before .before .before .before .before .args in
-    turned-as
-    (at-pair (a .w) (decode (now (a .b))) (a .i) _ (c .before .before .before .before .before .before .before .before .before .before .before .before .before .before .bitmask .ensures ∙ bitmask-ones (a .w) (c .before .before .before .before .before .before .before .before .before .before .before .before .before .before .before .before .before .before .before .before .before .pre .3))
-    (c .before .before .before .before .before .before .before .before .before .before .before .before .complement .ensures) (c .before .before .before .before .before .before .before .before .partner-of .ensures) (c .before .before .before .before .before .before .before .before .before .before .before .before .before .before .before .before .if1 .left) (c .before .before .before .before .before .before .before .before .before .before .before .before .before .before .before .if2 .left) (c .before .before .before .before .before .before .before .if3 .taken))
-    (c .before .before .before .before .recover-pair .ensures)
+    let at-recover-pair = c .before .before .before .before in
+    let at-if3 = at-recover-pair .before .before .before in
+    let at-partner-of = at-if3 .before in
+    let at-complement = at-partner-of .before .before .before .before in
+    let at-bitmask = at-complement .before .before in
+    let at-if2 = at-bitmask .before in
+    let at-if1 = at-if2 .before in
+    let at-start = at-if1 .before .before .before .before .before in
+    let a = at-start .args in turned-as
+    (at-pair (a .w) (decode (now (a .b))) (a .i) _ (at-bitmask .bitmask .ensures ∙ bitmask-ones (a .w) (at-start .pre .3))
+    (at-complement .complement .ensures) (at-partner-of .partner-of .ensures) (at-if1 .if1 .left) (at-if2 .if2 .left) (at-if3 .if3 .taken))
+    (at-recover-pair .recover-pair .ensures)
 
 returns-4 : tie.Need-returns-4
 returns-4 c =
     let a = c .before .before .before .before .before .before .before .before .before .before .before .before .before .before .args in
     turned-as
-    (at-alone (a .w) (decode (now (a .b))) (a .i) _ (c .before .before .before .before .before .before .before .bitmask .ensures ∙ bitmask-ones (a .w) (c .before .before .before .before .before .before .before .before .before .before .before .before .before .before .pre .3))
+    (at-alone (a .w) (decode (now (a .b))) (a .i) _
+    (c .before .before .before .before .before .before .before .bitmask .ensures ∙ bitmask-ones (a .w)
+    (c .before .before .before .before .before .before .before .before .before .before .before .before .before .before .pre .3))
     (c .before .before .before .before .before .complement .ensures) (c .before .partner-of .ensures) (omega (arith, c .if3 .left)))
     (turned-none (c .before .before .before .before .before .before .before .before .before .before .before .before .before .before .pre .0))
 

@@ -51,7 +51,10 @@ returns : tie.Need-returns
 returns c =
     let a = c .before .before .before .before .before .before .before .before .before .before .before .before .before .before .before .before .before .args in
     turned-as
-    (pair-xor (a .w) (decode (now (a .b))) (a .i) (a .j) _ (c .before .before .before .before .before .before .before .before .before .before .before .mod-add .ensures) (c .before .before .before .before .before .before .before .before .before .before .if1 .taken) (c .before .before .before .before .before .before .before .if2 .taken))
+    (pair-xor (a .w) (decode (now (a .b))) (a .i) (a .j) _
+    (c .before .before .before .before .before .before .before .before .before .before .before .mod-add .ensures)
+    (c .before .before .before .before .before .before .before .before .before .before .if1 .taken)
+    (c .before .before .before .before .before .before .before .if2 .taken))
     (c .before .before .before .before .recover-xor .ensures)
 
 recover-xor-requires-2 : tie.Need-recover-xor-requires-2
@@ -69,7 +72,9 @@ returns-2 : tie.Need-returns-2
 returns-2 c =
     let a = c .before .before .before .before .before .before .before .before .before .before .before .before .before .before .before .before .before .args in
     turned-as
-    (pair-xor-back (a .w) (decode (now (a .b))) (a .i) (a .j) _ (c .before .before .before .before .before .before .before .before .before .before .before .mod-add .ensures) (c .before .before .before .before .before .before .before .before .before .before .if1 .taken)
+    (pair-xor-back (a .w) (decode (now (a .b))) (a .i) (a .j) _
+    (c .before .before .before .before .before .before .before .before .before .before .before .mod-add .ensures)
+    (c .before .before .before .before .before .before .before .before .before .before .if1 .taken)
     (omega (arith, c .before .before .before .before .before .before .before .if2 .left)))
     (c .before .before .before .before .recover-xor2 .ensures)
 
@@ -80,7 +85,8 @@ returns-3 : tie.Need-returns-3
 returns-3 c =
     let a = c .before .before .before .before .before .before .before .before .before .args in
     turned-as
-    (pair-none (a .w) (decode (now (a .b))) (a .i) (a .j) _ (c .before .before .before .mod-add .ensures) (c .before .before .if1 .left) (c .before .mod-sub .ensures)
+    (pair-none (a .w) (decode (now (a .b))) (a .i) (a .j) _ (c .before .before .before .mod-add .ensures) (c .before .before .if1 .left)
+    (c .before .mod-sub .ensures)
     (c .if3 .taken))
     (turned-none (c .before .before .before .before .before .before .before .before .before .pre .0))
 
@@ -97,8 +103,11 @@ returns-4 : tie.Need-returns-4
 returns-4 c =
     let a = c .before .before .before .before .before .before .before .before .before .before .before .before .before .before .before .before .args in
     turned-as
-    (pair-eliminate (a .w) (decode (now (a .b))) (a .i) (a .j) _ (c .before .before .before .before .before .before .before .before .before .before .mod-add .ensures) (c .before .before .before .before .before .before .before .before .before .if1 .left)
-    (c .before .before .before .before .before .before .before .before .mod-sub .ensures) (c .before .before .before .before .before .before .before .if3 .left))
+    (pair-eliminate (a .w) (decode (now (a .b))) (a .i) (a .j) _
+    (c .before .before .before .before .before .before .before .before .before .before .mod-add .ensures)
+    (c .before .before .before .before .before .before .before .before .before .if1 .left)
+    (c .before .before .before .before .before .before .before .before .mod-sub .ensures)
+    (c .before .before .before .before .before .before .before .if3 .left))
     (c .before .before .before .before .eliminate-mask .ensures)
 
 pub recover-pair-spec : {M : Type 1} → statement M

@@ -73,10 +73,12 @@ same-length-2 c = search needs
 
 returns : tie.Need-returns
 returns c =
-    let a = c .before .before .before .before .before .before .before .before .before .before .before .before .before .before .before .before .before .before .before .before .args in
-    let pre = c .before .before .before .before .before .before .before .before .before .before .before .before .before .before .before .before .before .before .before .before .pre in
-    xor-turned (a .w) (decode (now (a .b))) (a .src) (a .dst) (pre .7) (c .before .before .before .before .before .before .before .before .before .before .before .before .bitmask .ensures ∙ bitmask-ones (a .w) (pre .4))
-    (c .before .before .before .before .before .before .before .before .before .create-xored .ensures) (c .before .before .before .mod-mul .ensures) (c .before .before .add-constant .ensures) refl
+    let at-create-xored = c .before .before .before .before .before .before .before .before .before in
+    let at-bitmask = at-create-xored .before .before .before in
+    let at-start = at-bitmask .before .before .before .before .before .before .before .before in
+    let a = at-start .args in let pre = at-start .pre in xor-turned (a .w) (decode (now (a .b))) (a .src) (a .dst) (pre .7)
+    (at-bitmask .bitmask .ensures ∙ bitmask-ones (a .w) (pre .4)) (at-create-xored .create-xored .ensures) (c .before .before .before .mod-mul .ensures)
+    (c .before .before .add-constant .ensures) refl
 
 pub recover-xor-spec : {M : Type 1} → statement M
 recover-xor-spec =

@@ -28,7 +28,8 @@ slice-read-if1 : tie.Need-slice-read-if1 Inv-loop μ-loop
 slice-read-if1 c = let p = c .before .before .loop .inv .1 in omega (arith, p .room .words)
 
 same-length : tie.Need-same-length Inv-loop μ-loop
-same-length c = c .before .before .before .loop .inv .1 .room .words ∙ sym (c .before .before .before .before .before .before .before .before .before .before .pre .0 .words)
+same-length c = c .before .before .before .loop .inv .1 .room .words ∙ sym
+    (c .before .before .before .before .before .before .before .before .before .before .pre .0 .words)
 
 same-length-2 : tie.Need-same-length-2 Inv-loop μ-loop
 same-length-2 c = c .before .before .before .loop .inv .1 .wide
@@ -73,13 +74,16 @@ loop-less c = omega (arith, c .before .before .before .before .before .before .b
 
 loop-again : tie.Need-loop-again Inv-loop μ-loop
 loop-again c =
-    let pre = c .before .before .before .before .before .before .before .before .before .before .before .before .before .before .before .before .before .before .before .before .before .pre in
-    let less = c .before .before .before .before .before .before .before .before .before .before .before .before .before .loop-test .taken in
-    let k = c .before .before .before .before .before .before .before .before .before .before .before .before .before .before .loop .k in (
+    let at-recover-at = c .before .before .before .before .before .before in
+    let at-if1 = at-recover-at .before .before .before .before .before in
+    let at-test = at-if1 .before .before in
+    let at-loop = at-test .before in
+    let at-start = at-loop .before .before .before .before .before .before .before in
+    let pre = at-start .pre in let less = at-test .loop-test .taken in let k = at-loop .loop .k in (
       omega (arith, less),
-      going-next _ _ _ k (c .before .before .before .before .before .before .before .before .before .before .before .before .before .before .loop .inv .1) (more-at _ (c .before .before .before .before .before .before .before .before .before .before .before .if1 .left))
-          (next-at _ _ _ _ _ _ _ _ (pre .4) (pre .5) (pre .6) k less .next)
-          (group-at _ _ _ _ _ _ _ _ (pre .4) (pre .5) (pre .6) k less) (c .before .before .before .before .before .before .recover-at .ensures),
+      going-next _ _ _ k (at-loop .loop .inv .1) (more-at _ (at-if1 .if1 .left))
+          (next-at _ _ _ _ _ _ _ _ (pre .4) (pre .5) (pre .6) k less .next) (group-at _ _ _ _ _ _ _ _ (pre .4) (pre .5) (pre .6) k less)
+          (at-recover-at .recover-at .ensures),
     )
 
 same-length-4 : tie.Need-same-length-4 Inv-loop μ-loop

@@ -30,7 +30,10 @@ slice-aggregate-recover-table-2 c = search needs
 recover-table-requires : tie.Need-recover-table-requires
 recover-table-requires c κs =
     let p =
-    recover-begin (now (c .before .before .before .before .before .before .before .before .before .before .before .before .args .s)) (λ i. c .before .before .before .before .before .before .before .before .before .before .before .shared-slice-known .given i .fits) (c .before .before .before .before .before .before .before .before .before .before .before .before .pre .0) (c .before .before .before .before .before .before .before .before .before .width .ensures)
+    recover-begin (now (c .before .before .before .before .before .before .before .before .before .before .before .before .args .s))
+    (λ i. c .before .before .before .before .before .before .before .before .before .before .before .shared-slice-known .given i .fits)
+    (c .before .before .before .before .before .before .before .before .before .before .before .before .pre .0)
+    (c .before .before .before .before .before .before .before .before .before .width .ensures)
     (c .before .before .before .body .ensures) (c .before .before .before .before .before .before .copy-atoms .ensures) in
     (p .0, p .1, p .2, p .3, p .4, padded-nil 256, p .5, p .6)
 
@@ -48,7 +51,8 @@ slice-aggregate-finish c = search needs
 
 finish-requires : tie.Need-finish-requires
 finish-requires c κs =
-    let p = recover-room (c .before .before .before .before .before .before .before .before .recover-table .ensures) (c .before .before .load .ensures) (c .before .before .before .before .before .before .before .before .before .before .before .before .before .before .before .copy-atoms .ensures .long) in
+    let p = recover-room (c .before .before .before .before .before .before .before .before .recover-table .ensures) (c .before .before .load .ensures)
+    (c .before .before .before .before .before .before .before .before .before .before .before .before .before .before .before .copy-atoms .ensures .long) in
     (p .0, p .1, p .2, omega arith, omega arith)
 
 same-length : tie.Need-same-length
@@ -56,9 +60,17 @@ same-length c = search needs
 
 returns : tie.Need-returns
 returns c =
-    recover-end (now (c .before .before .before .before .before .before .before .before .before .before .before .before .before .before .before .before .before .before .before .before .before .before .before .before .args .s)) (λ i. c .before .before .before .before .before .before .before .before .before .before .before .before .before .before .before .before .before .before .before .before .before .before .before .shared-slice-known .given i .fits) (c .before .before .before .before .before .before .before .before .before .before .before .before .before .before .before .before .before .before .before .before .before .before .before .before .pre .0) (c .before .before .before .before .before .before .before .before .before .before .before .before .before .before .before .before .before .before .before .before .before .width .ensures)
-    (c .before .before .before .before .before .before .before .before .before .before .before .before .before .before .before .before .before .before .before .before .literal .ensures) (c .before .before .before .before .before .before .before .before .before .before .before .before .before .before .before .body .ensures) (c .before .before .before .before .before .before .before .before .before .before .before .before .before .before .before .before .before .before .copy-atoms .ensures) (c .before .before .before .before .before .before .before .before .before .before .before .recover-table .ensures)
-    (c .before .before .before .before .before .load .ensures) refl (c .before .before .finish .result) (c .before .before .finish .ensures)
+    let at-load = c .before .before .before .before .before in
+    let at-recover-table = at-load .before .before .before .before .before .before in
+    let at-body = at-recover-table .before .before .before .before in
+    let at-copy-atoms = at-body .before .before .before in
+    let at-literal = at-copy-atoms .before .before in
+    let at-width = at-literal .before in
+    let at-known = at-width .before .before in
+    let at-start = at-known .before in
+    recover-end (now (at-start .args .s)) (λ i. at-known .shared-slice-known .given i .fits) (at-start .pre .0) (at-width .width .ensures)
+    (at-literal .literal .ensures) (at-body .body .ensures) (at-copy-atoms .copy-atoms .ensures) (at-recover-table .recover-table .ensures)
+    (at-load .load .ensures) refl (c .before .before .finish .result) (c .before .before .finish .ensures)
 
 pub recover-form-spec : {M : Type 1} → statement M
 recover-form-spec =

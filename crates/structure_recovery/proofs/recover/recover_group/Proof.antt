@@ -61,7 +61,8 @@ bitmask-requires : tie.Need-bitmask-requires
 bitmask-requires c κs = search needs
 
 any-partner-requires : tie.Need-any-partner-requires
-any-partner-requires c κs = few-entries _ _ _ _ _ (c .before .before .before .before .gather .ensures) (c .before .before .before .before .before .before .before .before .before .before .before .pre .2)
+any-partner-requires c κs = few-entries _ _ _ _ _ (c .before .before .before .before .gather .ensures)
+    (c .before .before .before .before .before .before .before .before .before .before .before .pre .2)
 
 recover-entries-requires : tie.Need-recover-entries-requires
 recover-entries-requires c κs =
@@ -81,10 +82,12 @@ returns : tie.Need-returns
 returns c = group-past _ (joined1 (c .before .before)) (full-at _ (c .if2 .taken)) _ (gather1 (c .before .before) .gather .ensures)
 
 settle-requires : tie.Need-settle-requires
-settle-requires c κs = few-entries _ _ _ _ _ (gather1 (c .before .before .before .before .before .before .before) .gather .ensures) (begin1 (c .before .before .before .before .before .before .before) .pre .2)
+settle-requires c κs = few-entries _ _ _ _ _ (gather1 (c .before .before .before .before .before .before .before) .gather .ensures)
+    (begin1 (c .before .before .before .before .before .before .before) .pre .2)
 
 same-length-3 : tie.Need-same-length-3
-same-length-3 c = joined1 (c .before .before .before .before .before .before .before .before .before .before) .room .words ∙ sym (begin1 (c .before .before .before .before .before .before .before .before .before .before) .pre .0 .words)
+same-length-3 c = joined1 (c .before .before .before .before .before .before .before .before .before .before) .room .words ∙ sym
+    (begin1 (c .before .before .before .before .before .before .before .before .before .before) .pre .0 .words)
 
 same-length-4 : tie.Need-same-length-4
 same-length-4 c = search needs
@@ -95,7 +98,8 @@ same-length-5 c = joined1 (c .before .before .before .before .before .before .be
 returns-2 : tie.Need-returns-2
 returns-2 c =
     let met = c .before .before .before .before .before .before .before .before .before .before in
-    group-settled _ (joined1 met) (begin1 met .pre .5) (more-at _ (c .before .before .before .before .before .before .before .before .if2 .left)) refl (c .before .before .settle .ensures)
+    group-settled _ (joined1 met) (begin1 met .pre .5) (more-at _ (c .before .before .before .before .before .before .before .before .if2 .left)) refl
+    (c .before .before .settle .ensures)
     (gather1 met .gather .ensures)
 
 pub recover-group-spec : {M : Type 1} → statement M

@@ -22,8 +22,9 @@ read-views-requires c κs =
 
 find-bases-requires : tie.Need-find-bases-requires
 find-bases-requires c κs =
-    let read = c .before .before .before .before .before .before .read-views .ensures in
-    (read-readable read, omega (arith, read-count read, c .before .before .before .before .before .before .before .before .before .before .before .before .before .before .before .pre .4))
+    let at-read-views = c .before .before .before .before .before .before in
+    let at-start = at-read-views .before .before .before .before .before .before .before .before .before in
+    let read = at-read-views .read-views .ensures in (read-readable read, omega (arith, read-count read, at-start .pre .4))
 
 recover-all-requires : tie.Need-recover-all-requires
 recover-all-requires c κs =
@@ -56,9 +57,10 @@ same-length-5 c = search needs
 
 returns : tie.Need-returns
 returns c =
-    let at-views = c .before .before .before .before .before .before .before .before .before .before .before .before .before .before .before .before .before .before .before .before .before in
+    let at-all = c .before .before .before .before .before .before in
+    let at-views = at-all .before .before .before .before .before .before .before .before .before .before .before .before .before .before .before in
     let pre = at-views .before .before .before .before .before .before .before .before .before .pre in
-    rows-recovered (at-views .read-views .ensures) (pre .6) (pre .5) (c .before .before .before .before .before .before .recover-all .ensures)
+    rows-recovered (at-views .read-views .ensures) (pre .6) (pre .5) (at-all .recover-all .ensures)
 
 pub recover-rows-spec : {M : Type 1} → statement M
 recover-rows-spec =

@@ -30,7 +30,8 @@ same-length-2 c = search needs
 returns-2 : tie.Need-returns-2
 unfolding recoverStructure
 returns-2 c =
-    pass-given _ _ _ (c .before .before .before .before .before .before .before .open-bytes .ensures) (c .before .before .before .before .if1 .left) (c .before .before .recover-form .result) (c .before .before .recover-form .ensures)
+    pass-given _ _ _ (c .before .before .before .before .before .before .before .open-bytes .ensures) (c .before .before .before .before .if1 .left)
+    (c .before .before .recover-form .result) (c .before .before .recover-form .ensures)
 
 pub recover-structure-spec : {M : Type 1} → statement M
 recover-structure-spec =

@@ -41,7 +41,13 @@ returns-3 c =
     sym
     (create-past (a .w) xorFamily t (a .tab) (now (a .out)) (c .before .before .before .if1 .left)
     (fits-more-records (a .tab) t (omega (arith, c .before .if2 .left))
-    (omega (arith, xor-size (a .w) (now (a .b)) (a .m) (c .before .before .before .before .before .before .pre .1), c .before .before .size .ensures .0, c .if3 .taken))))
+    (omega (
+      arith,
+      xor-size (a .w) (now (a .b)) (a .m)
+          (c .before .before .before .before .before .before .pre .1),
+      c .before .before .size .ensures .0,
+      c .if3 .taken,
+    ))))
 
 put-xored-requires : tie.Need-put-xored-requires
 put-xored-requires c κs =
@@ -74,8 +80,10 @@ same-length c = search needs
 returns-4 : tie.Need-returns-4
 returns-4 c =
     let a = c .before .before .before .before .before .before .before .before .before .before .args in
-    created-xor (a .w) (now (a .b)) (a .m) (c .before .before .before .before .before .before .before .before .before .before .pre .1) (a .tab) (now (a .out)) (c .before .before .before .before .before .before .before .if1 .left)
-    (omega (arith, c .before .before .before .before .before .if2 .left)) (c .before .before .before .before .before .before .size .ensures .0) (omega (arith, c .before .before .before .before .if3 .left)) (c .before .before .put-xored .ensures)
+    created-xor (a .w) (now (a .b)) (a .m) (c .before .before .before .before .before .before .before .before .before .before .pre .1) (a .tab)
+    (now (a .out)) (c .before .before .before .before .before .before .before .if1 .left)
+    (omega (arith, c .before .before .before .before .before .if2 .left)) (c .before .before .before .before .before .before .size .ensures .0)
+    (omega (arith, c .before .before .before .before .if3 .left)) (c .before .before .put-xored .ensures)
 
 pub join-xored-spec : {M : Type 1} → statement M
 join-xored-spec =

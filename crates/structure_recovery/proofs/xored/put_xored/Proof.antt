@@ -45,7 +45,8 @@ returns c =
     let pre = c .before .before .before .before .before .before .before .before .before .before .before .before .before .pre in
     wrote-xored (a .w) (now (a .b)) (a .m) (pre .1) (pre .2) (omega arith) (now (a .out)) (a .at) (a .size) (pre .0) (pre .4)
     (c .before .before .before .before .before .before .before .before .before .put-tree .ensures)
-    (span-xored (a .w) (now (a .b)) (a .m) (pre .1) (now (a .out)) (a .at) (pre .0) (c .before .before .before .before .before .before .before .before .before .put-tree .ensures))
+    (span-xored (a .w) (now (a .b)) (a .m) (pre .1) (now (a .out)) (a .at) (pre .0)
+    (c .before .before .before .before .before .before .before .before .before .put-tree .ensures))
     (c .before .before .before .before .structural-hash .ensures) (c .before .before .put-record .ensures)
 
 pub put-xored-spec : {M : Type 1} → statement M
