@@ -33,3 +33,4 @@ pub mod SettleWordsLaws
 pub mod ShownLaws
 pub mod NextBasisLaws
 pub mod LoneLaws
+pub mod PassLaws

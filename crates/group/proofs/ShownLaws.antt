@@ -130,7 +130,7 @@ module _ (w : ℕ) where
         (λ _. alike-then (add-alike (at g i .coeff) (at g i .atom) t) h) (λ _. h))
         (record { bare = refl; count = refl; records = refl })
 
-    settle-fits : fitsTable (settle w g l) ≡ fitsTable l
+    pub settle-fits : fitsTable (settle w g l) ≡ fitsTable l
     unfolding fitsTable
     settle-fits = rw (settle-alike .count, settle-alike .records)
 

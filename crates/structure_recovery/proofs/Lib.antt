@@ -20,3 +20,13 @@ mod FlatTurnLaws
 mod KeptRowsLaws
 mod FlatWalkLaws
 mod FlatFormLaws
+mod SearchLaws
+mod BareFoundLaws
+mod XoredLaws
+mod ConstantLaws
+mod TurnedLaws
+mod PairingLaws
+mod RecoveredLaws
+mod GroupRecoveredLaws
+mod AllRecoveredLaws
+mod RecoverEndLaws

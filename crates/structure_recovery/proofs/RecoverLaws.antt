@@ -18,12 +18,14 @@ use Rattle.semilinear.specs.Form.{Row, Form, sumRows, formValue, rowsOk, treeRe
 use Rattle.group.specs.Group.{Entry, at, emptyGroup, anyBasis, basesOf, groupOf, ungrouped, settle}
 use Rattle.semilinear.proofs.FormLaws.{form-parts, parts-form}
 use Rattle.semilinear.proofs.AtomLaws.{Atom}
+use Rattle.group.proofs.CoeffsLaws.{fits-length}
 use Rattle.group.proofs.SettleLaws.{settled}
 use Rattle.group.proofs.BasesLaws.{risingFrom, risen}
 use Rattle.group.proofs.GroupsLaws.{basisSum, basesSum, groups-share, bases-rising}
 use Rattle.group.proofs.GroupOfLaws.{Fresh, group-of}
 use Rattle.group.proofs.ExtendsLaws.{Extends, extends-trans, grown-extends, settled-extends, ungrouped-extends}
-use Rattle.structure_recovery.specs.RecoverStructure.{Recovery, recoverGroup, recoverAll, recoverForm}
+use Rattle.structure_recovery.specs.RecoverStructure.{Recovery, recoverAll, recoverForm}
+use Rattle.structure_recovery.specs.Recovering.{Fair, settledForm, oneRecovered, AllFair}
 use Rattle.structure_recovery.proofs.HeldLaws.{Held, Kept, owedSum, kept-start}
 use Rattle.structure_recovery.proofs.RecoverGroupLaws.{recover-group-keeps}
 use Rattle.structure_recovery.proofs.FreshLaws.{owed-total}
@@ -50,22 +52,26 @@ module _ (w : ℕ) (hw : w ≤ 64) (vars : List ℕ) (before : List Row) (ok : r
     extends : Extends w vars before after
     sum : Eqm (2 ^ w) (d + sumRows w vars after) (c + sumRows w vars rows + n)
 
-  abbrev recovered : Tree → List Row → ℕ → Recovery
-  recovered b rows c =
-      recoverGroup w b (record { group = groupOf anyBasis w b 0 before emptyGroup; rows = rows; constant = c })
+  -- the group of the basis b, recovered
+  kept : (b : Tree) → Atom b → (rows : List Row) (c : ℕ) → c < 2 ^ w → Extends w vars before rows
+      → Kept w vars b (groupOf anyBasis w b 0 before emptyGroup) rows c (oneRecovered w before b rows c)
+  kept b hb rows c hc x =
+      let g : Group = groupOf anyBasis w b 0 before emptyGroup in
+      let o = group-of anyBasis w vars b (hb .expr) before most ok in
+      recover-group-keeps w hw vars b hb g rows (x .ok ok) c _
+      (kept-start w vars b g rows c (o .sized)
+      (record { held = λ k l live. held-fresh b rows (at g k) x (o .fresh k l) }) hc)
 
   group-step : (b : Tree) → Atom b → (rows : List Row) (c : ℕ) → c < 2 ^ w → Extends w vars before rows
       → Step (basisSum anyBasis w vars b before) rows c
-      (settle w (recovered b rows c .group) (recovered b rows c .rows)) (recovered b rows c .constant)
+      (settle w (oneRecovered w before b rows c .group) (oneRecovered w before b rows c .rows))
+      (oneRecovered w before b rows c .constant)
   unfolding owedSum
   group-step b hb rows c hc x =
       let g : Group = groupOf anyBasis w b 0 before emptyGroup in
       let o = group-of anyBasis w vars b (hb .expr) before most ok in
-      let r : Recovery = recovered b rows c in
-      let h : Kept w vars b g rows c r =
-      recover-group-keeps w hw vars b hb g rows (x .ok ok) c _
-      (kept-start w vars b g rows c (o .sized)
-      (record { held = λ k l live. held-fresh b rows (at g k) x (o .fresh k l) }) hc) in
+      let r : Recovery = oneRecovered w before b rows c in
+      let h : Kept w vars b g rows c r = kept b hb rows c hc x in
       let s = settled w vars hw (r .group) (r .rows) (λ k l live. h .all-held .held k l live .atom-lt) in
       let begun : owedSum w vars rows g ≡ basisSum anyBasis w vars b before =
       owed-total w hw vars b before g (o .fresh) rows x ∙ o .sum in
@@ -80,6 +86,26 @@ module _ (w : ℕ) (hw : w ≤ 64) (vars : List ℕ) (before : List Row) (ok : r
             (eqm-trans (eqm-add (eqm-refl (sumRows w vars rows)) (h .sum-same))
             (eqm-of-eq (omega (arith, begun)))));
       }
+
+  -- and each group was recovered fairly: rows without a term are added, and live entries have atoms of the table
+  fair : (b : Tree) → Atom b → (rows : List Row) (c : ℕ) → c < 2 ^ w → Extends w vars before rows
+      → Fair rows (oneRecovered w before b rows c)
+  fair b hb rows c hc x =
+      let k = kept b hb rows c hc x in
+      record {
+        fits = k .grown .fits;
+        coeffs = λ f. k .grown .coeffs 256 (fits-length (oneRecovered w before b rows c .rows) f);
+        atoms = λ i li live. k .all-held .held i li live .atom-lt;
+      }
+
+  fair-all : (l : List Tree) (n : ℕ) → risingFrom n l ≡ true → (rows : List Row) (c : ℕ) → c < 2 ^ w
+      → Extends w vars before rows → AllFair w before l rows c
+  unfolding AllFair settledForm
+  fair-all [] n up rows c hc x = tt
+  fair-all (b ∷ l) n up rows c hc x =
+      let p = risen n b l up in
+      let s = group-step b (p .atom) rows c hc x in
+      (fair b (p .atom) rows c hc x, fair-all l (structuralHash b) (p .rest) _ _ (s .fits) (s .extends))
 
   -- the form after all groups of the bases l
   record Ends (l : List Tree) (rows : List Row) (c : ℕ) (f : Form) : Type 0 where
@@ -156,3 +182,14 @@ valid-recover f e t =
 
 pub width-recover : (f : Form) → validForm f ≡ true → recoverForm f .bitwidth ≡ f .bitwidth
 width-recover f e = recover-ends [] f e .width
+
+-- recovering is fair to the rows of a valid form
+pub all-fair : (f : Form) → validForm f ≡ true
+    → AllFair (f .bitwidth) (f .rows) (basesOf anyBasis (f .bitwidth) (f .rows) [])
+    (ungrouped anyBasis (f .bitwidth) (f .rows)) (f .constant)
+all-fair f e =
+    let v = form-parts f e in
+    let w : ℕ = f .bitwidth in
+    fair-all w (v .width-le) [] (f .rows) (v .rows-ok) (v .atoms-le) (basesOf anyBasis w (f .rows) []) 0
+    (bases-rising anyBasis w (f .rows) (v .rows-ok)) (ungrouped anyBasis w (f .rows)) (f .constant) (v .fits)
+    (ungrouped-extends anyBasis w [] (f .rows))

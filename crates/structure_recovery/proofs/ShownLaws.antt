@@ -19,6 +19,7 @@ use Rattle.semilinear.proofs.HoldsLaws.{bareRows, holds-bare, past-more}
 use Rattle.group.specs.Made.{tableOf, Room, Held}
 use Rattle.group.specs.Shown.{Shown}
 use Rattle.structure_recovery.specs.Flattening.{bareRow, Extended}
+use Rattle.structure_recovery.proofs.ConstantLaws.{word-kept, room-kept, held-kept}
 
 -- ---- coefficients
 
@@ -122,35 +123,14 @@ module _ (w : ℕ) (made out coeffs : List ℕ) (r : Room made out) (k : ℕ →
   abbrev with : List ℕ
   with = set made 5 (k (getD made 5 0))
 
-  other-word : (i : ℕ) → i < 5 → getD with i 0 ≡ getD made i 0
-  other-word i h = getD-set-other made 5 i (k (getD made 5 0)) 0 (omega arith)
-
-  table-with : tableOf with ≡ tableOf made
-  unfolding tableOf
-  table-with =
-      simp (
-        other-word 0 (omega arith),
-        other-word 1 (omega arith),
-        other-word 2 (omega arith),
-        other-word 3 (omega arith),
-      )
-
   pub extended-constant : {made′ : List ℕ} → made′ ≡ with → Extended w 0 (λ l. l) k made out coeffs made′ out coeffs
   extended-constant e =
+      let v : ℕ = k (getD made 5 0) in
       rw e record {
-        room = record { words = length-set made 5 (k (getD made 5 0)) ∙ r .words; placed = rw table-with (r .placed) };
-        rows-le = omega (arith, other-word 4 (omega arith));
-        constant = getD-set-same made 5 (k (getD made 5 0)) 0 (omega (arith, r .words));
+        room = room-kept made v r;
+        rows-le = omega (arith, word-kept made v 4 (omega arith));
+        constant = getD-set-same made 5 v 0 (omega (arith, r .words));
         long = refl;
         wide = refl;
-        shown = λ l h.
-            record {
-              held =
-                  record {
-                    holds = rw table-with (h .held .holds);
-                    clean = rw table-with (h .held .clean);
-                    rows = other-word 4 (omega arith) ∙ h .held .rows;
-                  };
-              terms = h .terms;
-            };
+        shown = λ l h. record { held = held-kept made v (h .held); terms = h .terms };
       }

@@ -3,3 +3,6 @@ pub mod RecoverStructure
 pub mod CoalesceTerms
 pub mod FlattenComplexAtoms
 pub mod Flattening
+pub mod Search
+pub mod Showing
+pub mod Recovering

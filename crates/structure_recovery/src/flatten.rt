@@ -81,7 +81,7 @@ fn bits_without(a: u64, b: u64, w: u32) -> u64
 }
 
 // Adds x to the constant among the words of the table.
-fn add_constant(made: &mut [u64], x: u64, w: u32)
+pub fn add_constant(made: &mut [u64], x: u64, w: u32)
     requires { ⌜ length (now made) ≡ 6 ⌝ }
     ensures { λ _. ⌜ now (made .exit)
         ≡ set (now (made .entry)) 5 (modAdd (getD (now (made .entry)) 5 0) x w) ⌝ }

@@ -16,14 +16,13 @@ use Rattle.group.specs.Made.{Room, Stepped, onGroup}
 use Rattle.group.specs.Stages.{cutAndDrop, mergeAll, NoMerge}
 use Rattle.group.specs.Links.{lent, FoundThree}
 use Rattle.group.specs.declared.views.View.{View}
-use Rattle.group.specs.Gathered.{gathered, addWord, settleWords}
+use Rattle.group.specs.Gathered.{addWord, settleWords}
 use Rattle.group.specs.Lone.{loneGroup, Stays}
 use Rattle.group.specs.Shown.{Shown}
 use Rattle.group.proofs.SteppedLaws.{stepped-as, stepped-then, stepped-met}
 use Rattle.group.proofs.StagesLaws.{merge-none}
 use Rattle.group.proofs.FindLaws.{found-lent}
 use Rattle.group.proofs.CollapseLaws.{collapse-same, collapse-met}
-use Rattle.group.proofs.GatherLaws.{len-gathered}
 use Rattle.group.proofs.SettleWordsLaws.{length-settle}
 use Rattle.group.proofs.ShownLaws.{shown-settle}
 use Rattle.group.proofs.LoneLaws.{lone-len, settle-lone, refined-lone}
@@ -95,7 +94,3 @@ pub lone-refined : {w : ℕ} (t : Tree) {g : Group} (v : View) (i : ℕ) {made o
 lone-refined {w} t v i {coeffs = coeffs} hw room lone stays e =
     group-refined t hw (omega arith) (refined-lone v i stays t room) 1 (sym (lone-len v i))
     (e ∙ sym (settle-lone v i w coeffs)) (sym lone)
-
-pub few-entries : (f views : List ℕ) (hash : ℕ) (b : List ℕ) (n : ℕ) {g : Group} → g ≡ gathered f views hash b n → n ≤ 256
-    → g .len ≤ 256
-few-entries f views hash b n e h = omega (arith, ap (λ (k : Group). k .len) e, len-gathered f views hash b n)

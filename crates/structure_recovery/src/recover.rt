@@ -1,0 +1,241 @@
+// Recovering the structure of a semilinear form: the groups in turn.
+use crate::pair;
+use group::Group;
+use group::bases;
+use group::made;
+use group::settle;
+use group::views;
+use semilinear::outcome::Answer;
+use semilinear::outcome::{self};
+use semilinear::pass;
+use semilinear::read;
+ghost use mathlib.Core.Path.{_≡_};
+ghost use mathlib.Core.Bool.{true, false};
+ghost use mathlib.Core.List.{[]};
+ghost use Prim.Native.Nat.{ℕ, _+_, _*_, _^_, _<_, _≤_};
+ghost use lib.ListN.{length, getD};
+ghost use Rattle.record.specs.Put.{padded};
+ghost use Rattle.record.specs.Decode.{decode};
+ghost use Rattle.semilinear.specs.Items.{atomCount, afterAtoms};
+ghost use Rattle.semilinear.specs.Valid.{atomsOk, isSemilinear};
+ghost use Rattle.semilinear.specs.DecodeForm.{rowsOf, readForm};
+ghost use Rattle.semilinear.specs.Answers.{GivesForm};
+ghost use Rattle.semilinear.specs.Compact.{limitOutcome};
+ghost use Rattle.semilinear.specs.Scan.{AtomsEnd};
+ghost use Rattle.group.specs.Made.{Room, Basis};
+ghost use Rattle.group.specs.Group.{anyBasis, basesOf};
+ghost use Rattle.group.specs.Views.{viewAt, basisBytes, InGroup, Views, Readable};
+ghost use Rattle.group.specs.Bases.{firstRows, FirstRows};
+ghost use Rattle.group.specs.Gathered.{gathered};
+ghost use Rattle.structure_recovery.specs.RecoverStructure.{recoverForm, recoverStructure};
+ghost use Rattle.structure_recovery.specs.Recovering.{GroupRecovered, AllRecovered, RowsRecovered};
+
+// One group: the rows, of n, that have the basis b with this hash are gathered, the pairs of entries
+// with complement masks are recovered, and what is left is added to the rows. Where no entry has a
+// partner the group does not move, and to a full table nothing is added.
+fn recover_group(
+    hash: u64,
+    b: &[u8],
+    n: usize,
+    views: &[u64],
+    f: &[u8],
+    w: u8,
+    made: &mut [u64],
+    coeffs: &mut [u64],
+    out: &mut [u8],
+)
+    requires { ⌜ Room (now made) (now out) × Readable (now f) (now views) n × (n ≤ 256)
+        × Basis w hash (now b) × (getD (now made) 4 0 + 256 < 2 ^ 64) × (w ≤ 64) ⌝ }
+    ensures { λ _. ⌜ GroupRecovered w 256 (decode (now (b .entry)))
+        (gathered (now (f .entry)) (now (views .entry)) hash (now (b .entry)) n)
+        (now (made .entry)) (now (out .entry)) (now (coeffs .entry))
+        (now (made .exit)) (now (out .exit)) (now (coeffs .exit)) ⌝ }
+{
+    let mut g = Group::gather(n, hash, b, views, f);
+    let len = g.len;
+    let full = arith::bitmask(w as u32);
+    if pair::any_partner(&g.masks, &g.marks, len, full) {
+        g = pair::recover_entries(g, b, hash, w, made, out);
+    }
+    if made[3] == 1 {
+        return;
+    }
+    settle::settle(&g.coeffs, &g.atoms, &g.marks, len, coeffs, w as u32);
+}
+
+// The group of the basis of row `first`.
+fn recover_at(
+    first: usize,
+    n: usize,
+    views: &[u64],
+    f: &[u8],
+    w: u8,
+    made: &mut [u64],
+    coeffs: &mut [u64],
+    out: &mut [u8],
+)
+    requires { ⌜ Room (now made) (now out) × Readable (now f) (now views) n × (first < n) × (n ≤ 256)
+        × InGroup w (now f) (viewAt (now views) first)
+        × (getD (now made) 4 0 + 256 < 2 ^ 64) × (w ≤ 64) ⌝ }
+    ensures { λ _. ⌜ GroupRecovered w 256
+        (decode (basisBytes (now (f .entry)) (viewAt (now (views .entry)) first)))
+        (gathered (now (f .entry)) (now (views .entry)) (viewAt (now (views .entry)) first .hash)
+        (basisBytes (now (f .entry)) (viewAt (now (views .entry)) first)) n)
+        (now (made .entry)) (now (out .entry)) (now (coeffs .entry))
+        (now (made .exit)) (now (out .exit)) (now (coeffs .exit)) ⌝ }
+{
+    let v = views::VIEW_WORDS * first;
+    let hash = views[v + 1];
+    let start = views[v + 2] as usize;
+    let end = views[v + 3] as usize;
+    recover_group(hash, &f[start..end], n, views, f, w, made, coeffs, out);
+}
+
+// The groups in turn, until the table is full; the first `count` of the words in `bases` name their
+// bases.
+fn recover_all(
+    count: usize,
+    bases: &[u64],
+    n: usize,
+    views: &[u64],
+    f: &[u8],
+    w: u8,
+    made: &mut [u64],
+    coeffs: &mut [u64],
+    out: &mut [u8],
+)
+    requires { ⌜ Room (now made) (now out) × (getD (now made) 4 0 ≤ 256) × (w ≤ 64) × (n ≤ 256)
+        × (n ≡ length (rowsOf 0 (now f) (afterAtoms (now f))))
+        × Views anyBasis w (now f) (now views) (rowsOf 0 (now f) (afterAtoms (now f)))
+        × FirstRows (firstRows (now f) (now views) n) (now bases) (now bases) count ⌝ }
+    ensures { λ _. ⌜ AllRecovered w (rowsOf 0 (now (f .entry)) (afterAtoms (now (f .entry))))
+        (basesOf anyBasis w (rowsOf 0 (now (f .entry)) (afterAtoms (now (f .entry)))) [])
+        (now (made .entry)) (now (out .entry)) (now (coeffs .entry))
+        (now (made .exit)) (now (out .exit)) (now (coeffs .exit)) ⌝ }
+{
+    let mut k = 0;
+    while k < count {
+        if made[3] == 1 {
+            return;
+        }
+        let first = bases[k] as usize;
+        recover_at(first, n, views, f, w, made, coeffs, out);
+        k += 1;
+    }
+}
+
+// The rows of f, whose terms begin at `terms`; `views` and `bases` are room to work in.
+fn recover_rows(
+    f: &[u8],
+    terms: usize,
+    w: u8,
+    views: &mut [u64],
+    bases: &mut [u64],
+    made: &mut [u64],
+    coeffs: &mut [u64],
+    out: &mut [u8],
+)
+    requires { ⌜ (w ≤ 64) × (atomsOk w (now f) ≡ true) × AtomsEnd (now f) terms
+        × (5 * atomCount (now f) ≤ length (now views)) × (atomCount (now f) ≤ length (now bases))
+        × (atomCount (now f) ≤ 256) × (now coeffs ≡ padded 256 [])
+        × Room (now made) (now out) × (getD (now made) 4 0 ≤ 256) ⌝ }
+    ensures { λ _. ⌜ RowsRecovered w (rowsOf 0 (now (f .entry)) (afterAtoms (now (f .entry))))
+        (now (made .entry)) (now (out .entry)) (now (made .exit)) (now (out .exit)) (now (coeffs .exit)) ⌝ }
+{
+    let n = views::read_views(f, terms, w, false, views, coeffs);
+    let count = bases::find_bases(views, n, f, bases);
+    recover_all(count, bases, n, views, f, w, made, coeffs, out);
+}
+
+// The same for at most 16 atoms. Most forms are so short, and clearing long arrays costs.
+fn recover_short(
+    f: &[u8],
+    terms: usize,
+    w: u8,
+    made: &mut [u64],
+    coeffs: &mut [u64],
+    out: &mut [u8],
+)
+    requires { ⌜ (w ≤ 64) × (atomsOk w (now f) ≡ true) × AtomsEnd (now f) terms
+        × (atomCount (now f) ≤ 16) × (now coeffs ≡ padded 256 [])
+        × Room (now made) (now out) × (getD (now made) 4 0 ≤ 256) ⌝ }
+    ensures { λ _. ⌜ RowsRecovered w (rowsOf 0 (now (f .entry)) (afterAtoms (now (f .entry))))
+        (now (made .entry)) (now (out .entry)) (now (made .exit)) (now (out .exit)) (now (coeffs .exit)) ⌝ }
+{
+    let mut views = [0u64; 80];
+    let mut bases = [0u64; 16];
+    recover_rows(f, terms, w, &mut views, &mut bases, made, coeffs, out);
+}
+
+// The same for at most 256 atoms.
+fn recover_long(f: &[u8], terms: usize, w: u8, made: &mut [u64], coeffs: &mut [u64], out: &mut [u8])
+    requires { ⌜ (w ≤ 64) × (atomsOk w (now f) ≡ true) × AtomsEnd (now f) terms
+        × (atomCount (now f) ≤ 256) × (now coeffs ≡ padded 256 [])
+        × Room (now made) (now out) × (getD (now made) 4 0 ≤ 256) ⌝ }
+    ensures { λ _. ⌜ RowsRecovered w (rowsOf 0 (now (f .entry)) (afterAtoms (now (f .entry))))
+        (now (made .entry)) (now (out .entry)) (now (made .exit)) (now (out .exit)) (now (coeffs .exit)) ⌝ }
+{
+    let mut views = [0u64; 1280];
+    let mut bases = [0u64; 256];
+    recover_rows(f, terms, w, &mut views, &mut bases, made, coeffs, out);
+}
+
+// The same for `count` atoms.
+fn recover_table(
+    f: &[u8],
+    terms: usize,
+    count: u64,
+    w: u8,
+    made: &mut [u64],
+    coeffs: &mut [u64],
+    out: &mut [u8],
+)
+    requires { ⌜ (w ≤ 64) × (atomsOk w (now f) ≡ true) × AtomsEnd (now f) terms
+        × (atomCount (now f) ≡ count) × (count ≤ 256) × (now coeffs ≡ padded 256 [])
+        × Room (now made) (now out) × (getD (now made) 4 0 ≤ 256) ⌝ }
+    ensures { λ _. ⌜ RowsRecovered w (rowsOf 0 (now (f .entry)) (afterAtoms (now (f .entry))))
+        (now (made .entry)) (now (out .entry)) (now (made .exit)) (now (out .exit)) (now (coeffs .exit)) ⌝ }
+{
+    if count <= 16 {
+        recover_short(f, terms, w, made, coeffs, out);
+        return;
+    }
+    recover_long(f, terms, w, made, coeffs, out);
+}
+
+// Recovers the structure of a form into a slice of 57,360 bytes, which is all zeros.
+fn recover_form(s: &[u8], out: &mut [u8]) -> Answer
+    requires { ⌜ (isSemilinear (now s) ≡ true) × (now out ≡ padded 57360 []) ⌝ }
+    ensures { λ r. ⌜ GivesForm (limitOutcome (recoverForm (readForm (now (s .entry)))) false) 57360 r (now (out .exit)) ⌝ }
+{
+    let w = record::width(s);
+    let constant = record::literal(s);
+    let tab = pass::copy_atoms(s, out);
+    let terms = tab.at;
+    let count = tab.count;
+    let mut made = [terms as u64, count, tab.records, 0, count, constant];
+    let mut coeffs = [0u64; 256];
+    recover_table(
+        record::body(s),
+        terms,
+        count,
+        w,
+        &mut made,
+        &mut coeffs,
+        out,
+    );
+    let last = made[5];
+    pass::finish(made::load(&made), &coeffs, 1, last, w, false, out)
+}
+
+// The form s with its structure recovered, written to out; or a refusal: 1, 2, 9 or 10.
+pub fn recover_structure(s: &[u8], out: &mut [u8]) -> Answer
+    ensures { λ r. ⌜ GivesForm (recoverStructure (now (s .entry)) (length (now (out .entry))))
+        (length (now (out .entry))) r (now (out .exit)) ⌝ }
+{
+    let number = read::open_bytes(s, out);
+    if number != 0 {
+        return outcome::refusal(number);
+    }
+    recover_form(s, out)
+}
