@@ -4,7 +4,7 @@ ghost use Prim.Native.Nat.{_≤_};
 ghost use Rattle.group.specs.Gathered.{addWord, settleWords};
 
 // c added to word a, where there is one.
-fn add_word(coeffs: &mut [u64], a: u64, c: u64, w: u32)
+pub fn add_word(coeffs: &mut [u64], a: u64, c: u64, w: u32)
     ensures { λ _. ⌜ now (coeffs .exit) ≡ addWord w c a (now (coeffs .entry)) ⌝ }
 {
     let j = a as usize;
