@@ -9,6 +9,8 @@ pub mod RecoverGroupLaws
 pub mod RecoverLaws
 pub mod BitSumLaws
 pub mod CarriedLaws
+mod CarriedInLaws
+mod CarriedToLaws
 pub mod AddedLaws
 pub mod FreshLaws
 pub mod CoalesceLaws

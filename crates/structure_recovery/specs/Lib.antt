@@ -3,3 +3,5 @@ pub mod RecoverStructure
 pub mod CoalesceTerms
 pub mod FlattenComplexAtoms
 pub mod Flattening
+pub mod Showing
+pub mod Coalescing

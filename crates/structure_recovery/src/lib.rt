@@ -1,2 +1,5 @@
 // Recovering structure, coalescing and flattening.
+pub mod bare;
+pub mod carried;
+pub mod coalesce;
 pub mod flatten;
