@@ -7,7 +7,7 @@ use native.Mathlib.Decide.{ℕ-discrete}
 use mathlib.Core.List.{List, [], _∷_, _++_}
 use mathlib.Core.Bool.{true, false}
 use lib.ListN.{length, getD, take, drop, set, length-set, length-drop}
-use lib.Seq.{length-take-le, take-take, getD-take, getD-drop, drop-cons, split-at, set-split, take-set-lt}
+use lib.Seq.{length-take-le, take-take, take-suc, getD-take, getD-drop, drop-cons, split-at, set-split, take-set-lt}
 use lib.Pow.{pow-mono, shl-exact}
 use borrow.Author.Tests.{eq-eqb, ne-eqb, lt-ltb, le-ltb}
 use Rattle.record.proofs.SizedLaws.{false-true}
@@ -57,6 +57,17 @@ module _ (n : ℕ) (carried bits : List ℕ) (lc : n ≤ length carried) (lb : n
   below-in m h k lt =
       subst (λ (x : ℕ). x < m) (getD-take n bits k 0 lt)
       (pairs-below m (take n carried) (take n bits) same-length h k (omega (arith, length-take-le n carried lc)))
+
+-- one entry more
+pub in-next : (n : ℕ) (xs ys : List ℕ) → n < length xs → n < length ys
+    → carriedIn (n + 1) xs ys ≡ carriedIn n xs ys ++ (carried (getD xs n 0) (getD ys n 0) ∷ [])
+unfolding carriedIn pairs
+in-next n xs ys lx ly =
+    let s : n + 1 ≡ suc n = omega arith in
+    rw s
+    (ap₂ pairs (take-suc xs n 0 lx) (take-suc ys n 0 ly)
+    ∙ pairs-append (take n xs) (take n ys) (same-length n xs ys (omega arith) (omega arith)) (getD xs n 0 ∷ [])
+    (getD ys n 0 ∷ []))
 
 -- ---- the place of a coefficient, as the code finds it
 

@@ -11,6 +11,8 @@ pub mod BitSumLaws
 pub mod CarriedLaws
 mod CarriedInLaws
 mod CarriedToLaws
+mod TurnedLaws
+mod CoalesceTurnLaws
 pub mod AddedLaws
 pub mod FreshLaws
 pub mod CoalesceLaws

@@ -1,68 +1,111 @@
+-- `coalesce_group` meets its contract: the table is full, the group is settled, or it is rewritten.
+use mathlib.Core.Path.{refl}
+use native.Mathlib.Omega.{arith}
+use denote.Ref.{now}
+use Rattle.record.specs.Decode.{decode}
+use Rattle.structure_recovery.proofs.TurnedLaws.{is-full, not-full, turned-full}
+use Rattle.structure_recovery.proofs.CoalesceTurnLaws.{group-past, short-turn, many-turn, rewritten-turn}
+use Rattle.structure_recovery.proofs.CoalesceTurnLaws.{carried-count, entries-few, atoms-below, turned-of}
+use borrow.Author.Needs.{needs}
 use Rattle.structure_recovery.proofs.coalesce.coalesce_group.Statement.{statement}
 use Rattle.structure_recovery.proofs.coalesce.coalesce_group.Tie as tie
-use Rattle.structure_recovery.proofs.coalesce.coalesce_group.Reads as reads
-use Rattle.structure_recovery.proofs.coalesce.coalesce_group.Lts as lts
-use Rattle.group.proofs.Group.gather.Reads as gather-reads
-use Rattle.group.proofs.settle.settle.Reads as settle-reads
-use Rattle.structure_recovery.proofs.carried.carried_of.Reads as carried-of-reads
-use Rattle.structure_recovery.proofs.coalesce.put_carried.Reads as put-carried-reads
 
 slice-read-if1 : tie.Need-slice-read-if1
-slice-read-if1 c = ?
+slice-read-if1 c = search needs
 
 returns : tie.Need-returns
-returns c = ?
+returns c =
+    let a = c .before .before .before .before .before .before .before .before .args in
+    turned-full (c .before .before .before .before .before .before .before .before .pre .0) (is-full (now (a .made)) (c .if1 .taken)) (group-past (a .w) (decode (now (a .b))) _)
 
 gather-requires : tie.Need-gather-requires
-gather-requires c κs = ?
+gather-requires c κs = (c .before .before .before .before .before .before .before .before .pre .1, c .before .before .before .before .before .before .before .before .pre .2)
 
 settle-requires : tie.Need-settle-requires
-settle-requires c κs = ?
+settle-requires c κs = let at-start = c .before .before .before .before .before .before .before .before .before .before .before .before .before .before .before in entries-few (now (at-start .args .f)) (now (at-start .args .views)) (at-start .args .hash) (now (at-start .args .b)) (at-start .args .n) (c .before .before .before .before .before .before .gather .ensures) (at-start .pre .2)
 
 same-length : tie.Need-same-length
-same-length c = ?
+same-length c = search needs
 
 returns-2 : tie.Need-returns-2
-returns-2 c = ?
+returns-2 c =
+    let at-start = c .before .before .before .before .before .before .before .before .before .before .before .before .before .before .before .before .before .before in
+    let a = at-start .args in
+    let e = c .before .before .before .before .before .before .before .before .before .gather .ensures in
+    let below = atoms-below (now (a .f)) (now (a .views)) (a .hash) (now (a .b)) (a .n) e (at-start .pre .2) in
+    turned-of e
+    (short-turn (a .w) (decode (now (a .b))) (c .before .before .before .before .before .before .before .before .before .gather .result) (at-start .pre .5) (a .n) below (at-start .pre .0)
+    (not-full (now (a .made)) (c .before .before .before .before .before .before .before .before .before .before .if1 .left)) (c .before .before .settle .ensures) (c .before .before .before .before .before .before .before .before .if2 .taken))
 
 slice-aggregate-carried-of : tie.Need-slice-aggregate-carried-of
-slice-aggregate-carried-of c = ?
+slice-aggregate-carried-of c = search needs
 
 slice-aggregate-carried-of-2 : tie.Need-slice-aggregate-carried-of-2
-slice-aggregate-carried-of-2 c = ?
+slice-aggregate-carried-of-2 c = search needs
 
 carried-of-requires : tie.Need-carried-of-requires
-carried-of-requires c κs = ?
+carried-of-requires c κs =
+    let at-start = c .before .before .before .before .before .before .before .before .before .before .before .before .before .before .before in
+    (entries-few (now (at-start .args .f)) (now (at-start .args .views)) (at-start .args .hash) (now (at-start .args .b)) (at-start .args .n) (c .before .before .before .before .before .before .gather .ensures) (at-start .pre .2), at-start .pre .5, refl, refl)
 
 settle-requires-2 : tie.Need-settle-requires-2
-settle-requires-2 c κs = ?
+settle-requires-2 c κs = let at-start = c .before .before .before .before .before .before .before .before .before .before .before .before .before .before .before .before .before .before .before .before .before .before .before .before in entries-few (now (at-start .args .f)) (now (at-start .args .views)) (at-start .args .hash) (now (at-start .args .b)) (at-start .args .n) (c .before .before .before .before .before .before .before .before .before .before .before .before .before .before .before .gather .ensures) (at-start .pre .2)
 
 same-length-2 : tie.Need-same-length-2
-same-length-2 c = ?
+same-length-2 c = search needs
 
 returns-3 : tie.Need-returns-3
-returns-3 c = ?
+returns-3 c =
+    let at-start = c .before .before .before .before .before .before .before .before .before .before .before .before .before .before .before .before .before .before .before .before .before .before .before .before .before .before .before in
+    let a = at-start .args in
+    let e = c .before .before .before .before .before .before .before .before .before .before .before .before .before .before .before .before .before .before .gather .ensures in
+    let below = atoms-below (now (a .f)) (now (a .views)) (a .hash) (now (a .b)) (a .n) e (at-start .pre .2) in
+    turned-of e
+    (many-turn (a .w) (decode (now (a .b))) (c .before .before .before .before .before .before .before .before .before .before .before .before .before .before .before .before .before .before .gather .result) (at-start .pre .5) (a .n) below (c .before .before .before .before .before .before .before .before .before .before .before .before .before .before .before .before .before .if2 .left)
+    (c .before .before .before .before .before .before .before .before .before .before .before .carried-of .result) (c .before .before .before .before .before .before .before .before .before .before .before .carried-of .ensures) (at-start .pre .0)
+    (not-full (now (a .made)) (c .before .before .before .before .before .before .before .before .before .before .before .before .before .before .before .before .before .before .before .if1 .left)) (c .before .before .settle2 .ensures) (c .before .before .before .before .before .before .before .before .if3 .taken))
 
 slice-aggregate-put-carried : tie.Need-slice-aggregate-put-carried
-slice-aggregate-put-carried c = ?
+slice-aggregate-put-carried c = search needs
 
 slice-aggregate-put-carried-2 : tie.Need-slice-aggregate-put-carried-2
-slice-aggregate-put-carried-2 c = ?
+slice-aggregate-put-carried-2 c = search needs
 
 put-carried-requires : tie.Need-put-carried-requires
-put-carried-requires c κs = ?
+put-carried-requires c κs =
+    let at-start = c .before .before .before .before .before .before .before .before .before .before .before .before .before .before .before .before .before .before .before .before .before .before .before .before in
+    let a = at-start .args in
+    let e = c .before .before .before .before .before .before .before .before .before .before .before .before .before .before .before .gather .ensures in
+    let below = atoms-below (now (a .f)) (now (a .views)) (a .hash) (now (a .b)) (a .n) e (at-start .pre .2) in
+    let few = carried-count (a .w) (decode (now (a .b))) (c .before .before .before .before .before .before .before .before .before .before .before .before .before .before .before .gather .result) (at-start .pre .5) (a .n) below
+    (c .before .before .before .before .before .before .before .before .before .before .before .before .before .before .if2 .left) (c .before .before .before .before .before .before .before .before .carried-of .result) (c .before .before .before .before .before .before .before .before .carried-of .ensures) in
+    let pre = at-start .pre in (
+      pre .0,
+      pre .3,
+      omega (arith, pre .4, few),
+      pre .5,
+      omega (arith, few, c .before .before .before .before .before .before .before .before .carried-of .ensures .long),
+      omega (arith, few, c .before .before .before .before .before .before .before .before .carried-of .ensures .wide),
+    )
 
 same-length-3 : tie.Need-same-length-3
-same-length-3 c = ?
+same-length-3 c = search needs
 
 same-length-4 : tie.Need-same-length-4
-same-length-4 c = ?
+same-length-4 c = search needs
 
 same-length-5 : tie.Need-same-length-5
-same-length-5 c = ?
+same-length-5 c = search needs
 
 returns-4 : tie.Need-returns-4
-returns-4 c = ?
+returns-4 c =
+    let at-start = c .before .before .before .before .before .before .before .before .before .before .before .before .before .before .before .before .before .before .before .before .before .before .before .before .before .before .before .before .before .before .before in
+    let a = at-start .args in
+    let e = c .before .before .before .before .before .before .before .before .before .before .before .before .before .before .before .before .before .before .before .before .before .before .gather .ensures in
+    let below = atoms-below (now (a .f)) (now (a .views)) (a .hash) (now (a .b)) (a .n) e (at-start .pre .2) in
+    turned-of e
+    (rewritten-turn (a .w) (decode (now (a .b))) (c .before .before .before .before .before .before .before .before .before .before .before .before .before .before .before .before .before .before .before .before .before .before .gather .result) (at-start .pre .5) (a .n) below (c .before .before .before .before .before .before .before .before .before .before .before .before .before .before .before .before .before .before .before .before .before .if2 .left)
+    (c .before .before .before .before .before .before .before .before .before .before .before .before .before .before .before .carried-of .result) (c .before .before .before .before .before .before .before .before .before .before .before .before .before .before .before .carried-of .ensures) (c .before .before .before .before .before .before .before .before .before .before .before .before .if3 .left) (c .before .before .before .before .before .before .put-carried .ensures))
 
 pub coalesce-group-spec : {M : Type 1} → statement M
 coalesce-group-spec =

@@ -1,18 +1,22 @@
+-- `put_term` meets its contract: the table is full, the term goes to the basis itself, or to a new masked atom.
+use mathlib.Core.Path.{_∙_, sym}
+use native.Mathlib.Omega.{arith}
+use denote.Ref.{now}
+use Rattle.arith.proofs.WidthLaws.{bitmask-ones}
+use Rattle.record.specs.Decode.{decode}
+use Rattle.structure_recovery.proofs.TurnedLaws.{row-past, is-full, not-full, turned-full, term-bare, term-masked}
 use borrow.Author.Needs.{needs}
 use Rattle.structure_recovery.proofs.coalesce.put_term.Statement.{statement}
 use Rattle.structure_recovery.proofs.coalesce.put_term.Tie as tie
-use Rattle.structure_recovery.proofs.coalesce.put_term.Reads as reads
-use Rattle.structure_recovery.proofs.coalesce.put_term.Lts as lts
-use Rattle.arith.proofs.bitmask.Reads as bitmask-reads
-use Rattle.group.proofs.made.create_masked.Reads as create-masked-reads
-use Rattle.group.proofs.settle.add_word.Reads as add-word-reads
-use Rattle.structure_recovery.proofs.bare.find_or_create_bare.Reads as find-or-create-bare-reads
 
 slice-read-if1 : tie.Need-slice-read-if1
 slice-read-if1 c = search needs
 
 returns : tie.Need-returns
-returns c = ?
+returns c =
+    let a = c .before .before .before .before .before .before .args in
+    turned-full (c .before .before .before .before .before .before .pre .0) (is-full (now (a .made)) (c .if1 .taken))
+    (λ l. row-past (a .w) (decode (now (a .b))) (a .c) (a .m) l)
 
 bitmask-requires : tie.Need-bitmask-requires
 bitmask-requires c κs = search needs
@@ -33,7 +37,12 @@ same-length-3 : tie.Need-same-length-3
 same-length-3 c = search needs
 
 returns-2 : tie.Need-returns-2
-returns-2 c = ?
+returns-2 c =
+    let a = c .before .before .before .before .before .before .before .before .before .before .before .before .before .before .before .before .before .before .before .args in
+    let hw = c .before .before .before .before .before .before .before .before .before .before .before .before .before .before .before .before .before .before .before .pre .3 in
+    term-bare (a .w) (a .c) (a .m) (decode (now (a .b))) hw (not-full (now (a .made)) (c .before .before .before .before .before .before .before .before .before .before .before .before .before .if1 .left)) _
+    (c .before .before .before .before .before .before .before .before .before .before .before .if2 .taken ∙ c .before .before .before .before .before .before .before .before .before .before .before .before .bitmask .ensures ∙ bitmask-ones (a .w) hw) (c .before .before .before .before .before .before .before .before .find-or-create-bare .ensures)
+    (c .before .before .add-word .ensures)
 
 slice-read-row : tie.Need-slice-read-row
 slice-read-row c = search needs
@@ -54,7 +63,12 @@ same-length-6 : tie.Need-same-length-6
 same-length-6 c = search needs
 
 returns-3 : tie.Need-returns-3
-returns-3 c = ?
+returns-3 c =
+    let a = c .before .before .before .before .before .before .before .before .before .before .before .before .before .before .before .before .before .before .before .before .args in
+    let hw = c .before .before .before .before .before .before .before .before .before .before .before .before .before .before .before .before .before .before .before .before .pre .3 in
+    term-masked (a .w) (a .c) (a .m) (decode (now (a .b))) hw (not-full (now (a .made)) (c .before .before .before .before .before .before .before .before .before .before .before .before .before .before .if1 .left))
+    (λ e. c .before .before .before .before .before .before .before .before .before .before .before .before .if2 .left (e ∙ sym (c .before .before .before .before .before .before .before .before .before .before .before .before .before .bitmask .ensures ∙ bitmask-ones (a .w) hw))) (c .before .before .before .before .before .before .before .before .create-masked .ensures)
+    (c .before .before .add-word2 .ensures)
 
 pub put-term-spec : {M : Type 1} → statement M
 put-term-spec =
