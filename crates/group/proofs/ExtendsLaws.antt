@@ -1,6 +1,6 @@
 -- Tables that hold the rows of another, with the same trees under the same numbers, whatever the coefficients: what a
 -- pass makes of a form, group by group.
-use mathlib.Core.Path.{_≡_, refl, ap, _∙_}
+use mathlib.Core.Path.{_≡_, refl, ap, ap₂, _∙_}
 use Prim.Native.Nat.{ℕ, zero, suc, _≤_, _<_}
 use native.Mathlib.Omega.{arith}
 use lib.Pow.{pow-pos}
@@ -13,6 +13,7 @@ use Rattle.group.specs.declared.Group.{Group}
 use Rattle.semilinear.specs.Form.{Row, rowsOk}
 use Rattle.semilinear.specs.Decompose.{Decomposed, opaque, masked}
 use Rattle.group.specs.Group.{viewRow, ungrouped}
+use Rattle.semilinear.proofs.HoldsLaws.{bareRows}
 use Rattle.semilinear.proofs.FormLaws.{Good, good-row, rows-cons}
 use Rattle.group.proofs.WorkLaws.{rowValue, Grown}
 use Rattle.group.proofs.SettleLaws.{Settled}
@@ -53,6 +54,7 @@ module _ (only : Tree → Bool) (w : ℕ) where
     first : Row
     rest : ungrouped only w (x ∷ l) ≡ first ∷ ungrouped only w l
     tree-same : first .tree ≡ x .tree
+    bare-same : bare first ≡ bare x
     good : Good w x → Good w first
 
   head : (x : Row) (l : List Row) → Head x l
@@ -60,14 +62,27 @@ module _ (only : Tree → Bool) (w : ℕ) where
   head x l = go (viewRow only w x) refl
     where
       go : (d : Decomposed) → viewRow only w x ≡ d → Head x l
-      go opaque e = record { first = x; rest = simp e; tree-same = refl; good = λ g. g }
+      go opaque e = record { first = x; rest = simp e; tree-same = refl; bare-same = refl; good = λ g. g }
       go (masked b m) e =
           record {
             first = bare x;
             rest = simp e;
             tree-same = refl;
+            bare-same = refl;
             good = λ g. record { known = g .known; atom = g .atom; fits = pow-pos w };
           }
+
+  pub ungrouped-length : (l : List Row) → length (ungrouped only w l) ≡ length l
+  unfolding ungrouped
+  ungrouped-length [] = refl
+  ungrouped-length (x ∷ l) = ap suc (ungrouped-length l)
+
+  pub ungrouped-bare : (l : List Row) → bareRows (ungrouped only w l) ≡ bareRows l
+  unfolding bareRows ungrouped
+  ungrouped-bare [] = refl
+  ungrouped-bare (x ∷ l) =
+      let h = head x l in
+      ap bareRows (h .rest) ∙ ap₂ (λ (y : Row) (m : List Row). y ∷ m) (h .bare-same) (ungrouped-bare l)
 
   module _ (vars : List ℕ) where
     ungrouped-value : (l : List Row) (j : ℕ) → rowValue w vars (ungrouped only w l) j ≡ rowValue w vars l j
@@ -79,11 +94,6 @@ module _ (only : Tree → Bool) (w : ℕ) where
     ungrouped-value (x ∷ l) (suc j) =
         let h = head x l in
         ap (λ (u : List Row). rowValue w vars u (suc j)) (h .rest) ∙ ungrouped-value l j
-
-    ungrouped-length : (l : List Row) → length (ungrouped only w l) ≡ length l
-    unfolding ungrouped
-    ungrouped-length [] = refl
-    ungrouped-length (x ∷ l) = ap suc (ungrouped-length l)
 
     ungrouped-ok : (l : List Row) → rowsOk w l ≡ true → rowsOk w (ungrouped only w l) ≡ true
     unfolding rowsOk ungrouped

@@ -32,4 +32,4 @@ pub mod GatherLaws
 pub mod SettleWordsLaws
 pub mod ShownLaws
 pub mod NextBasisLaws
-pub mod BasesTurnLaws
+pub mod PassLaws

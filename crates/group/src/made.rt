@@ -35,7 +35,7 @@ fn flag(full: bool) -> u64
 }
 
 // The table's words with this table, and one row more.
-fn store(made: &mut [u64], tab: Table)
+pub fn store(made: &mut [u64], tab: Table)
     requires { ⌜ (length (now made) ≡ 6) × (getD (now made) 4 0 + 1 < 2 ^ 64) ⌝ }
     ensures { λ _. ⌜ now (made .exit)
         ≡ wordsOf tab (getD (now (made .entry)) 4 0 + 1) (getD (now (made .entry)) 5 0) ⌝ }

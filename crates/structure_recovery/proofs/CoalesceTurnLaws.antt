@@ -17,14 +17,14 @@ use Rattle.group.specs.Group.{at, isLive, emptyGroup, variableBasis, groupOf, s
 use Rattle.group.specs.Made.{tableOf, Room}
 use Rattle.group.specs.Links.{lent}
 use Rattle.group.specs.Gathered.{gathered, settleWords}
-use Rattle.group.proofs.GatherLaws.{len-gathered, gathered-atoms}
+use Rattle.group.proofs.GatherLaws.{gathered-atoms}
 use Rattle.group.proofs.SettleWordsLaws.{length-settle}
 use Rattle.group.proofs.ShownLaws.{settle-fits, settle-length, shown-settle}
 use Rattle.structure_recovery.specs.CoalesceTerms.{Carried, carriedOf, carriedRows, coalesceGroup, coalesceAll}
 use Rattle.structure_recovery.specs.Showing.{Shows}
-use Rattle.structure_recovery.specs.Coalescing.{carriedIn, IsCarried, Turned}
+use Rattle.structure_recovery.specs.Coalescing.{carriedIn, IsCarried, Coalesced}
 use Rattle.structure_recovery.proofs.CarriedToLaws.{carried-few, carried-lent}
-use Rattle.structure_recovery.proofs.TurnedLaws.{rows-past, rows-longer, shows-shown, turned-as, turned-then}
+use Rattle.structure_recovery.proofs.NewTermsLaws.{rows-past, rows-longer, shows-shown, coalesced-as, coalesced-then}
 
 -- ---- one group
 
@@ -58,15 +58,24 @@ module _ (w : ℕ) (t : Tree) (g : Group) where
   unfolding coalesceGroup
   rewritten two h l = simp (le-ltb (g .len) 2 two, lt-leb (g .len) entries h)
 
-  module _ {made out coeffs : List ℕ} (hw : w ≤ 64) (n : ℕ)
-      (below : (k : ℕ) → k < g .len → at g k .atom < n) where
+  -- what the bits of the group carry, as the code finds it
+  module _ (hw : w ≤ 64) {carried₀ bits₀ carried bits : List ℕ} {r : ℕ}
+      (c : IsCarried (carriedOf w (lent (g .coeffs) (g .masks) [] (g .len))) carried₀ bits₀ carried bits r) where
+    count-is : r ≡ entries
+    count-is = c .count ∙ ap length (carried-lent w g)
+
+    pub carried-count : r ≤ 64
+    unfolding carriedOf
+    carried-count = omega (arith, count-is, carried-few w g w)
+
+  module _ (made out coeffs : List ℕ) (hw : w ≤ 64) (n : ℕ) (below : (k : ℕ) → k < g .len → at g k .atom < n)
+      (room : Room made out) (more : tableOf made .full ≡ false) where
     -- the group is settled
-    settled-turn : {coeffs′ : List ℕ} → Room made out → tableOf made .full ≡ false
-        → coeffs′ ≡ settleWords w (g .coeffs) (g .atoms) (g .marks) (g .len) coeffs
+    settled-turn : {coeffs′ : List ℕ} → coeffs′ ≡ settleWords w (g .coeffs) (g .atoms) (g .marks) (g .len) coeffs
         → ((l : List Row) → coalesceGroup w t g l ≡ settle w g l)
-        → Turned w n 64 (coalesceGroup w t g) made out coeffs made out coeffs′
+        → Coalesced w n 64 (coalesceGroup w t g) made out coeffs made out coeffs′
     unfolding settleWords
-    settled-turn room more e is =
+    settled-turn e is =
         record {
           room = room;
           rows-le = omega arith;
@@ -79,49 +88,37 @@ module _ (w : ℕ) (t : Tree) (g : Group) where
               (shown-settle w g l hw (λ k lt _. omega (arith, below k lt, le)) (h .held) (h .terms) e));
         }
 
-    pub short-turn : {coeffs′ : List ℕ} → Room made out → tableOf made .full ≡ false
-        → coeffs′ ≡ settleWords w (g .coeffs) (g .atoms) (g .marks) (g .len) coeffs → g .len < 2
-        → Turned w n 64 (coalesceGroup w t g) made out coeffs made out coeffs′
-    short-turn room more e h = settled-turn room more e (short-settled h)
+    pub short-turn : {coeffs′ : List ℕ} → coeffs′ ≡ settleWords w (g .coeffs) (g .atoms) (g .marks) (g .len) coeffs
+        → g .len < 2 → Coalesced w n 64 (coalesceGroup w t g) made out coeffs made out coeffs′
+    short-turn e h = settled-turn e (short-settled h)
 
-    -- what the bits of the group carry, as the code finds it
-    module _ (two : 2 ≤ g .len) {carried₀ bits₀ carried bits : List ℕ} (r : ℕ)
+    module _ (two : 2 ≤ g .len) {carried₀ bits₀ carried bits : List ℕ} {r : ℕ}
         (c : IsCarried (carriedOf w (lent (g .coeffs) (g .masks) [] (g .len))) carried₀ bits₀ carried bits r) where
-      count-is : r ≡ entries
-      count-is = c .count ∙ ap length (carried-lent w g)
+      pub many-turn : {coeffs′ : List ℕ} → coeffs′ ≡ settleWords w (g .coeffs) (g .atoms) (g .marks) (g .len) coeffs
+          → g .len ≤ r → Coalesced w n 64 (coalesceGroup w t g) made out coeffs made out coeffs′
+      many-turn e h = settled-turn e (many-settled two (omega (arith, count-is hw c, h)))
 
-      pub carried-count : r ≤ 64
-      unfolding carriedOf
-      carried-count = omega (arith, count-is, carried-few w g w)
-
-      pub many-turn : {coeffs′ : List ℕ} → Room made out → tableOf made .full ≡ false
-          → coeffs′ ≡ settleWords w (g .coeffs) (g .atoms) (g .marks) (g .len) coeffs → g .len ≤ r
-          → Turned w n 64 (coalesceGroup w t g) made out coeffs made out coeffs′
-      many-turn room more e h = settled-turn room more e (many-settled two (omega (arith, count-is)))
-
+      -- or rewritten
       pub rewritten-turn : r < g .len → {made′ out′ coeffs′ : List ℕ}
-          → Turned w 0 r (carriedRows w t (carriedIn r carried bits)) made out coeffs made′ out′ coeffs′
-          → Turned w n 64 (coalesceGroup w t g) made out coeffs made′ out′ coeffs′
+          → Coalesced w 0 r (carriedRows w t (carriedIn r carried bits)) made out coeffs made′ out′ coeffs′
+          → Coalesced w n 64 (coalesceGroup w t g) made out coeffs made′ out′ coeffs′
       rewritten-turn h p =
-          turned-as (omega arith) carried-count
+          coalesced-as (omega arith) (carried-count hw c)
           (λ l. ap (λ (x : List Carried). carriedRows w t x l) (c .are ∙ carried-lent w g)
-          ∙ sym (rewritten two (omega (arith, count-is)) l)) p
+          ∙ sym (rewritten two (omega (arith, count-is hw c, h)) l)) p
 
 -- the group that was gathered
 module _ (f views : List ℕ) (hash : ℕ) (b : List ℕ) (n : ℕ) {g : Group} (e : g ≡ gathered f views hash b n)
     (most : n ≤ 256) where
-  pub entries-few : g .len ≤ 256
-  entries-few = rw e (let few : gathered f views hash b n .len ≤ 256 = omega (arith, len-gathered f views hash b n) in few)
-
   pub atoms-below : (k : ℕ) → k < g .len → at g k .atom < n
   atoms-below = rw e (gathered-atoms f views hash b n most)
 
 -- the same of the group by its name
-pub turned-of : {w m n : ℕ} {t : Tree} {g h : Group} {made out coeffs made′ out′ coeffs′ : List ℕ} → g ≡ h
-    → Turned w m n (coalesceGroup w t g) made out coeffs made′ out′ coeffs′
-    → Turned w m n (coalesceGroup w t h) made out coeffs made′ out′ coeffs′
-turned-of {w} {m} {n} {t} {made = made} {out} {coeffs} {made′} {out′} {coeffs′} e p =
-    subst (λ (g : Group). Turned w m n (coalesceGroup w t g) made out coeffs made′ out′ coeffs′) e p
+pub coalesced-of : (w m n : ℕ) (t : Tree) {g h : Group} {made out coeffs made′ out′ coeffs′ : List ℕ} → g ≡ h
+    → Coalesced w m n (coalesceGroup w t g) made out coeffs made′ out′ coeffs′
+    → Coalesced w m n (coalesceGroup w t h) made out coeffs made′ out′ coeffs′
+coalesced-of w m n t {made = made} {out} {coeffs} {made′} {out′} {coeffs′} e p =
+    subst (λ (g : Group). Coalesced w m n (coalesceGroup w t g) made out coeffs made′ out′ coeffs′) e p
 
 -- ---- the groups in turn
 
@@ -157,25 +154,25 @@ module _ (w : ℕ) (hw : w ≤ 64) (before : List Row) where
 
   module _ (bases : List Tree) (n : ℕ) {made₀ out₀ coeffs₀ : List ℕ} where
     pub all-none : Room made₀ out₀
-        → Turned w n 0 (coalesceAll w before (take 0 bases)) made₀ out₀ coeffs₀ made₀ out₀ coeffs₀
+        → Coalesced w n 0 (coalesceAll w before (take 0 bases)) made₀ out₀ coeffs₀ made₀ out₀ coeffs₀
     unfolding coalesceAll
     all-none room = record { room = room; rows-le = omega arith; long = refl; wide = refl; shows = λ l _ s. s }
 
     module _ (k : ℕ) {made out coeffs : List ℕ}
-        (p : Turned w n (k * 64) (coalesceAll w before (take k bases)) made₀ out₀ coeffs₀ made out coeffs) where
+        (p : Coalesced w n (k * 64) (coalesceAll w before (take k bases)) made₀ out₀ coeffs₀ made out coeffs) where
       pub all-next : {b : Tree} {g : Group} {made′ out′ coeffs′ : List ℕ} → drop k bases ≡ b ∷ drop (k + 1) bases
           → g ≡ groupOf variableBasis w b 0 before emptyGroup
-          → Turned w n 64 (coalesceGroup w b g) made out coeffs made′ out′ coeffs′
-          → Turned w n ((k + 1) * 64) (coalesceAll w before (take (k + 1) bases)) made₀ out₀ coeffs₀ made′ out′ coeffs′
+          → Coalesced w n 64 (coalesceGroup w b g) made out coeffs made′ out′ coeffs′
+          → Coalesced w n ((k + 1) * 64) (coalesceAll w before (take (k + 1) bases)) made₀ out₀ coeffs₀ made′ out′ coeffs′
       all-next {b} next own q =
-          turned-as (omega arith) (omega arith)
+          coalesced-as (omega arith) (omega arith)
           (λ l. sym (ap (λ (x : List Tree). coalesceAll w before x l) (take-next bases k next)
           ∙ all-last (take k bases) b l))
-          (turned-then (λ l le. omega (arith, le, all-longer (take k bases) l)) p (turned-of own q))
+          (coalesced-then (λ l le. omega (arith, le, all-longer (take k bases) l)) p (coalesced-of w n 64 b own q))
 
       pub all-done : k ≤ 256 → drop k bases ≡ []
-          → Turned w n 16384 (coalesceAll w before bases) made₀ out₀ coeffs₀ made out coeffs
+          → Coalesced w n 16384 (coalesceAll w before bases) made₀ out₀ coeffs₀ made out coeffs
       all-done few none =
           let short : length bases ≤ k = omega (arith, length-drop k bases, ap length none) in
-          turned-as (omega arith) (omega arith)
+          coalesced-as (omega arith) (omega arith)
           (λ l. ap (λ (x : List Tree). coalesceAll w before x l) (take-all k bases short)) p

@@ -9,10 +9,6 @@ pub mod RecoverGroupLaws
 pub mod RecoverLaws
 pub mod BitSumLaws
 pub mod CarriedLaws
-mod CarriedInLaws
-mod CarriedToLaws
-mod TurnedLaws
-mod CoalesceTurnLaws
 pub mod AddedLaws
 pub mod FreshLaws
 pub mod CoalesceLaws
@@ -24,3 +20,11 @@ mod FlatTurnLaws
 mod KeptRowsLaws
 mod FlatWalkLaws
 mod FlatFormLaws
+mod SearchLaws
+mod BareFoundLaws
+mod XoredLaws
+mod CarriedInLaws
+mod CarriedToLaws
+mod NewTermsLaws
+mod CoalesceTurnLaws
+mod CoalescedLaws

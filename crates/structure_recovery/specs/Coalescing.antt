@@ -51,7 +51,7 @@ carriedRow w b c m rows =
     (λ _. addCoeff w c (length rows) (createMasked w b m rows))
 
 -- a turn: F on the rows, of which there are m or more, and at most n more then
-pub record Turned (w m n : ℕ) (F : List Row → List Row) (made out coeffs made′ out′ coeffs′ : List ℕ) : Type 0 where
+pub record Coalesced (w m n : ℕ) (F : List Row → List Row) (made out coeffs made′ out′ coeffs′ : List ℕ) : Type 0 where
   pub room : Room made′ out′
   pub rows-le : getD made′ 4 0 ≤ getD made 4 0 + n
   pub long : length out′ ≡ length out

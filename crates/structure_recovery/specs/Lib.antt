@@ -3,5 +3,7 @@ pub mod RecoverStructure
 pub mod CoalesceTerms
 pub mod FlattenComplexAtoms
 pub mod Flattening
+pub mod Search
 pub mod Showing
+pub mod Recovering
 pub mod Coalescing

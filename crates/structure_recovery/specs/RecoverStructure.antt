@@ -11,7 +11,7 @@ use Rattle.record.specs.Choice.{when}
 use Rattle.record.specs.Tree.{Tree}
 use Rattle.record.specs.Tree.Tree.{Constant, Binary}
 use Rattle.group.specs.declared.Group.{Group}
-use Rattle.semilinear.specs.Form.{Row, Form, eqTree}
+use Rattle.semilinear.specs.Form.{xorFamily, mixedFamily, Row, Form, eqTree}
 use Rattle.record.specs.Loop.{forIn, firstIn}
 use Rattle.group.specs.Group.{Entry, at, putEntry, consumed, emptyGroup, createRow}
 use Rattle.group.specs.Group.{anyBasis, basesOf, groupOf, ungrouped, settle}
@@ -31,7 +31,7 @@ rowWith w t i (x ∷ l) = when (eqTree w (x .tree) t) (λ _. i) (λ _. rowWith w
 
 -- `find_or_create_bare_atom` (90-114): the rows in which the tree t has the number `rowWith`; a new one is Mixed
 unfoldable pub withBare : ℕ → Tree → List Row → List Row
-withBare w t rows = when (ltb (rowWith w t 0 rows) (length rows)) (λ _. rows) (λ _. createRow 4 t rows)
+withBare w t rows = when (ltb (rowWith w t 0 rows) (length rows)) (λ _. rows) (λ _. createRow mixedFamily t rows)
 
 -- ---- one pair
 
@@ -45,7 +45,7 @@ recoverXor w b src dst x =
           (putEntry (x .group) src
           (record { coeff = at (x .group) dst .coeff; mask = 2 ^ w - 1; atom = length (x .rows); mark = 3 }))
           dst (consumed (at (x .group) dst));
-      rows = createRow 2 (Binary 6 (Constant (at (x .group) src .mask)) b) (x .rows);
+      rows = createRow xorFamily (Binary 6 (Constant (at (x .group) src .mask)) b) (x .rows);
       constant = modAdd (x .constant) (modMul (at (x .group) src .coeff) (at (x .group) src .mask) w) w;
     }
 

@@ -30,7 +30,7 @@ ghost use Rattle.group.specs.Bases.{firstRows, FirstRows};
 ghost use Rattle.group.specs.Gathered.{gathered};
 ghost use Rattle.structure_recovery.specs.CoalesceTerms.{carriedRows, coalesceGroup, coalesceAll};
 ghost use Rattle.structure_recovery.specs.CoalesceTerms.{coalesceForm, coalesceTerms};
-ghost use Rattle.structure_recovery.specs.Coalescing.{carriedIn, carriedRow, Turned, RowsCoalesced};
+ghost use Rattle.structure_recovery.specs.Coalescing.{carriedIn, carriedRow, Coalesced, RowsCoalesced};
 
 // One new term: a new masked atom, or the basis itself for all bits. A full table stays as it is.
 fn put_term(
@@ -45,7 +45,7 @@ fn put_term(
 )
     requires { ⌜ Room (now made) (now out) × Basis w hash (now b)
         × (getD (now made) 4 0 + 1 < 2 ^ 64) × (w ≤ 64) ⌝ }
-    ensures { λ _. ⌜ Turned w 0 1 (carriedRow w (decode (now (b .entry))) c m)
+    ensures { λ _. ⌜ Coalesced w 0 1 (carriedRow w (decode (now (b .entry))) c m)
         (now (made .entry)) (now (out .entry)) (now (coeffs .entry))
         (now (made .exit)) (now (out .exit)) (now (coeffs .exit)) ⌝ }
 {
@@ -77,7 +77,7 @@ fn put_carried(
     requires { ⌜ Room (now made) (now out) × Basis w hash (now b)
         × (getD (now made) 4 0 + count < 2 ^ 64) × (w ≤ 64)
         × (count ≤ length (now carried)) × (count ≤ length (now bits)) ⌝ }
-    ensures { λ _. ⌜ Turned w 0 count (carriedRows w (decode (now (b .entry)))
+    ensures { λ _. ⌜ Coalesced w 0 count (carriedRows w (decode (now (b .entry)))
         (carriedIn count (now (carried .entry)) (now (bits .entry))))
         (now (made .entry)) (now (out .entry)) (now (coeffs .entry))
         (now (made .exit)) (now (out .exit)) (now (coeffs .exit)) ⌝ }
@@ -104,7 +104,7 @@ fn coalesce_group(
 )
     requires { ⌜ Room (now made) (now out) × Readable (now f) (now views) n × (n ≤ 256)
         × Basis w hash (now b) × (getD (now made) 4 0 + 64 < 2 ^ 64) × (w ≤ 64) ⌝ }
-    ensures { λ _. ⌜ Turned w n 64 (coalesceGroup w (decode (now (b .entry)))
+    ensures { λ _. ⌜ Coalesced w n 64 (coalesceGroup w (decode (now (b .entry)))
         (gathered (now (f .entry)) (now (views .entry)) hash (now (b .entry)) n))
         (now (made .entry)) (now (out .entry)) (now (coeffs .entry))
         (now (made .exit)) (now (out .exit)) (now (coeffs .exit)) ⌝ }
@@ -142,7 +142,7 @@ fn coalesce_at(
     requires { ⌜ Room (now made) (now out) × Readable (now f) (now views) n × (first < n) × (n ≤ 256)
         × InGroup w (now f) (viewAt (now views) first)
         × (getD (now made) 4 0 + 64 < 2 ^ 64) × (w ≤ 64) ⌝ }
-    ensures { λ _. ⌜ Turned w n 64
+    ensures { λ _. ⌜ Coalesced w n 64
         (coalesceGroup w (decode (basisBytes (now (f .entry)) (viewAt (now (views .entry)) first)))
         (gathered (now (f .entry)) (now (views .entry)) (viewAt (now (views .entry)) first .hash)
         (basisBytes (now (f .entry)) (viewAt (now (views .entry)) first)) n))
@@ -172,7 +172,7 @@ fn coalesce_all(
         × (n ≡ length (rowsOf 0 (now f) (afterAtoms (now f))))
         × Views variableBasis w (now f) (now views) (rowsOf 0 (now f) (afterAtoms (now f)))
         × FirstRows (firstRows (now f) (now views) n) (now bases) (now bases) count ⌝ }
-    ensures { λ _. ⌜ Turned w n 16384
+    ensures { λ _. ⌜ Coalesced w n 16384
         (coalesceAll w (rowsOf 0 (now (f .entry)) (afterAtoms (now (f .entry))))
         (basesOf variableBasis w (rowsOf 0 (now (f .entry)) (afterAtoms (now (f .entry)))) []))
         (now (made .entry)) (now (out .entry)) (now (coeffs .entry))

@@ -3,3 +3,4 @@ pub mod bare;
 pub mod carried;
 pub mod coalesce;
 pub mod flatten;
+pub mod xored;

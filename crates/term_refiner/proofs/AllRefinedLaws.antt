@@ -4,21 +4,13 @@ use mathlib.Core.Path.{_≡_, refl, ap, sym, subst, _∙_}
 use Prim.Native.Nat.{ℕ, _+_, _*_, _≤_, _<_}
 use native.Mathlib.Omega.{arith}
 use mathlib.Core.List.{List, [], _∷_}
-use lib.ListN.{length, getD, drop, length-take}
+use lib.ListN.{length, getD, drop}
 use Rattle.record.specs.Tree.{Tree}
-use Rattle.record.specs.Decode.{decode}
 use Rattle.semilinear.specs.Form.{Row}
 use Rattle.group.specs.declared.Group.{Group}
-use Rattle.group.specs.Group.{work, emptyGroup, anyBasis, basesOf, groupOf}
-use Rattle.group.specs.Made.{Room, Basis}
+use Rattle.group.specs.Group.{work, emptyGroup, anyBasis, groupOf}
+use Rattle.group.specs.Made.{Room}
 use Rattle.group.specs.Shown.{Shown}
-use Rattle.group.specs.Views.{viewAt, basisBytes, Views, Readable}
-use Rattle.group.specs.Bases.{firstRows, FirstRows}
-use Rattle.group.specs.Gathered.{gathered}
-use Rattle.group.proofs.GatherLaws.{gather-group}
-use Rattle.group.proofs.HasBasisLaws.{readable}
-use Rattle.group.proofs.FirstRowsLaws.{first-rows}
-use Rattle.group.proofs.NextBasisLaws.{NextBasis, next-basis, bases-end}
 use Rattle.term_refiner.specs.RefineTerms.{refineGroup, refineAll}
 use Rattle.term_refiner.specs.Refining.{Fair, settledRows, GroupRefined, oneRefined, AllFair, AllRefined}
 
@@ -86,35 +78,3 @@ module _ (w : ℕ) (before : List Row) (bases : List Tree) where
               let same : s .rows ≡ refineAll w before bases l = rw none at (s .same) in
               rw (← same) (s .shown);
         }
-
--- ---- the bases, as the code finds them
-
-module _ (w : ℕ) (f views bases : List ℕ) (rows : List Row) (n count : ℕ) (e : n ≡ length rows)
-    (h : Views anyBasis w f views rows) (s : FirstRows (firstRows f views n) bases bases count) where
-  pub readable-at : Readable f views n
-  readable-at = rw e (readable h)
-
-  pub count-few : count ≤ n
-  count-few = omega (arith, s .count, first-rows f views n .few)
-
-  pub count-room : count ≤ length bases
-  count-room = omega (arith, s .count, ap length (s .rows-are), length-take count bases)
-
-  found : FirstRows (firstRows f views (length rows)) bases bases count
-  found = rw e at s
-
-  pub next-at : (k : ℕ) → k < count → NextBasis anyBasis w f views rows k (getD bases k 0)
-  next-at k lt = next-basis anyBasis w f views rows h found k lt
-
-  pub end-at : (k : ℕ) → count ≤ k → drop k (basesOf anyBasis w rows []) ≡ []
-  end-at k le = bases-end anyBasis w f views rows h found k le
-
-  -- the group of a basis
-  pub group-at : (k : ℕ) → k < count
-      → gathered f views (viewAt views (getD bases k 0) .hash) (basisBytes f (viewAt views (getD bases k 0))) n
-      ≡ groupOf anyBasis w (decode (basisBytes f (viewAt views (getD bases k 0)))) 0 rows emptyGroup
-  group-at k lt =
-      let x : ℕ = getD bases k 0 in
-      let own : Basis w (viewAt views x .hash) (basisBytes f (viewAt views x)) = next-at k lt .group .basis in
-      ap (gathered f views (viewAt views x .hash) (basisBytes f (viewAt views x))) e
-      ∙ gather-group f views (viewAt views x .hash) (basisBytes f (viewAt views x)) anyBasis w rows h own

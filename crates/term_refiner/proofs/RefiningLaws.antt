@@ -15,13 +15,12 @@ use Rattle.group.specs.Collapse.{collapseAt, threeTermCollapse}
 use Rattle.group.specs.Made.{Room, Stepped, onGroup}
 use Rattle.group.specs.Stages.{cutAndDrop, mergeAll, NoMerge}
 use Rattle.group.specs.Links.{lent, FoundThree}
-use Rattle.group.specs.Gathered.{gathered, settleWords}
+use Rattle.group.specs.Gathered.{settleWords}
 use Rattle.group.specs.Shown.{Shown}
 use Rattle.group.proofs.SteppedLaws.{stepped-as, stepped-then, stepped-met}
 use Rattle.group.proofs.StagesLaws.{merge-none}
 use Rattle.group.proofs.FindLaws.{found-lent}
 use Rattle.group.proofs.CollapseLaws.{collapse-same, collapse-met}
-use Rattle.group.proofs.GatherLaws.{len-gathered}
 use Rattle.group.proofs.SettleWordsLaws.{length-settle}
 use Rattle.group.proofs.ShownLaws.{shown-settle}
 use Rattle.term_refiner.specs.RefineTerms.{refineGroup}
@@ -84,7 +83,3 @@ module _ {w n : ℕ} (t : Tree) {g r : Group} {made out made′ out′ coeffs co
   -- the same of the group by its name
   pub group-refined : {h : Group} → g ≡ h → GroupRefined w 262144 t h made out coeffs made′ out′ coeffs′
   group-refined q = subst (λ (h : Group). GroupRefined w 262144 t h made out coeffs made′ out′ coeffs′) q of-group
-
-pub few-entries : (f views : List ℕ) (hash : ℕ) (b : List ℕ) (n : ℕ) {g : Group} → g ≡ gathered f views hash b n → n ≤ 256
-    → g .len ≤ 256
-few-entries f views hash b n e h = omega (arith, ap (λ (k : Group). k .len) e, len-gathered f views hash b n)

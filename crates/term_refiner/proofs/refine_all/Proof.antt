@@ -7,7 +7,7 @@ use Rattle.semilinear.specs.Items.{afterAtoms}
 use Rattle.semilinear.specs.DecodeForm.{rowsOf}
 use Rattle.group.specs.Group.{anyBasis, basesOf}
 use Rattle.term_refiner.proofs.AllRefinedLaws.{Going, going-start, going-next, going-done}
-use Rattle.term_refiner.proofs.AllRefinedLaws.{readable-at, count-few, count-room, next-at, end-at, group-at}
+use Rattle.group.proofs.PassLaws.{readable-at, count-few, count-room, next-at, end-at, group-at}
 use Rattle.term_refiner.proofs.refine_all.Statement.{statement}
 use Rattle.term_refiner.proofs.refine_all.Tie as tie
 
@@ -26,22 +26,22 @@ loop-holds c = (omega arith, going-start _ _ _ _ _ _ (c .before .before .before 
 mul-first : tie.Need-mul-first Inv-loop μ-loop
 mul-first c =
     let pre = c .before .before .before .before .before .before .before .before .pre in
-    omega (arith, c .before .loop .inv .0, count-few _ _ _ _ _ _ _ (pre .4) (pre .5) (pre .6), pre .3)
+    omega (arith, c .before .loop .inv .0, count-few _ _ _ _ _ _ _ _ (pre .4) (pre .5) (pre .6), pre .3)
 
 shared-slice-read-first : tie.Need-shared-slice-read-first Inv-loop μ-loop
 shared-slice-read-first c =
     let pre = c .before .before .before .before .before .before .before .before .before .pre in
-    omega (arith, c .before .loop-test .taken, count-room _ _ _ _ _ _ _ (pre .4) (pre .5) (pre .6))
+    omega (arith, c .before .loop-test .taken, count-room _ _ _ _ _ _ _ _ (pre .4) (pre .5) (pre .6))
 
 refine-at-requires : tie.Need-refine-at-requires Inv-loop μ-loop
 refine-at-requires c κs =
     let pre = c .before .before .before .before .before .before .before .before .before .before .before .before .pre in
     let going = c .before .before .before .before .before .loop .inv .1 in
     let less = c .before .before .before .before .loop-test .taken in
-    let few = count-few _ _ _ _ _ _ _ (pre .4) (pre .5) (pre .6) in
-    let next = next-at _ _ _ _ _ _ _ (pre .4) (pre .5) (pre .6) (c .before .before .before .before .before .loop .k) less in (
+    let few = count-few _ _ _ _ _ _ _ _ (pre .4) (pre .5) (pre .6) in
+    let next = next-at _ _ _ _ _ _ _ _ (pre .4) (pre .5) (pre .6) (c .before .before .before .before .before .loop .k) less in (
       going .room,
-      readable-at _ _ _ _ _ _ _ (pre .4) (pre .5) (pre .6),
+      readable-at _ _ _ _ _ _ _ _ (pre .4) (pre .5) (pre .6),
       omega (arith, next .below, pre .4),
       pre .3,
       next .group,
@@ -61,8 +61,8 @@ loop-again c =
     let less = c .before .before .before .before .before .before .before .before .before .before .before .loop-test .taken in
     let k = c .before .before .before .before .before .before .before .before .before .before .before .before .loop .k in (
       omega (arith, less),
-      going-next _ _ _ k (c .before .before .before .before .before .before .before .before .before .before .before .before .loop .inv .1) (next-at _ _ _ _ _ _ _ (pre .4) (pre .5) (pre .6) k less .next)
-          (group-at _ _ _ _ _ _ _ (pre .4) (pre .5) (pre .6) k less) (c .before .before .before .before .before .before .refine-at .ensures),
+      going-next _ _ _ k (c .before .before .before .before .before .before .before .before .before .before .before .before .loop .inv .1) (next-at _ _ _ _ _ _ _ _ (pre .4) (pre .5) (pre .6) k less .next)
+          (group-at _ _ _ _ _ _ _ _ (pre .4) (pre .5) (pre .6) k less) (c .before .before .before .before .before .before .refine-at .ensures),
     )
 
 same-length : tie.Need-same-length Inv-loop μ-loop
@@ -78,7 +78,7 @@ returns : tie.Need-returns Inv-loop μ-loop
 returns c =
     let pre = c .before .before .before .before .before .before .before .before .pre in
     going-done _ _ _ _ (c .before .loop .inv .1)
-    (end-at _ _ _ _ _ _ _ (pre .4) (pre .5) (pre .6) (c .before .loop .k) (c .loop-test .left))
+    (end-at _ _ _ _ _ _ _ _ (pre .4) (pre .5) (pre .6) (c .before .loop .k) (c .loop-test .left))
 
 pub refine-all-spec : {M : Type 1} → statement M
 refine-all-spec =

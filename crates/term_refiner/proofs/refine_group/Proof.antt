@@ -12,7 +12,7 @@ use Rattle.group.proofs.SteppedLaws.{stepped-then, stepped-met}
 use Rattle.group.proofs.StagesLaws.{single-none, merge-none}
 use Rattle.group.proofs.CollapseLaws.{three-collapsible, collapse-same, collapse-met}
 use Rattle.term_refiner.proofs.RefiningLaws.{no-merge-at, found-at, merged, collapsed, group-refined}
-use Rattle.term_refiner.proofs.RefiningLaws.{few-entries}
+use Rattle.group.proofs.PassLaws.{few-entries}
 use Rattle.term_refiner.proofs.refine_group.Statement.{statement}
 use Rattle.term_refiner.proofs.refine_group.Tie as tie
 use Rattle.term_refiner.proofs.refine_group.Reads as reads

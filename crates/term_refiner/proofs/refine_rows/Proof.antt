@@ -4,7 +4,8 @@ use mathlib.Core.List.{[]}
 use native.Mathlib.Omega.{arith}
 use lib.ListN.{length}
 use Rattle.record.proofs.PutLaws.{length-padded}
-use Rattle.term_refiner.proofs.RowsRefinedLaws.{read-count, read-readable, read-any, rows-refined, first-same}
+use Rattle.group.proofs.PassLaws.{read-count, read-readable, first-same}
+use Rattle.term_refiner.proofs.RowsRefinedLaws.{read-any, rows-refined}
 use borrow.Author.Needs.{needs}
 use Rattle.term_refiner.proofs.refine_rows.Statement.{statement}
 use Rattle.term_refiner.proofs.refine_rows.Tie as tie

@@ -3,9 +3,10 @@ use mathlib.Core.Path.{refl}
 use native.Mathlib.Omega.{arith}
 use denote.Ref.{now}
 use Rattle.record.specs.Decode.{decode}
-use Rattle.structure_recovery.proofs.TurnedLaws.{is-full, not-full, turned-full}
+use Rattle.group.proofs.PassLaws.{few-entries}
+use Rattle.structure_recovery.proofs.NewTermsLaws.{is-full, not-full, coalesced-full}
 use Rattle.structure_recovery.proofs.CoalesceTurnLaws.{group-past, short-turn, many-turn, rewritten-turn}
-use Rattle.structure_recovery.proofs.CoalesceTurnLaws.{carried-count, entries-few, atoms-below, turned-of}
+use Rattle.structure_recovery.proofs.CoalesceTurnLaws.{carried-count, atoms-below, coalesced-of}
 use borrow.Author.Needs.{needs}
 use Rattle.structure_recovery.proofs.coalesce.coalesce_group.Statement.{statement}
 use Rattle.structure_recovery.proofs.coalesce.coalesce_group.Tie as tie
@@ -16,13 +17,13 @@ slice-read-if1 c = search needs
 returns : tie.Need-returns
 returns c =
     let a = c .before .before .before .before .before .before .before .before .args in
-    turned-full (c .before .before .before .before .before .before .before .before .pre .0) (is-full (now (a .made)) (c .if1 .taken)) (group-past (a .w) (decode (now (a .b))) _)
+    coalesced-full (c .before .before .before .before .before .before .before .before .pre .0) (is-full (now (a .made)) (c .if1 .taken)) (group-past (a .w) (decode (now (a .b))) _)
 
 gather-requires : tie.Need-gather-requires
 gather-requires c κs = (c .before .before .before .before .before .before .before .before .pre .1, c .before .before .before .before .before .before .before .before .pre .2)
 
 settle-requires : tie.Need-settle-requires
-settle-requires c κs = let at-start = c .before .before .before .before .before .before .before .before .before .before .before .before .before .before .before in entries-few (now (at-start .args .f)) (now (at-start .args .views)) (at-start .args .hash) (now (at-start .args .b)) (at-start .args .n) (c .before .before .before .before .before .before .gather .ensures) (at-start .pre .2)
+settle-requires c κs = let at-start = c .before .before .before .before .before .before .before .before .before .before .before .before .before .before .before in few-entries (now (at-start .args .f)) (now (at-start .args .views)) (at-start .args .hash) (now (at-start .args .b)) (at-start .args .n) (c .before .before .before .before .before .before .gather .ensures) (at-start .pre .2)
 
 same-length : tie.Need-same-length
 same-length c = search needs
@@ -33,9 +34,10 @@ returns-2 c =
     let a = at-start .args in
     let e = c .before .before .before .before .before .before .before .before .before .gather .ensures in
     let below = atoms-below (now (a .f)) (now (a .views)) (a .hash) (now (a .b)) (a .n) e (at-start .pre .2) in
-    turned-of e
-    (short-turn (a .w) (decode (now (a .b))) (c .before .before .before .before .before .before .before .before .before .gather .result) (at-start .pre .5) (a .n) below (at-start .pre .0)
-    (not-full (now (a .made)) (c .before .before .before .before .before .before .before .before .before .before .if1 .left)) (c .before .before .settle .ensures) (c .before .before .before .before .before .before .before .before .if2 .taken))
+    coalesced-of (a .w) (a .n) 64 (decode (now (a .b))) e
+    (short-turn (a .w) (decode (now (a .b))) (c^9 .gather .result) (now (a .made)) (now (a .out)) (now (a .coeffs))
+    (at-start .pre .5) (a .n) below (at-start .pre .0) (not-full (now (a .made)) (c^10 .if1 .left)) (c^2 .settle .ensures)
+    (c^8 .if2 .taken))
 
 slice-aggregate-carried-of : tie.Need-slice-aggregate-carried-of
 slice-aggregate-carried-of c = search needs
@@ -46,10 +48,10 @@ slice-aggregate-carried-of-2 c = search needs
 carried-of-requires : tie.Need-carried-of-requires
 carried-of-requires c κs =
     let at-start = c .before .before .before .before .before .before .before .before .before .before .before .before .before .before .before in
-    (entries-few (now (at-start .args .f)) (now (at-start .args .views)) (at-start .args .hash) (now (at-start .args .b)) (at-start .args .n) (c .before .before .before .before .before .before .gather .ensures) (at-start .pre .2), at-start .pre .5, refl, refl)
+    (few-entries (now (at-start .args .f)) (now (at-start .args .views)) (at-start .args .hash) (now (at-start .args .b)) (at-start .args .n) (c .before .before .before .before .before .before .gather .ensures) (at-start .pre .2), at-start .pre .5, refl, refl)
 
 settle-requires-2 : tie.Need-settle-requires-2
-settle-requires-2 c κs = let at-start = c .before .before .before .before .before .before .before .before .before .before .before .before .before .before .before .before .before .before .before .before .before .before .before .before in entries-few (now (at-start .args .f)) (now (at-start .args .views)) (at-start .args .hash) (now (at-start .args .b)) (at-start .args .n) (c .before .before .before .before .before .before .before .before .before .before .before .before .before .before .before .gather .ensures) (at-start .pre .2)
+settle-requires-2 c κs = let at-start = c .before .before .before .before .before .before .before .before .before .before .before .before .before .before .before .before .before .before .before .before .before .before .before .before in few-entries (now (at-start .args .f)) (now (at-start .args .views)) (at-start .args .hash) (now (at-start .args .b)) (at-start .args .n) (c .before .before .before .before .before .before .before .before .before .before .before .before .before .before .before .gather .ensures) (at-start .pre .2)
 
 same-length-2 : tie.Need-same-length-2
 same-length-2 c = search needs
@@ -60,10 +62,10 @@ returns-3 c =
     let a = at-start .args in
     let e = c .before .before .before .before .before .before .before .before .before .before .before .before .before .before .before .before .before .before .gather .ensures in
     let below = atoms-below (now (a .f)) (now (a .views)) (a .hash) (now (a .b)) (a .n) e (at-start .pre .2) in
-    turned-of e
-    (many-turn (a .w) (decode (now (a .b))) (c .before .before .before .before .before .before .before .before .before .before .before .before .before .before .before .before .before .before .gather .result) (at-start .pre .5) (a .n) below (c .before .before .before .before .before .before .before .before .before .before .before .before .before .before .before .before .before .if2 .left)
-    (c .before .before .before .before .before .before .before .before .before .before .before .carried-of .result) (c .before .before .before .before .before .before .before .before .before .before .before .carried-of .ensures) (at-start .pre .0)
-    (not-full (now (a .made)) (c .before .before .before .before .before .before .before .before .before .before .before .before .before .before .before .before .before .before .before .if1 .left)) (c .before .before .settle2 .ensures) (c .before .before .before .before .before .before .before .before .if3 .taken))
+    coalesced-of (a .w) (a .n) 64 (decode (now (a .b))) e
+    (many-turn (a .w) (decode (now (a .b))) (c^18 .gather .result) (now (a .made)) (now (a .out)) (now (a .coeffs))
+    (at-start .pre .5) (a .n) below (at-start .pre .0) (not-full (now (a .made)) (c^19 .if1 .left)) (c^17 .if2 .left)
+    (c^11 .carried-of .ensures) (c^2 .settle2 .ensures) (c^8 .if3 .taken))
 
 slice-aggregate-put-carried : tie.Need-slice-aggregate-put-carried
 slice-aggregate-put-carried c = search needs
@@ -77,8 +79,7 @@ put-carried-requires c κs =
     let a = at-start .args in
     let e = c .before .before .before .before .before .before .before .before .before .before .before .before .before .before .before .gather .ensures in
     let below = atoms-below (now (a .f)) (now (a .views)) (a .hash) (now (a .b)) (a .n) e (at-start .pre .2) in
-    let few = carried-count (a .w) (decode (now (a .b))) (c .before .before .before .before .before .before .before .before .before .before .before .before .before .before .before .gather .result) (at-start .pre .5) (a .n) below
-    (c .before .before .before .before .before .before .before .before .before .before .before .before .before .before .if2 .left) (c .before .before .before .before .before .before .before .before .carried-of .result) (c .before .before .before .before .before .before .before .before .carried-of .ensures) in
+    let few = carried-count (a .w) (decode (now (a .b))) (c^15 .gather .result) (at-start .pre .5) (c^8 .carried-of .ensures) in
     let pre = at-start .pre in (
       pre .0,
       pre .3,
@@ -103,9 +104,10 @@ returns-4 c =
     let a = at-start .args in
     let e = c .before .before .before .before .before .before .before .before .before .before .before .before .before .before .before .before .before .before .before .before .before .before .gather .ensures in
     let below = atoms-below (now (a .f)) (now (a .views)) (a .hash) (now (a .b)) (a .n) e (at-start .pre .2) in
-    turned-of e
-    (rewritten-turn (a .w) (decode (now (a .b))) (c .before .before .before .before .before .before .before .before .before .before .before .before .before .before .before .before .before .before .before .before .before .before .gather .result) (at-start .pre .5) (a .n) below (c .before .before .before .before .before .before .before .before .before .before .before .before .before .before .before .before .before .before .before .before .before .if2 .left)
-    (c .before .before .before .before .before .before .before .before .before .before .before .before .before .before .before .carried-of .result) (c .before .before .before .before .before .before .before .before .before .before .before .before .before .before .before .carried-of .ensures) (c .before .before .before .before .before .before .before .before .before .before .before .before .if3 .left) (c .before .before .before .before .before .before .put-carried .ensures))
+    coalesced-of (a .w) (a .n) 64 (decode (now (a .b))) e
+    (rewritten-turn (a .w) (decode (now (a .b))) (c^22 .gather .result) (now (a .made)) (now (a .out)) (now (a .coeffs))
+    (at-start .pre .5) (a .n) below (at-start .pre .0) (not-full (now (a .made)) (c^23 .if1 .left)) (c^21 .if2 .left)
+    (c^15 .carried-of .ensures) (c^12 .if3 .left) (c^6 .put-carried .ensures))
 
 pub coalesce-group-spec : {M : Type 1} → statement M
 coalesce-group-spec =

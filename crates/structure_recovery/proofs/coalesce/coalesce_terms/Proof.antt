@@ -1,31 +1,36 @@
+-- `coalesce_terms` meets its contract: the front door, and then the form.
+use Rattle.semilinear.proofs.ReadLaws.{pass-shut, pass-open, pass-zeros, pass-given}
+use Rattle.structure_recovery.specs.CoalesceTerms.{coalesceTerms}
+use borrow.Author.Needs.{needs}
 use Rattle.structure_recovery.proofs.coalesce.coalesce_terms.Statement.{statement}
 use Rattle.structure_recovery.proofs.coalesce.coalesce_terms.Tie as tie
-use Rattle.structure_recovery.proofs.coalesce.coalesce_terms.Reads as reads
-use Rattle.structure_recovery.proofs.coalesce.coalesce_terms.Lts as lts
-use Rattle.semilinear.proofs.outcome.refusal.Reads as refusal-reads
-use Rattle.semilinear.proofs.read.open_bytes.Reads as open-bytes-reads
-use Rattle.structure_recovery.proofs.coalesce.coalesce_form.Reads as coalesce-form-reads
 
 open-bytes-requires : tie.Need-open-bytes-requires
-open-bytes-requires c κs = ?
+open-bytes-requires c κs = search needs
 
 refusal-requires : tie.Need-refusal-requires
-refusal-requires c κs = ?
+refusal-requires c κs = search needs
 
 same-length : tie.Need-same-length
-same-length c = ?
+same-length c = search needs
 
 returns : tie.Need-returns
-returns c = ?
+unfolding coalesceTerms
+returns c = pass-shut _ _ _ (c .before .before .before .before .open-bytes .ensures) (c .before .if1 .taken) (c .refusal .result) (c .refusal .ensures)
 
 coalesce-form-requires : tie.Need-coalesce-form-requires
-coalesce-form-requires c κs = ?
+coalesce-form-requires c κs =
+    let door = c .before .before .before .before .open-bytes .ensures in
+    let none = c .before .if1 .left in
+    (pass-open _ _ door none .form, pass-zeros _ _ door none)
 
 same-length-2 : tie.Need-same-length-2
-same-length-2 c = ?
+same-length-2 c = search needs
 
 returns-2 : tie.Need-returns-2
-returns-2 c = ?
+unfolding coalesceTerms
+returns-2 c =
+    pass-given _ _ _ (c .before .before .before .before .before .before .before .open-bytes .ensures) (c .before .before .before .before .if1 .left) (c .before .before .coalesce-form .result) (c .before .before .coalesce-form .ensures)
 
 pub coalesce-terms-spec : {M : Type 1} → statement M
 coalesce-terms-spec =

@@ -5,15 +5,15 @@ use native.Mathlib.Omega.{arith}
 use denote.Ref.{now}
 use Rattle.record.specs.Decode.{decode}
 use Rattle.structure_recovery.specs.CoalesceTerms.{carriedRows}
-use Rattle.structure_recovery.specs.Coalescing.{carriedIn, Turned}
-use Rattle.structure_recovery.proofs.TurnedLaws.{terms-none, terms-next, terms-done}
+use Rattle.structure_recovery.specs.Coalescing.{carriedIn, Coalesced}
+use Rattle.structure_recovery.proofs.NewTermsLaws.{terms-none, terms-next, terms-done}
 use Rattle.structure_recovery.proofs.coalesce.put_carried.Statement.{statement}
 use Rattle.structure_recovery.proofs.coalesce.put_carried.Tie as tie
 
 abbrev Inv-loop : tie.InvT-loop
 Inv-loop carried bits count b hash w made₀ coeffs₀ out₀ k₀ made coeffs out k =
     (k ≤ count)
-    × Turned w 0 k (carriedRows w (decode b) (carriedIn k carried bits)) made₀ out₀ coeffs₀ made out coeffs
+    × Coalesced w 0 k (carriedRows w (decode b) (carriedIn k carried bits)) made₀ out₀ coeffs₀ made out coeffs
 
 abbrev μ-loop : tie.MeasureT-loop
 μ-loop carried bits count b hash w made₀ coeffs₀ out₀ k₀ made coeffs out k = count - k

@@ -4,7 +4,7 @@ use native.Mathlib.Omega.{arith}
 use denote.Ref.{now}
 use Rattle.arith.proofs.WidthLaws.{bitmask-ones}
 use Rattle.record.specs.Decode.{decode}
-use Rattle.structure_recovery.proofs.TurnedLaws.{row-past, is-full, not-full, turned-full, term-bare, term-masked}
+use Rattle.structure_recovery.proofs.NewTermsLaws.{row-past, is-full, not-full, coalesced-full, term-bare, term-masked}
 use borrow.Author.Needs.{needs}
 use Rattle.structure_recovery.proofs.coalesce.put_term.Statement.{statement}
 use Rattle.structure_recovery.proofs.coalesce.put_term.Tie as tie
@@ -15,7 +15,7 @@ slice-read-if1 c = search needs
 returns : tie.Need-returns
 returns c =
     let a = c .before .before .before .before .before .before .args in
-    turned-full (c .before .before .before .before .before .before .pre .0) (is-full (now (a .made)) (c .if1 .taken))
+    coalesced-full (c .before .before .before .before .before .before .pre .0) (is-full (now (a .made)) (c .if1 .taken))
     (λ l. row-past (a .w) (decode (now (a .b))) (a .c) (a .m) l)
 
 bitmask-requires : tie.Need-bitmask-requires

@@ -1,5 +1,5 @@
--- Laws of a turn of coalescing (specs/Coalescing.antt): rows that pass a limit go on passing it, rows do not get fewer, turns
--- follow each other, and one new term.
+-- Laws of the new terms of a group (specs/Coalescing.antt): rows that pass a limit go on passing it, rows do not get fewer,
+-- and steps follow each other.
 use mathlib.Core.Path.{_≡_, refl, ap, sym, _∙_}
 use Prim.Native.Nat.{ℕ, _+_, _-_, _^_, _≤_, _<_}
 use native.Mathlib.Omega.{arith}
@@ -14,7 +14,7 @@ use Rattle.record.specs.Put.{padded}
 use Rattle.record.specs.Tree.{Tree}
 use Rattle.record.proofs.SizedLaws.{false-true}
 use Rattle.record.proofs.LoopLaws.{when-both}
-use Rattle.semilinear.specs.Form.{Row, eqTree, fitsTable}
+use Rattle.semilinear.specs.Form.{mixedFamily, Row, eqTree, fitsTable}
 use Rattle.semilinear.specs.Terms.{coeffsOf}
 use Rattle.semilinear.proofs.HoldsLaws.{past-more}
 use Rattle.group.specs.Group.{createRow, maskedTree, createMasked, addCoeff}
@@ -27,7 +27,7 @@ use Rattle.group.proofs.ShownLaws.{add-fits, shown-add}
 use Rattle.structure_recovery.specs.RecoverStructure.{rowWith, withBare}
 use Rattle.structure_recovery.specs.CoalesceTerms.{Carried, carriedRows}
 use Rattle.structure_recovery.specs.Showing.{Shows, BareFound}
-use Rattle.structure_recovery.specs.Coalescing.{carriedIn, pairs, carriedRow, Turned}
+use Rattle.structure_recovery.specs.Coalescing.{carriedIn, pairs, carriedRow, Coalesced}
 use Rattle.structure_recovery.proofs.CarriedInLaws.{in-next}
 
 -- ---- a row more
@@ -66,33 +66,33 @@ module _ (w : ℕ) (t : Tree) where
     bare-past : fitsTable l ≡ false → fitsTable (withBare w t l) ≡ false
     unfolding withBare
     bare-past h =
-        when-both (λ (m : List Row). fitsTable m ≡ false) (ltb (rowWith w t 0 l) (length l)) l (createRow 4 t l) (λ _. h)
-        (λ _. create-past 4 t l h)
+        when-both (λ (m : List Row). fitsTable m ≡ false) (ltb (rowWith w t 0 l) (length l)) l (createRow mixedFamily t l) (λ _. h)
+        (λ _. create-past mixedFamily t l h)
 
     bare-fits : fitsTable (withBare w t l) ≡ true → fitsTable l ≡ true
     unfolding withBare
     bare-fits =
         when-both (λ (m : List Row). fitsTable m ≡ true → fitsTable l ≡ true) (ltb (rowWith w t 0 l) (length l)) l
-        (createRow 4 t l) (λ _ h. h) (λ _. create-fits 4 t l)
+        (createRow mixedFamily t l) (λ _ h. h) (λ _. create-fits mixedFamily t l)
 
     bare-coeffs : fitsTable (withBare w t l) ≡ true → padded 256 (coeffsOf (withBare w t l)) ≡ padded 256 (coeffsOf l)
     unfolding withBare
     bare-coeffs =
         when-both
         (λ (m : List Row). fitsTable m ≡ true → padded 256 (coeffsOf m) ≡ padded 256 (coeffsOf l))
-        (ltb (rowWith w t 0 l) (length l)) l (createRow 4 t l) (λ _ h. refl) (λ _. create-coeffs 4 t l)
+        (ltb (rowWith w t 0 l) (length l)) l (createRow mixedFamily t l) (λ _ h. refl) (λ _. create-coeffs mixedFamily t l)
 
     bare-lt : rowWith w t 0 l < length (withBare w t l)
     unfolding withBare
     bare-lt =
-        when-both (λ (m : List Row). rowWith w t 0 l < length m) (ltb (rowWith w t 0 l) (length l)) l (createRow 4 t l)
-        (λ e. ltb-true _ _ e) (λ _. omega (arith, with-le l 0, create-length 4 t l))
+        when-both (λ (m : List Row). rowWith w t 0 l < length m) (ltb (rowWith w t 0 l) (length l)) l (createRow mixedFamily t l)
+        (λ e. ltb-true _ _ e) (λ _. omega (arith, with-le l 0, create-length mixedFamily t l))
 
     bare-longer : length l ≤ length (withBare w t l)
     unfolding withBare
     bare-longer =
-        when-both (λ (m : List Row). length l ≤ length m) (ltb (rowWith w t 0 l) (length l)) l (createRow 4 t l)
-        (λ _. omega arith) (λ _. omega (arith, create-length 4 t l))
+        when-both (λ (m : List Row). length l ≤ length m) (ltb (rowWith w t 0 l) (length l)) l (createRow mixedFamily t l)
+        (λ _. omega arith) (λ _. omega (arith, create-length mixedFamily t l))
 
 -- ---- the new terms
 
@@ -186,10 +186,10 @@ unfolding tableOf
 not-full made n = ne-eqb (getD made 3 0) 1 n
 
 -- a full table is left as it is
-pub turned-full : {w m n : ℕ} {F : List Row → List Row} {made out coeffs : List ℕ} → Room made out
+pub coalesced-full : {w m n : ℕ} {F : List Row → List Row} {made out coeffs : List ℕ} → Room made out
     → tableOf made .full ≡ true → ((l : List Row) → fitsTable l ≡ false → fitsTable (F l) ≡ false)
-    → Turned w m n F made out coeffs made out coeffs
-turned-full room full keeps =
+    → Coalesced w m n F made out coeffs made out coeffs
+coalesced-full room full keeps =
     record {
       room = room;
       rows-le = omega arith;
@@ -199,12 +199,12 @@ turned-full room full keeps =
           record { shown = λ more. false-true (sym more ∙ full); past = λ _. keeps l (s .past full) };
     }
 
-pub turned-then : {w m a b : ℕ} {F G : List Row → List Row}
+pub coalesced-then : {w m a b : ℕ} {F G : List Row → List Row}
     {made out coeffs made′ out′ coeffs′ made″ out″ coeffs″ : List ℕ}
-    → ((l : List Row) → m ≤ length l → m ≤ length (F l)) → Turned w m a F made out coeffs made′ out′ coeffs′
-    → Turned w m b G made′ out′ coeffs′ made″ out″ coeffs″
-    → Turned w m (a + b) (λ l. G (F l)) made out coeffs made″ out″ coeffs″
-turned-then {F = F} longer p q =
+    → ((l : List Row) → m ≤ length l → m ≤ length (F l)) → Coalesced w m a F made out coeffs made′ out′ coeffs′
+    → Coalesced w m b G made′ out′ coeffs′ made″ out″ coeffs″
+    → Coalesced w m (a + b) (λ l. G (F l)) made out coeffs made″ out″ coeffs″
+coalesced-then {F = F} longer p q =
     record {
       room = q .room;
       rows-le = omega (arith, p .rows-le, q .rows-le);
@@ -214,10 +214,10 @@ turned-then {F = F} longer p q =
     }
 
 -- the same turn under another name, and said for fewer rows
-pub turned-as : {w m n m′ n′ : ℕ} {F G : List Row → List Row} {made out coeffs made′ out′ coeffs′ : List ℕ}
-    → m ≤ m′ → n ≤ n′ → ((l : List Row) → F l ≡ G l) → Turned w m n F made out coeffs made′ out′ coeffs′
-    → Turned w m′ n′ G made out coeffs made′ out′ coeffs′
-turned-as lm ln e p =
+pub coalesced-as : {w m n m′ n′ : ℕ} {F G : List Row → List Row} {made out coeffs made′ out′ coeffs′ : List ℕ}
+    → m ≤ m′ → n ≤ n′ → ((l : List Row) → F l ≡ G l) → Coalesced w m n F made out coeffs made′ out′ coeffs′
+    → Coalesced w m′ n′ G made out coeffs made′ out′ coeffs′
+coalesced-as lm ln e p =
     record {
       room = p .room;
       rows-le = omega (arith, p .rows-le);
@@ -236,7 +236,7 @@ add-wide w c j coeffs e = ap length e ∙ length-set coeffs j _
 module _ (w c m : ℕ) (t : Tree) (hw : w ≤ 64) {made out coeffs made′ out′ coeffs′ : List ℕ}
     (more : tableOf made .full ≡ false) where
   pub term-bare : (r : ℕ) → m ≡ 2 ^ w - 1 → BareFound w t r made out made′ out′ → coeffs′ ≡ addWord w c r coeffs
-      → Turned w 0 1 (carriedRow w t c m) made out coeffs made′ out′ coeffs′
+      → Coalesced w 0 1 (carriedRow w t c m) made out coeffs made′ out′ coeffs′
   term-bare r em found e =
       record {
         room = found .room;
@@ -254,7 +254,7 @@ module _ (w c m : ℕ) (t : Tree) (hw : w ≤ 64) {made out coeffs made′ out�
 
   pub term-masked : (m ≡ 2 ^ w - 1 → ⊥) → Grew w 1 (createMasked w t m) made out made′ out′
       → coeffs′ ≡ addWord w c (getD made 4 0) coeffs
-      → Turned w 0 1 (carriedRow w t c m) made out coeffs made′ out′ coeffs′
+      → Coalesced w 0 1 (carriedRow w t c m) made out coeffs made′ out′ coeffs′
   unfolding createMasked
   term-masked nm g e =
       record {
@@ -276,22 +276,22 @@ module _ (w c m : ℕ) (t : Tree) (hw : w ≤ 64) {made out coeffs made′ out�
 
 module _ (w : ℕ) (t : Tree) (carried bits : List ℕ) {made₀ out₀ coeffs₀ : List ℕ} where
   pub terms-none : Room made₀ out₀
-      → Turned w 0 0 (carriedRows w t (carriedIn 0 carried bits)) made₀ out₀ coeffs₀ made₀ out₀ coeffs₀
+      → Coalesced w 0 0 (carriedRows w t (carriedIn 0 carried bits)) made₀ out₀ coeffs₀ made₀ out₀ coeffs₀
   unfolding carriedIn pairs carriedRows
   terms-none room =
       record { room = room; rows-le = omega arith; long = refl; wide = refl; shows = λ l _ s. s }
 
   pub terms-next : (k : ℕ) → k < length carried → k < length bits → {made out coeffs made′ out′ coeffs′ : List ℕ}
-      → Turned w 0 k (carriedRows w t (carriedIn k carried bits)) made₀ out₀ coeffs₀ made out coeffs
-      → Turned w 0 1 (carriedRow w t (getD carried k 0) (getD bits k 0)) made out coeffs made′ out′ coeffs′
-      → Turned w 0 (k + 1) (carriedRows w t (carriedIn (k + 1) carried bits)) made₀ out₀ coeffs₀ made′ out′ coeffs′
+      → Coalesced w 0 k (carriedRows w t (carriedIn k carried bits)) made₀ out₀ coeffs₀ made out coeffs
+      → Coalesced w 0 1 (carriedRow w t (getD carried k 0) (getD bits k 0)) made out coeffs made′ out′ coeffs′
+      → Coalesced w 0 (k + 1) (carriedRows w t (carriedIn (k + 1) carried bits)) made₀ out₀ coeffs₀ made′ out′ coeffs′
   terms-next k lc lb p q =
-      turned-as (omega arith) (omega arith)
+      coalesced-as (omega arith) (omega arith)
       (λ l. sym (ap (λ (x : List Carried). carriedRows w t x l) (in-next k carried bits lc lb)
       ∙ rows-last w t (carriedIn k carried bits) _ l))
-      (turned-then (λ l le. omega arith) p q)
+      (coalesced-then (λ l le. omega arith) p q)
 
   pub terms-done : (k n : ℕ) → k ≤ n → n ≤ k → {made out coeffs : List ℕ}
-      → Turned w 0 k (carriedRows w t (carriedIn k carried bits)) made₀ out₀ coeffs₀ made out coeffs
-      → Turned w 0 n (carriedRows w t (carriedIn n carried bits)) made₀ out₀ coeffs₀ made out coeffs
+      → Coalesced w 0 k (carriedRows w t (carriedIn k carried bits)) made₀ out₀ coeffs₀ made out coeffs
+      → Coalesced w 0 n (carriedRows w t (carriedIn n carried bits)) made₀ out₀ coeffs₀ made out coeffs
   terms-done k n a b p = let e : n ≡ k = omega arith in rw e p

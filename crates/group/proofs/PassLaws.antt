@@ -1,0 +1,144 @@
+-- What a pass knows on its way to the groups: of the form and its copied table, of the views it has read, of the bases it
+-- has found, and of a table that holds the rows without the terms that are in groups.
+use mathlib.Core.Path.{_≡_, refl, ap, sym, _∙_}
+use Prim.Native.Nat.{ℕ, _≤_, _<_}
+use native.Mathlib.Omega.{arith}
+use mathlib.Core.List.{List, []}
+use mathlib.Core.Bool.{Bool, true}
+use lib.ListN.{length, getD, drop, length-take}
+use Rattle.record.specs.Fields.{width}
+use Rattle.record.specs.Put.{padded}
+use Rattle.record.specs.Span.{body}
+use Rattle.record.specs.Tree.{Tree, IsBytes}
+use Rattle.record.specs.Decode.{decode}
+use Rattle.record.proofs.PutLaws.{length-padded}
+use Rattle.semilinear.specs.declared.table.Table.{Table}
+use Rattle.semilinear.specs.Form.{Row}
+use Rattle.semilinear.specs.Items.{atomCount, afterAtoms}
+use Rattle.semilinear.specs.Valid.{atomsOk, isSemilinear}
+use Rattle.semilinear.specs.DecodeForm.{rowsOf, decodeForm, readForm}
+use Rattle.semilinear.specs.Scan.{AtomsEnd}
+use Rattle.semilinear.specs.Terms.{coeffsOf, Copied}
+use Rattle.semilinear.proofs.HoldsLaws.{holds-bare}
+use Rattle.semilinear.proofs.TermsLaws.{length-coeffs}
+use Rattle.semilinear.proofs.ValidLaws.{semilinear-parts}
+use Rattle.group.specs.declared.Group.{Group}
+use Rattle.group.specs.Group.{emptyGroup, basesOf, groupOf, ungrouped}
+use Rattle.group.specs.Made.{tableOf, Room, Held, Basis}
+use Rattle.group.specs.Shown.{Shown}
+use Rattle.group.specs.Views.{viewAt, basisBytes, Views, ViewsRead, Readable}
+use Rattle.group.specs.Bases.{firstRows, FirstRows}
+use Rattle.group.specs.Gathered.{gathered}
+use Rattle.group.proofs.ExtendsLaws.{ungrouped-length, ungrouped-bare}
+use Rattle.group.proofs.FirstRowsLaws.{first-rows}
+use Rattle.group.proofs.GatherLaws.{gather-group, len-gathered}
+use Rattle.group.proofs.HasBasisLaws.{readable}
+use Rattle.group.proofs.NextBasisLaws.{NextBasis, next-basis, bases-end}
+use Rattle.group.proofs.ReadLaws.{length-rows, kept-padded}
+use Rattle.group.proofs.ShownLaws.{begun, held-copied, copied-end}
+
+-- ---- the begin
+
+module _ (s : List ℕ) (bytes : IsBytes s) (ok : isSemilinear s ≡ true) where
+  -- the words of the copied table hold the rows
+  pub held-form : {tab : Table} {out : List ℕ} (k : ℕ) → Copied (readForm s) tab out
+      → Held (width s) (begun tab k) out (rowsOf 0 (body s) (afterAtoms (body s)))
+  unfolding decodeForm
+  held-form {tab} {out} k h = held-copied (readForm s) tab out k h
+
+  -- what a pass works on, as the code reads it
+  pub pass-begin : {w k : ℕ} {b : List ℕ} → w ≡ width s → b ≡ body s → {tab : Table} {out : List ℕ}
+      → Copied (readForm s) tab out
+      → (w ≤ 64) × (atomsOk w b ≡ true) × AtomsEnd b (tab .at) × (atomCount b ≡ tab .count) × (tab .count ≤ 256)
+      × Room (begun tab k) out × (getD (begun tab k) 4 0 ≤ 256)
+  unfolding decodeForm
+  pass-begin {w} {k} {b} ew eb {tab} {out} h =
+      let parts = semilinear-parts s ok in
+      let most : tab .count ≤ 256 = h .holds .placed .atoms-le in
+      let count : tab .count ≡ length (rowsOf 0 (body s) (afterAtoms (body s))) = h .holds .kept (h .more) .count in
+      rw (ew, eb) (
+        parts .0 .width-le,
+        parts .1 .atoms,
+        copied-end s bytes ok tab out h,
+        sym (count ∙ length-rows (body s) 0 (afterAtoms (body s))),
+        most,
+        record { words = refl; placed = held-form k h .holds .placed },
+        most,
+      )
+
+-- ---- the rows without the terms that are in groups
+
+pub ungrouped-held : (only : Tree → Bool) (w : ℕ) {made out : List ℕ} (l : List Row) → Held w made out l
+    → Held w made out (ungrouped only w l)
+ungrouped-held only w {made} {out} l h =
+    record {
+      holds = holds-bare l (ungrouped only w l) (sym (ungrouped-bare only w l)) w (tableOf made) out (h .holds);
+      clean = h .clean;
+      rows = h .rows ∙ sym (ungrouped-length only w l);
+    }
+
+-- ---- the views, as the code has read them
+
+module _ {only : Tree → Bool} {w : ℕ} {f coeffs views coeffs′ : List ℕ} {n : ℕ}
+    (v : ViewsRead only w f (rowsOf 0 f (afterAtoms f)) coeffs views coeffs′ n) where
+  pub read-count : n ≡ atomCount f
+  read-count = v .number ∙ length-rows f 0 (afterAtoms f)
+
+  pub read-readable : Readable f views n
+  read-readable = rw (v .number) (readable (v .views))
+
+  module _ (e : coeffs ≡ padded 256 []) where
+    pub read-wide : atomCount f ≤ 256 → length coeffs′ ≡ 256
+    read-wide most =
+        let rows : List Row = rowsOf 0 f (afterAtoms f) in
+        let own : List Row = ungrouped only w rows in
+        ap length (kept-padded v 256 e)
+        ∙ length-padded 256 (coeffsOf own)
+        (omega (arith, length-coeffs own, ungrouped-length only w rows, length-rows f 0 (afterAtoms f)))
+
+    -- a table that holds the rows, with the coefficients that are kept
+    pub read-shown : {made out : List ℕ} → Held w made out (rowsOf 0 f (afterAtoms f))
+        → Shown w made out coeffs′ (ungrouped only w (rowsOf 0 f (afterAtoms f)))
+    read-shown held = record {
+      held = ungrouped-held only w (rowsOf 0 f (afterAtoms f)) held;
+      terms = λ _. kept-padded v 256 e;
+    }
+
+pub first-same : {rows before after : List ℕ} {r : ℕ} → FirstRows rows before after r → FirstRows rows after after r
+first-same s = record { count = s .count; rows-are = s .rows-are; long = refl }
+
+-- ---- the bases, as the code finds them
+
+module _ (only : Tree → Bool) (w : ℕ) (f views bases : List ℕ) (rows : List Row) (n count : ℕ) (e : n ≡ length rows)
+    (h : Views only w f views rows) (s : FirstRows (firstRows f views n) bases bases count) where
+  pub readable-at : Readable f views n
+  readable-at = rw e (readable h)
+
+  pub count-few : count ≤ n
+  count-few = omega (arith, s .count, first-rows f views n .few)
+
+  pub count-room : count ≤ length bases
+  count-room = omega (arith, s .count, ap length (s .rows-are), length-take count bases)
+
+  found : FirstRows (firstRows f views (length rows)) bases bases count
+  found = rw e at s
+
+  pub next-at : (k : ℕ) → k < count → NextBasis only w f views rows k (getD bases k 0)
+  next-at k lt = next-basis only w f views rows h found k lt
+
+  pub end-at : (k : ℕ) → count ≤ k → drop k (basesOf only w rows []) ≡ []
+  end-at k le = bases-end only w f views rows h found k le
+
+  -- the group of a basis
+  pub group-at : (k : ℕ) → k < count
+      → gathered f views (viewAt views (getD bases k 0) .hash) (basisBytes f (viewAt views (getD bases k 0))) n
+      ≡ groupOf only w (decode (basisBytes f (viewAt views (getD bases k 0)))) 0 rows emptyGroup
+  group-at k lt =
+      let x : ℕ = getD bases k 0 in
+      let own : Basis w (viewAt views x .hash) (basisBytes f (viewAt views x)) = next-at k lt .group .basis in
+      ap (gathered f views (viewAt views x .hash) (basisBytes f (viewAt views x))) e
+      ∙ gather-group f views (viewAt views x .hash) (basisBytes f (viewAt views x)) only w rows h own
+
+pub few-entries : (f views : List ℕ) (hash : ℕ) (b : List ℕ) (n : ℕ) {g : Group} → g ≡ gathered f views hash b n → n ≤ 256
+    → g .len ≤ 256
+few-entries f views hash b n e h = omega (arith, ap (λ (k : Group). k .len) e, len-gathered f views hash b n)
