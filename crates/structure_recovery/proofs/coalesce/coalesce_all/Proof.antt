@@ -3,6 +3,7 @@ use mathlib.Core.Path.{sym, _∙_}
 use mathlib.Core.List.{[]}
 use Prim.Native.Nat.{_-_, _*_, _≤_}
 use native.Mathlib.Omega.{arith}
+use denote.Ref.{now}
 use lib.ListN.{take}
 use Rattle.semilinear.specs.Items.{afterAtoms}
 use Rattle.semilinear.specs.DecodeForm.{rowsOf}
@@ -27,7 +28,8 @@ abbrev μ-loop : tie.MeasureT-loop
 loop-holds : tie.Need-loop-holds Inv-loop μ-loop
 loop-holds c =
     let at-start = c .before .before .before .before .before .before in
-    (omega arith, all-none _ (at-start .pre .2) _ _ _ (at-start .pre .0))
+    let rows = rowsOf 0 (now (at-start .args .f)) (afterAtoms (now (at-start .args .f))) in
+    (omega arith, all-none _ (at-start .pre .2) rows (basesOf variableBasis (at-start .args .w) rows []) _ (at-start .pre .0))
 
 mul-first : tie.Need-mul-first Inv-loop μ-loop
 mul-first c =

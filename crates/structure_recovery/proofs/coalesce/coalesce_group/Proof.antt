@@ -35,9 +35,9 @@ returns-2 c =
     let e = c .before .before .before .before .before .before .before .before .before .gather .ensures in
     let below = atoms-below (now (a .f)) (now (a .views)) (a .hash) (now (a .b)) (a .n) e (at-start .pre .2) in
     coalesced-of (a .w) (a .n) 64 (decode (now (a .b))) e
-    (short-turn (a .w) (decode (now (a .b))) (c^9 .gather .result) (now (a .made)) (now (a .out)) (now (a .coeffs))
-    (at-start .pre .5) (a .n) below (at-start .pre .0) (not-full (now (a .made)) (c^10 .if1 .left)) (c^2 .settle .ensures)
-    (c^8 .if2 .taken))
+    (short-turn (a .w) (decode (now (a .b))) (c .before .before .before .before .before .before .before .before .before .gather .result) (now (a .made)) (now (a .out)) (now (a .coeffs))
+    (at-start .pre .5) (a .n) below (at-start .pre .0) (not-full (now (a .made)) (c .before .before .before .before .before .before .before .before .before .before .if1 .left)) (c .before .before .settle .ensures)
+    (c .before .before .before .before .before .before .before .before .if2 .taken))
 
 slice-aggregate-carried-of : tie.Need-slice-aggregate-carried-of
 slice-aggregate-carried-of c = search needs
@@ -63,9 +63,9 @@ returns-3 c =
     let e = c .before .before .before .before .before .before .before .before .before .before .before .before .before .before .before .before .before .before .gather .ensures in
     let below = atoms-below (now (a .f)) (now (a .views)) (a .hash) (now (a .b)) (a .n) e (at-start .pre .2) in
     coalesced-of (a .w) (a .n) 64 (decode (now (a .b))) e
-    (many-turn (a .w) (decode (now (a .b))) (c^18 .gather .result) (now (a .made)) (now (a .out)) (now (a .coeffs))
-    (at-start .pre .5) (a .n) below (at-start .pre .0) (not-full (now (a .made)) (c^19 .if1 .left)) (c^17 .if2 .left)
-    (c^11 .carried-of .ensures) (c^2 .settle2 .ensures) (c^8 .if3 .taken))
+    (many-turn (a .w) (decode (now (a .b))) (c .before .before .before .before .before .before .before .before .before .before .before .before .before .before .before .before .before .before .gather .result) (now (a .made)) (now (a .out)) (now (a .coeffs))
+    (at-start .pre .5) (a .n) below (at-start .pre .0) (not-full (now (a .made)) (c .before .before .before .before .before .before .before .before .before .before .before .before .before .before .before .before .before .before .before .if1 .left)) (c .before .before .before .before .before .before .before .before .before .before .before .before .before .before .before .before .before .if2 .left)
+    (c .before .before .before .before .before .before .before .before .before .before .before .carried-of .ensures) (c .before .before .settle2 .ensures) (c .before .before .before .before .before .before .before .before .if3 .taken))
 
 slice-aggregate-put-carried : tie.Need-slice-aggregate-put-carried
 slice-aggregate-put-carried c = search needs
@@ -79,7 +79,7 @@ put-carried-requires c κs =
     let a = at-start .args in
     let e = c .before .before .before .before .before .before .before .before .before .before .before .before .before .before .before .gather .ensures in
     let below = atoms-below (now (a .f)) (now (a .views)) (a .hash) (now (a .b)) (a .n) e (at-start .pre .2) in
-    let few = carried-count (a .w) (decode (now (a .b))) (c^15 .gather .result) (at-start .pre .5) (c^8 .carried-of .ensures) in
+    let few = carried-count (a .w) (decode (now (a .b))) (c .before .before .before .before .before .before .before .before .before .before .before .before .before .before .before .gather .result) (at-start .pre .5) (c .before .before .before .before .before .before .before .before .carried-of .ensures) in
     let pre = at-start .pre in (
       pre .0,
       pre .3,
@@ -105,9 +105,9 @@ returns-4 c =
     let e = c .before .before .before .before .before .before .before .before .before .before .before .before .before .before .before .before .before .before .before .before .before .before .gather .ensures in
     let below = atoms-below (now (a .f)) (now (a .views)) (a .hash) (now (a .b)) (a .n) e (at-start .pre .2) in
     coalesced-of (a .w) (a .n) 64 (decode (now (a .b))) e
-    (rewritten-turn (a .w) (decode (now (a .b))) (c^22 .gather .result) (now (a .made)) (now (a .out)) (now (a .coeffs))
-    (at-start .pre .5) (a .n) below (at-start .pre .0) (not-full (now (a .made)) (c^23 .if1 .left)) (c^21 .if2 .left)
-    (c^15 .carried-of .ensures) (c^12 .if3 .left) (c^6 .put-carried .ensures))
+    (rewritten-turn (a .w) (decode (now (a .b))) (c .before .before .before .before .before .before .before .before .before .before .before .before .before .before .before .before .before .before .before .before .before .before .gather .result) (now (a .made)) (now (a .out)) (now (a .coeffs))
+    (at-start .pre .5) (a .n) below (at-start .pre .0) (not-full (now (a .made)) (c .before .before .before .before .before .before .before .before .before .before .before .before .before .before .before .before .before .before .before .before .before .before .before .if1 .left)) (c .before .before .before .before .before .before .before .before .before .before .before .before .before .before .before .before .before .before .before .before .before .if2 .left)
+    (c .before .before .before .before .before .before .before .before .before .before .before .before .before .before .before .carried-of .ensures) (c .before .before .before .before .before .before .before .before .before .before .before .before .if3 .left) (c .before .before .before .before .before .before .put-carried .ensures))
 
 pub coalesce-group-spec : {M : Type 1} → statement M
 coalesce-group-spec =
