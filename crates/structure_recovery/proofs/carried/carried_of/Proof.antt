@@ -25,9 +25,11 @@ loop-holds c =
 
 carry-at-requires : tie.Need-carry-at-requires Inv-loop μ-loop
 carry-at-requires c κs =
-    let a = c .before .before .before .before .before .before .args in
-    let pre = c .before .before .before .before .before .before .pre in
-    let h = c .before .before .before .loop in
+    let at-loop = c .before .before .before in
+    let at-start = at-loop .before .before .before in
+    let a = at-start .args in
+    let pre = at-start .pre in
+    let h = at-loop .loop in
     let g = lent (now (a .coeffs)) (now (a .masks)) [] (a .n) in
     let few = to-few (a .w) g (pre .1) (h .p) (h .count) (h .inv .1) in
     let lt = c .before .before .loop-test .taken in (
@@ -48,11 +50,13 @@ loop-less c = omega arith
 
 loop-again : tie.Need-loop-again Inv-loop μ-loop
 loop-again c =
-    let a = c .before .before .before .before .before .before .before .before .before .before .before .args in
-    let h = c .before .before .before .before .before .before .before .before .loop in (
+    let at-loop = c .before .before .before .before .before .before .before .before in
+    let at-start = at-loop .before .before .before in
+    let a = at-start .args in
+    let h = at-loop .loop in (
       omega arith,
-      carried-turn (a .w) (lent (now (a .coeffs)) (now (a .masks)) [] (a .n)) (c .before .before .before .before .before .before .before .before .before .before .before .pre .1) (h .p) (h .count) (h .inv .1)
-          (c .before .before .before .before .carry-at .ensures),
+      carried-turn (a .w) (lent (now (a .coeffs)) (now (a .masks)) [] (a .n)) (at-start .pre .1) (h .p) (h .count)
+          (h .inv .1) (c .before .before .before .before .carry-at .ensures),
     )
 
 same-length : tie.Need-same-length Inv-loop μ-loop
@@ -63,9 +67,10 @@ same-length-2 c = c .before .loop .inv .1 .wide
 
 returns : tie.Need-returns Inv-loop μ-loop
 returns c =
-    let a = c .before .before .before .before .args in
+    let at-start = c .before .before .before .before in
+    let a = at-start .args in
     let h = c .before .loop in
-    carried-done (a .w) (lent (now (a .coeffs)) (now (a .masks)) [] (a .n)) (c .before .before .before .before .pre .1) (h .p) (h .count) (h .inv .1)
+    carried-done (a .w) (lent (now (a .coeffs)) (now (a .masks)) [] (a .n)) (at-start .pre .1) (h .p) (h .count) (h .inv .1)
     (h .inv .0) (c .loop-test .left)
 
 pub carried-of-spec : {M : Type 1} → statement M

@@ -65,10 +65,14 @@ same-length-4 c = search needs
 
 returns-2 : tie.Need-returns-2
 returns-2 c =
-    let at-start = c .before .before .before .before .before .before .before .before .before .before .before .before .before in
-    carry-new (at-start .args .c) (at-start .args .p) _ (now (at-start .args .carried)) (now (at-start .args .bits))
-    (at-start .pre .0) (at-start .pre .1) (c .before .before .before .before .before .before .before .before .before .place-of .ensures) (c .before .before .before .before .before .before .before .before .if1 .left) _
-    (bit-word (at-start .args .p) (at-start .pre .2)) (c .before .before .before .before .before .before .insert-at .ensures) (c .before .before .insert-at2 .ensures)
+    let at-insert = c .before .before .before .before .before .before in
+    let at-if1 = at-insert .before .before in
+    let at-place = at-if1 .before in
+    let at-start = at-place .before .before .before .before in
+    let a = at-start .args in
+    carry-new (a .c) (a .p) _ (now (a .carried)) (now (a .bits)) (at-start .pre .0) (at-start .pre .1)
+    (at-place .place-of .ensures) (at-if1 .if1 .left) _ (bit-word (a .p) (at-start .pre .2)) (at-insert .insert-at .ensures)
+    (c .before .before .insert-at2 .ensures)
 
 pub carry-spec : {M : Type 1} → statement M
 carry-spec =

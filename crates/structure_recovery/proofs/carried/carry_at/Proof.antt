@@ -13,8 +13,9 @@ bit-coeff-requires c κs = let pre = c .before .before .pre in (pre .0, pre .2, 
 
 returns : tie.Need-returns
 returns c =
-    let a = c .before .before .before .before .args in
-    let pre = c .before .before .before .before .pre in
+    let at-start = c .before .before .before .before in
+    let a = at-start .args in
+    let pre = at-start .pre in
     at-none (a .w) (lent (now (a .coeffs)) (now (a .masks)) [] (a .n)) (a .p) _ (a .count) (now (a .carried)) (now (a .bits))
     (c .before .bit-coeff .ensures) (omega (arith, pre .3)) (omega (arith, pre .4)) (c .if1 .taken)
 
@@ -29,9 +30,12 @@ same-length-2 c = search needs
 
 returns-2 : tie.Need-returns-2
 returns-2 c =
-    let a = c .before .before .before .before .before .before .before .before .before .before .before .args in
+    let at-carry = c .before .before .before .before in
+    let at-if1 = at-carry .before .before .before in
+    let at-coeff = at-if1 .before in
+    let a = at-coeff .before .before .before .args in
     at-some (a .w) (lent (now (a .coeffs)) (now (a .masks)) [] (a .n)) (a .p) _ (a .count) (now (a .carried)) (now (a .bits))
-    (c .before .before .before .before .before .before .before .before .bit-coeff .ensures) (c .before .before .before .before .before .before .before .if1 .left) (c .before .before .before .before .carry .ensures)
+    (at-coeff .bit-coeff .ensures) (at-if1 .if1 .left) (at-carry .carry .ensures)
 
 pub carry-at-spec : {M : Type 1} → statement M
 carry-at-spec =

@@ -70,7 +70,8 @@ returns c =
     let at-start = at-known .before in
     coalesce-end (now (at-start .args .s)) (λ i. at-known .shared-slice-known .given i .fits) (at-start .pre .0)
     (at-width .width .ensures) (at-literal .literal .ensures) (at-body .body .ensures) (at-copy .copy-atoms .ensures)
-    (at-table .coalesce-table .ensures) (c .before .before .before .before .before .load .ensures) (c .before .before .finish .result) (c .before .before .finish .ensures)
+    (at-table .coalesce-table .ensures) (c .before .before .before .before .before .load .ensures)
+    (c .before .before .finish .result) (c .before .before .finish .ensures)
 
 pub coalesce-form-spec : {M : Type 1} → statement M
 coalesce-form-spec =

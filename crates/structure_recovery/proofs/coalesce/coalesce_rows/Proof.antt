@@ -22,8 +22,9 @@ read-views-requires c κs =
 
 find-bases-requires : tie.Need-find-bases-requires
 find-bases-requires c κs =
-    let read = c .before .before .before .before .before .before .read-views .ensures in
-    (read-readable read, omega (arith, read-count read, c .before .before .before .before .before .before .before .before .before .before .before .before .before .before .before .pre .4))
+    let at-views = c .before .before .before .before .before .before in
+    let read = at-views .read-views .ensures in
+    (read-readable read, omega (arith, read-count read, at-views .before .before .before .before .before .before .before .before .before .pre .4))
 
 coalesce-all-requires : tie.Need-coalesce-all-requires
 coalesce-all-requires c κs =
@@ -56,9 +57,10 @@ same-length-5 c = search needs
 
 returns : tie.Need-returns
 returns c =
-    let at-views = c .before .before .before .before .before .before .before .before .before .before .before .before .before .before .before .before .before .before .before .before .before in
+    let at-all = c .before .before .before .before .before .before in
+    let at-views = at-all .before .before .before .before .before .before .before .before .before .before .before .before .before .before .before in
     let pre = at-views .before .before .before .before .before .before .before .before .before .pre in
-    rows-coalesced (at-views .read-views .ensures) (pre .6) (pre .5) (c .before .before .before .before .before .before .coalesce-all .ensures)
+    rows-coalesced (at-views .read-views .ensures) (pre .6) (pre .5) (at-all .coalesce-all .ensures)
 
 pub coalesce-rows-spec : {M : Type 1} → statement M
 coalesce-rows-spec =

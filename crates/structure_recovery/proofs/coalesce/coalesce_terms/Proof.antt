@@ -30,7 +30,9 @@ same-length-2 c = search needs
 returns-2 : tie.Need-returns-2
 unfolding coalesceTerms
 returns-2 c =
-    pass-given _ _ _ (c .before .before .before .before .before .before .before .open-bytes .ensures) (c .before .before .before .before .if1 .left) (c .before .before .coalesce-form .result) (c .before .before .coalesce-form .ensures)
+    let at-if1 = c .before .before .before .before in
+    pass-given _ _ _ (at-if1 .before .before .before .open-bytes .ensures) (at-if1 .if1 .left) (c .before .before .coalesce-form .result)
+    (c .before .before .coalesce-form .ensures)
 
 pub coalesce-terms-spec : {M : Type 1} → statement M
 coalesce-terms-spec =

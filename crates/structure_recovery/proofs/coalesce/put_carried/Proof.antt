@@ -33,13 +33,16 @@ mul-put-term-2 : tie.Need-mul-put-term-2 Inv-loop μ-loop
 mul-put-term-2 c = omega (arith, c .before .before .before .before .before .before .before .before .before .pre .5)
 
 shared-slice-read-put-term-2 : tie.Need-shared-slice-read-put-term-2 Inv-loop μ-loop
-shared-slice-read-put-term-2 c = omega (arith, c .before .before .loop-test .taken, c .before .before .before .before .before .before .before .before .before .before .pre .5)
+shared-slice-read-put-term-2 c =
+    omega (arith, c .before .before .loop-test .taken, c .before .before .before .before .before .before .before .before .before .before .pre .5)
 
 put-term-requires : tie.Need-put-term-requires Inv-loop μ-loop
 put-term-requires c κs =
-    let pre = c .before .before .before .before .before .before .before .before .before .before .before .before .before .pre in
-    let h = c .before .before .before .before .before .before .loop .inv .1 in
-    (h .room, pre .1, omega (arith, h .rows-le, pre .2, c .before .before .before .before .before .loop-test .taken), pre .3)
+    let at-test = c .before .before .before .before .before in
+    let at-loop = at-test .before in
+    let pre = at-loop .before .before .before .before .before .before .before .pre in
+    let h = at-loop .loop .inv .1 in
+    (h .room, pre .1, omega (arith, h .rows-le, pre .2, at-test .loop-test .taken), pre .3)
 
 add-k : tie.Need-add-k Inv-loop μ-loop
 add-k c = omega (arith, c .before .before .before .before .before .before .before .before .before .before .before .before .loop-test .taken)
@@ -49,13 +52,17 @@ loop-less c = omega (arith, c .before .before .before .before .before .before .b
 
 loop-again : tie.Need-loop-again Inv-loop μ-loop
 loop-again c =
-    let a = c .before .before .before .before .before .before .before .before .before .before .before .before .before .before .before .before .before .before .before .before .args in
-    let pre = c .before .before .before .before .before .before .before .before .before .before .before .before .before .before .before .before .before .before .before .before .pre in
-    let h = c .before .before .before .before .before .before .before .before .before .before .before .before .before .loop in
-    let lt = c .before .before .before .before .before .before .before .before .before .before .before .before .loop-test .taken in (
+    let at-put = c .before .before .before .before .before .before in
+    let at-test = at-put .before .before .before .before .before .before in
+    let at-loop = at-test .before in
+    let at-start = at-loop .before .before .before .before .before .before .before in
+    let a = at-start .args in
+    let pre = at-start .pre in
+    let h = at-loop .loop in
+    let lt = at-test .loop-test .taken in (
       omega (arith, lt),
       terms-next (a .w) (decode (now (a .b))) (now (a .carried)) (now (a .bits)) (h .k) (omega (arith, lt, pre .4))
-          (omega (arith, lt, pre .5)) (h .inv .1) (c .before .before .before .before .before .before .put-term .ensures),
+          (omega (arith, lt, pre .5)) (h .inv .1) (at-put .put-term .ensures),
     )
 
 same-length : tie.Need-same-length Inv-loop μ-loop

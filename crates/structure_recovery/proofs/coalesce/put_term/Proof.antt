@@ -14,8 +14,9 @@ slice-read-if1 c = search needs
 
 returns : tie.Need-returns
 returns c =
-    let a = c .before .before .before .before .before .before .args in
-    coalesced-full (c .before .before .before .before .before .before .pre .0) (is-full (now (a .made)) (c .if1 .taken))
+    let at-start = c .before .before .before .before .before .before in
+    let a = at-start .args in
+    coalesced-full (at-start .pre .0) (is-full (now (a .made)) (c .if1 .taken))
     (λ l. row-past (a .w) (decode (now (a .b))) (a .c) (a .m) l)
 
 bitmask-requires : tie.Need-bitmask-requires
@@ -38,10 +39,14 @@ same-length-3 c = search needs
 
 returns-2 : tie.Need-returns-2
 returns-2 c =
-    let a = c .before .before .before .before .before .before .before .before .before .before .before .before .before .before .before .before .before .before .before .args in
-    let hw = c .before .before .before .before .before .before .before .before .before .before .before .before .before .before .before .before .before .before .before .pre .3 in
-    term-bare (a .w) (a .c) (a .m) (decode (now (a .b))) hw (not-full (now (a .made)) (c .before .before .before .before .before .before .before .before .before .before .before .before .before .if1 .left)) _
-    (c .before .before .before .before .before .before .before .before .before .before .before .if2 .taken ∙ c .before .before .before .before .before .before .before .before .before .before .before .before .bitmask .ensures ∙ bitmask-ones (a .w) hw) (c .before .before .before .before .before .before .before .before .find-or-create-bare .ensures)
+    let at-bare = c .before .before .before .before .before .before .before .before in
+    let at-if2 = at-bare .before .before .before in
+    let at-if1 = at-if2 .before .before in
+    let at-start = at-if1 .before .before .before .before .before .before in
+    let a = at-start .args in
+    let hw = at-start .pre .3 in
+    term-bare (a .w) (a .c) (a .m) (decode (now (a .b))) hw (not-full (now (a .made)) (at-if1 .if1 .left)) _
+    (at-if2 .if2 .taken ∙ at-if2 .before .bitmask .ensures ∙ bitmask-ones (a .w) hw) (at-bare .find-or-create-bare .ensures)
     (c .before .before .add-word .ensures)
 
 slice-read-row : tie.Need-slice-read-row
@@ -64,11 +69,15 @@ same-length-6 c = search needs
 
 returns-3 : tie.Need-returns-3
 returns-3 c =
-    let a = c .before .before .before .before .before .before .before .before .before .before .before .before .before .before .before .before .before .before .before .before .args in
-    let hw = c .before .before .before .before .before .before .before .before .before .before .before .before .before .before .before .before .before .before .before .before .pre .3 in
-    term-masked (a .w) (a .c) (a .m) (decode (now (a .b))) hw (not-full (now (a .made)) (c .before .before .before .before .before .before .before .before .before .before .before .before .before .before .if1 .left))
-    (λ e. c .before .before .before .before .before .before .before .before .before .before .before .before .if2 .left (e ∙ sym (c .before .before .before .before .before .before .before .before .before .before .before .before .before .bitmask .ensures ∙ bitmask-ones (a .w) hw))) (c .before .before .before .before .before .before .before .before .create-masked .ensures)
-    (c .before .before .add-word2 .ensures)
+    let at-masked = c .before .before .before .before .before .before .before .before in
+    let at-if2 = at-masked .before .before .before .before in
+    let at-if1 = at-if2 .before .before in
+    let at-start = at-if1 .before .before .before .before .before .before in
+    let a = at-start .args in
+    let hw = at-start .pre .3 in
+    let ones = at-if2 .before .bitmask .ensures ∙ bitmask-ones (a .w) hw in
+    term-masked (a .w) (a .c) (a .m) (decode (now (a .b))) hw (not-full (now (a .made)) (at-if1 .if1 .left))
+    (λ e. at-if2 .if2 .left (e ∙ sym ones)) (at-masked .create-masked .ensures) (c .before .before .add-word2 .ensures)
 
 pub put-term-spec : {M : Type 1} → statement M
 put-term-spec =
