@@ -210,7 +210,14 @@ fn coalesce_rows(
 }
 
 // The same for at most 16 atoms. Most forms are so short, and clearing long arrays costs.
-fn coalesce_short(f: &[u8], terms: usize, w: u8, made: &mut [u64], coeffs: &mut [u64], out: &mut [u8])
+fn coalesce_short(
+    f: &[u8],
+    terms: usize,
+    w: u8,
+    made: &mut [u64],
+    coeffs: &mut [u64],
+    out: &mut [u8],
+)
     requires { ⌜ (w ≤ 64) × (atomsOk w (now f) ≡ true) × AtomsEnd (now f) terms
         × (atomCount (now f) ≤ 16) × (now coeffs ≡ padded 256 [])
         × Room (now made) (now out) × (getD (now made) 4 0 ≤ 256) ⌝ }
@@ -223,7 +230,14 @@ fn coalesce_short(f: &[u8], terms: usize, w: u8, made: &mut [u64], coeffs: &mut 
 }
 
 // The same for at most 256 atoms.
-fn coalesce_long(f: &[u8], terms: usize, w: u8, made: &mut [u64], coeffs: &mut [u64], out: &mut [u8])
+fn coalesce_long(
+    f: &[u8],
+    terms: usize,
+    w: u8,
+    made: &mut [u64],
+    coeffs: &mut [u64],
+    out: &mut [u8],
+)
     requires { ⌜ (w ≤ 64) × (atomsOk w (now f) ≡ true) × AtomsEnd (now f) terms
         × (atomCount (now f) ≤ 256) × (now coeffs ≡ padded 256 [])
         × Room (now made) (now out) × (getD (now made) 4 0 ≤ 256) ⌝ }
