@@ -1,13 +1,20 @@
-// The coefficient of each bit of a group, and the bits that carry it.
+// The coefficient of each bit of a group, the bits that carry it, and the new terms for them.
+use crate::bare;
 use group::bases::Slot;
 use group::bases::{self};
+use group::made;
+use group::settle;
 ghost use mathlib.Core.Path.{_≡_};
 ghost use mathlib.Core.List.{[]};
 ghost use Prim.Native.Nat.{ℕ, _+_, _^_, _<_, _≤_};
 ghost use lib.ListN.{length, getD};
+ghost use Rattle.record.specs.Decode.{decode};
 ghost use Rattle.group.specs.Links.{lent};
+ghost use Rattle.group.specs.Made.{Room, Basis};
 ghost use Rattle.structure_recovery.specs.CoalesceTerms.{bitCoeff, carry, carryAt, carriedOf};
+ghost use Rattle.structure_recovery.specs.CoalesceTerms.{carriedRows};
 ghost use Rattle.structure_recovery.specs.Coalescing.{carriedIn, IsPlace, IsCarried};
+ghost use Rattle.structure_recovery.specs.Coalescing.{carriedRow, Coalesced};
 
 // The sum of the coefficients, of n, whose masks have the bit p. It is cut only in the end.
 fn bit_coeff<'a>(coeffs: &'a [u64; 256], masks: &'a [u64; 256], n: usize, p: u32, w: u32) -> u64
@@ -114,4 +121,61 @@ pub fn carried_of<'a>(
         p += 1;
     }
     count
+}
+
+// One new term: a new masked atom, or the basis itself for all bits. A full table stays as it is.
+fn put_term(
+    c: u64,
+    m: u64,
+    b: &[u8],
+    hash: u64,
+    w: u8,
+    made: &mut [u64],
+    coeffs: &mut [u64],
+    out: &mut [u8],
+)
+    requires { ⌜ Room (now made) (now out) × Basis w hash (now b)
+        × (getD (now made) 4 0 + 1 < 2 ^ 64) × (w ≤ 64) ⌝ }
+    ensures { λ _. ⌜ Coalesced w 0 1 (carriedRow w (decode (now (b .entry))) c m)
+        (now (made .entry)) (now (out .entry)) (now (coeffs .entry))
+        (now (made .exit)) (now (out .exit)) (now (coeffs .exit)) ⌝ }
+{
+    if made[3] == 1 {
+        return;
+    }
+    if m == arith::bitmask(w as u32) {
+        let row = bare::find_or_create_bare(made, out, b, hash, w);
+        settle::add_word(coeffs, row, c, w as u32);
+        return;
+    }
+    let row = made[4];
+    made::create_masked(made, out, b, hash, m, w);
+    settle::add_word(coeffs, row, c, w as u32);
+}
+
+// The new terms: the first `count` coefficients with their bits.
+pub fn put_carried(
+    carried: &[u64],
+    bits: &[u64],
+    count: usize,
+    b: &[u8],
+    hash: u64,
+    w: u8,
+    made: &mut [u64],
+    coeffs: &mut [u64],
+    out: &mut [u8],
+)
+    requires { ⌜ Room (now made) (now out) × Basis w hash (now b)
+        × (getD (now made) 4 0 + count < 2 ^ 64) × (w ≤ 64)
+        × (count ≤ length (now carried)) × (count ≤ length (now bits)) ⌝ }
+    ensures { λ _. ⌜ Coalesced w 0 count (carriedRows w (decode (now (b .entry)))
+        (carriedIn count (now (carried .entry)) (now (bits .entry))))
+        (now (made .entry)) (now (out .entry)) (now (coeffs .entry))
+        (now (made .exit)) (now (out .exit)) (now (coeffs .exit)) ⌝ }
+{
+    let mut k = 0;
+    while k < count {
+        put_term(carried[k], bits[k], b, hash, w, made, coeffs, out);
+        k += 1;
+    }
 }

@@ -1,5 +1,4 @@
 // Coalescing the terms of one variable by the coefficient of each bit.
-use crate::bare;
 use crate::carried::{self};
 use group::Group;
 use group::bases;
@@ -28,66 +27,9 @@ ghost use Rattle.group.specs.Group.{variableBasis, basesOf};
 ghost use Rattle.group.specs.Views.{viewAt, basisBytes, InGroup, Views, Readable};
 ghost use Rattle.group.specs.Bases.{firstRows, FirstRows};
 ghost use Rattle.group.specs.Gathered.{gathered};
-ghost use Rattle.structure_recovery.specs.CoalesceTerms.{carriedRows, coalesceGroup, coalesceAll};
+ghost use Rattle.structure_recovery.specs.CoalesceTerms.{coalesceGroup, coalesceAll};
 ghost use Rattle.structure_recovery.specs.CoalesceTerms.{coalesceForm, coalesceTerms};
-ghost use Rattle.structure_recovery.specs.Coalescing.{carriedIn, carriedRow, Coalesced, RowsCoalesced};
-
-// One new term: a new masked atom, or the basis itself for all bits. A full table stays as it is.
-fn put_term(
-    c: u64,
-    m: u64,
-    b: &[u8],
-    hash: u64,
-    w: u8,
-    made: &mut [u64],
-    coeffs: &mut [u64],
-    out: &mut [u8],
-)
-    requires { ⌜ Room (now made) (now out) × Basis w hash (now b)
-        × (getD (now made) 4 0 + 1 < 2 ^ 64) × (w ≤ 64) ⌝ }
-    ensures { λ _. ⌜ Coalesced w 0 1 (carriedRow w (decode (now (b .entry))) c m)
-        (now (made .entry)) (now (out .entry)) (now (coeffs .entry))
-        (now (made .exit)) (now (out .exit)) (now (coeffs .exit)) ⌝ }
-{
-    if made[3] == 1 {
-        return;
-    }
-    if m == arith::bitmask(w as u32) {
-        let row = bare::find_or_create_bare(made, out, b, hash, w);
-        settle::add_word(coeffs, row, c, w as u32);
-        return;
-    }
-    let row = made[4];
-    made::create_masked(made, out, b, hash, m, w);
-    settle::add_word(coeffs, row, c, w as u32);
-}
-
-// The new terms: the first `count` coefficients with their bits.
-fn put_carried(
-    carried: &[u64],
-    bits: &[u64],
-    count: usize,
-    b: &[u8],
-    hash: u64,
-    w: u8,
-    made: &mut [u64],
-    coeffs: &mut [u64],
-    out: &mut [u8],
-)
-    requires { ⌜ Room (now made) (now out) × Basis w hash (now b)
-        × (getD (now made) 4 0 + count < 2 ^ 64) × (w ≤ 64)
-        × (count ≤ length (now carried)) × (count ≤ length (now bits)) ⌝ }
-    ensures { λ _. ⌜ Coalesced w 0 count (carriedRows w (decode (now (b .entry)))
-        (carriedIn count (now (carried .entry)) (now (bits .entry))))
-        (now (made .entry)) (now (out .entry)) (now (coeffs .entry))
-        (now (made .exit)) (now (out .exit)) (now (coeffs .exit)) ⌝ }
-{
-    let mut k = 0;
-    while k < count {
-        put_term(carried[k], bits[k], b, hash, w, made, coeffs, out);
-        k += 1;
-    }
-}
+ghost use Rattle.structure_recovery.specs.Coalescing.{Coalesced, RowsCoalesced};
 
 // One group: the rows, of n, that have the basis b with this hash are gathered, and rewritten where
 // that leaves strictly fewer terms. Where the table is full, what is left to do does not matter.
@@ -125,7 +67,7 @@ fn coalesce_group(
         settle::settle(&g.coeffs, &g.atoms, &g.marks, len, coeffs, w as u32);
         return;
     }
-    put_carried(&carried, &bits, count, b, hash, w, made, coeffs, out);
+    carried::put_carried(&carried, &bits, count, b, hash, w, made, coeffs, out);
 }
 
 // The group of the basis of row `first`.

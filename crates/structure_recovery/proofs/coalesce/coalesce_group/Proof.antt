@@ -90,7 +90,7 @@ returns-3 c =
     (many-turn (a .w) (decode (now (a .b))) (at-gather .gather .result) (now (a .made)) (now (a .out)) (now (a .coeffs))
     (pre .5) (a .n) (atoms-below (now (a .f)) (now (a .views)) (a .hash) (now (a .b)) (a .n) e (pre .2))
     (pre .0) (not-full (now (a .made)) (at-if1 .if1 .left)) (at-if2 .if2 .left) (at-carried .carried-of .ensures)
-    (c .before .before .settle2 .ensures) (at-if3 .if3 .taken))
+    (c .before .before .settle2 .ensures) (omega (arith, at-if3 .if3 .taken)))
 
 slice-aggregate-put-carried : tie.Need-slice-aggregate-put-carried
 slice-aggregate-put-carried c = search needs
@@ -140,7 +140,7 @@ returns-4 c =
     (rewritten-turn (a .w) (decode (now (a .b))) (at-gather .gather .result) (now (a .made)) (now (a .out)) (now (a .coeffs))
     (pre .5) (a .n) (atoms-below (now (a .f)) (now (a .views)) (a .hash) (now (a .b)) (a .n) e (pre .2))
     (pre .0) (not-full (now (a .made)) (at-if1 .if1 .left)) (at-if2 .if2 .left) (at-carried .carried-of .ensures)
-    (at-if3 .if3 .left) (at-put .put-carried .ensures))
+    (omega (arith, at-if3 .if3 .left)) (at-put .put-carried .ensures))
 
 pub coalesce-group-spec : {M : Type 1} → statement M
 coalesce-group-spec =

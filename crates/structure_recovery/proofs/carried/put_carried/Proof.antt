@@ -7,8 +7,8 @@ use Rattle.record.specs.Decode.{decode}
 use Rattle.structure_recovery.specs.CoalesceTerms.{carriedRows}
 use Rattle.structure_recovery.specs.Coalescing.{carriedIn, Coalesced}
 use Rattle.structure_recovery.proofs.NewTermsLaws.{terms-none, terms-next, terms-done}
-use Rattle.structure_recovery.proofs.coalesce.put_carried.Statement.{statement}
-use Rattle.structure_recovery.proofs.coalesce.put_carried.Tie as tie
+use Rattle.structure_recovery.proofs.carried.put_carried.Statement.{statement}
+use Rattle.structure_recovery.proofs.carried.put_carried.Tie as tie
 
 abbrev Inv-loop : tie.InvT-loop
 Inv-loop carried bits count b hash w made₀ coeffs₀ out₀ k₀ made coeffs out k =

@@ -6,8 +6,8 @@ use Rattle.arith.proofs.WidthLaws.{bitmask-ones}
 use Rattle.record.specs.Decode.{decode}
 use Rattle.structure_recovery.proofs.NewTermsLaws.{row-past, is-full, not-full, coalesced-full, term-bare, term-masked}
 use borrow.Author.Needs.{needs}
-use Rattle.structure_recovery.proofs.coalesce.put_term.Statement.{statement}
-use Rattle.structure_recovery.proofs.coalesce.put_term.Tie as tie
+use Rattle.structure_recovery.proofs.carried.put_term.Statement.{statement}
+use Rattle.structure_recovery.proofs.carried.put_term.Tie as tie
 
 slice-read-if1 : tie.Need-slice-read-if1
 slice-read-if1 c = search needs
