@@ -13,10 +13,12 @@ use Rattle.record.specs.Decode.{decode}
 use Rattle.record.proofs.LoopLaws.{for-ind}
 use Rattle.semilinear.specs.Form.{Row, eqTree}
 use Rattle.group.specs.declared.Group.{Group}
-use Rattle.group.specs.Group.{emptyGroup, pushEntry, groupOf}
+use Rattle.group.specs.Group.{Entry, at, emptyGroup, pushEntry, groupOf}
 use Rattle.group.specs.Made.{Basis}
 use Rattle.group.specs.Views.{viewAt, basisBytes, blankRow, Views, hasBasis}
 use Rattle.group.specs.Gathered.{gatherAt, gathered}
+use Rattle.group.proofs.EntryLaws.{Sized, sized-push, sized-empty, at-push, at-push-other}
+use Rattle.group.proofs.TotalLaws.{len-push}
 use Rattle.group.proofs.GroupOfLaws.{group-opaque, group-same, group-other}
 use Rattle.group.proofs.ViewsLaws.{row-opaque, row-masked}
 use Rattle.group.proofs.HasBasisLaws.{basis-opaque, basis-tree}
@@ -54,6 +56,54 @@ module _ (f views : List ℕ) (hash : ℕ) (b : List ℕ) where
   pub len-gathered : (n : ℕ) → gathered f views hash b n .len ≤ n
   unfolding gathered
   len-gathered n = gathered-few n
+
+  -- the atom of each entry is the number of a row
+  record Numbered (i : ℕ) (g : Group) : Type 0 where
+    sized : Sized g
+    few : g .len ≤ i
+    below : (k : ℕ) → k < g .len → at g k .atom < i
+
+  numbered-push : (i c m : ℕ) (g : Group) → i < 256 → Numbered i g → Numbered (i + 1) (pushEntry g c m i)
+  numbered-push i c m g lt h =
+      record {
+        sized = sized-push g c m i (h .sized) room;
+        few = omega (arith, h .few, len-push g c m i);
+        below = λ k lk. go k (ℕ-discrete k (g .len)) (omega (arith, lk, len-push g c m i));
+      }
+    where
+      room : g .len < 256
+      room = omega (arith, h .few)
+
+      go : (k : ℕ) → Dec (k ≡ g .len) → k < g .len + 1 → at (pushEntry g c m i) k .atom < i + 1
+      go k (yes e) lk =
+          let new : at (pushEntry g c m i) k .atom ≡ i =
+          ap (λ (n : ℕ). at (pushEntry g c m i) n .atom) e
+          ∙ ap (λ (x : Entry). x .atom) (at-push g c m i (h .sized) room) in
+          omega (arith, new)
+      go k (no e) lk =
+          let old : at (pushEntry g c m i) k .atom ≡ at g k .atom =
+          ap (λ (x : Entry). x .atom) (at-push-other g c m i k e) in
+          omega (arith, old, h .below k (omega arith))
+
+  gather-numbered : (i : ℕ) (g : Group) → i < 256 → Numbered i g → Numbered (i + 1) (gatherAt f views hash b i g)
+  gather-numbered i g lt h = go (hasBasis f (viewAt views i) hash b) refl
+    where
+      go : (x : Bool) → hasBasis f (viewAt views i) hash b ≡ x → Numbered (i + 1) (gatherAt f views hash b i g)
+      go true e = rw (gather-push i g e) (numbered-push i (viewAt views i .coeff) (viewAt views i .mask) g lt h)
+      go false e =
+          rw (gather-same i g e) record {
+            sized = h .sized;
+            few = omega (arith, h .few);
+            below = λ k lk. omega (arith, h .below k lk);
+          }
+
+  pub gathered-atoms : (n : ℕ) → n ≤ 256 → (k : ℕ) → k < gathered f views hash b n .len
+      → at (gathered f views hash b n) k .atom < n
+  unfolding gathered emptyGroup
+  gathered-atoms n most =
+      for-ind Numbered (gatherAt f views hash b) 0 emptyGroup n (omega arith)
+      (λ i g a u h. gather-numbered i g (omega arith) h)
+      (record { sized = sized-empty; few = omega arith; below = λ k lk. absurd (omega (arith, lk)) }) .below
 
   -- the group of the basis
   module _ (only : Tree → Bool) (w : ℕ) (rows : List Row) (h : Views only w f views rows) (o : Basis w hash b) where

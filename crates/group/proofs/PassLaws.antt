@@ -1,24 +1,30 @@
--- What a pass knows on its way to the groups: of the views it has read, of the bases it has found, and of a table that
--- holds the rows without the terms that are in groups.
+-- What a pass knows on its way to the groups: of the form and its copied table, of the views it has read, of the bases it
+-- has found, and of a table that holds the rows without the terms that are in groups.
 use mathlib.Core.Path.{_≡_, refl, ap, sym, _∙_}
 use Prim.Native.Nat.{ℕ, _≤_, _<_}
 use native.Mathlib.Omega.{arith}
 use mathlib.Core.List.{List, []}
-use mathlib.Core.Bool.{Bool}
+use mathlib.Core.Bool.{Bool, true}
 use lib.ListN.{length, getD, drop, length-take}
+use Rattle.record.specs.Fields.{width}
 use Rattle.record.specs.Put.{padded}
-use Rattle.record.specs.Tree.{Tree}
+use Rattle.record.specs.Span.{body}
+use Rattle.record.specs.Tree.{Tree, IsBytes}
 use Rattle.record.specs.Decode.{decode}
 use Rattle.record.proofs.PutLaws.{length-padded}
+use Rattle.semilinear.specs.declared.table.Table.{Table}
 use Rattle.semilinear.specs.Form.{Row}
 use Rattle.semilinear.specs.Items.{atomCount, afterAtoms}
-use Rattle.semilinear.specs.DecodeForm.{rowsOf}
-use Rattle.semilinear.specs.Terms.{coeffsOf}
+use Rattle.semilinear.specs.Valid.{atomsOk, isSemilinear}
+use Rattle.semilinear.specs.DecodeForm.{rowsOf, decodeForm, readForm}
+use Rattle.semilinear.specs.Scan.{AtomsEnd}
+use Rattle.semilinear.specs.Terms.{coeffsOf, Copied}
 use Rattle.semilinear.proofs.HoldsLaws.{holds-bare}
 use Rattle.semilinear.proofs.TermsLaws.{length-coeffs}
+use Rattle.semilinear.proofs.ValidLaws.{semilinear-parts}
 use Rattle.group.specs.declared.Group.{Group}
 use Rattle.group.specs.Group.{emptyGroup, basesOf, groupOf, ungrouped}
-use Rattle.group.specs.Made.{tableOf, Held, Basis}
+use Rattle.group.specs.Made.{tableOf, Room, Held, Basis}
 use Rattle.group.specs.Shown.{Shown}
 use Rattle.group.specs.Views.{viewAt, basisBytes, Views, ViewsRead, Readable}
 use Rattle.group.specs.Bases.{firstRows, FirstRows}
@@ -29,6 +35,36 @@ use Rattle.group.proofs.GatherLaws.{gather-group, len-gathered}
 use Rattle.group.proofs.HasBasisLaws.{readable}
 use Rattle.group.proofs.NextBasisLaws.{NextBasis, next-basis, bases-end}
 use Rattle.group.proofs.ReadLaws.{length-rows, kept-padded}
+use Rattle.group.proofs.ShownLaws.{begun, held-copied, copied-end}
+
+-- ---- the begin
+
+module _ (s : List ℕ) (bytes : IsBytes s) (ok : isSemilinear s ≡ true) where
+  -- the words of the copied table hold the rows
+  pub held-form : {tab : Table} {out : List ℕ} (k : ℕ) → Copied (readForm s) tab out
+      → Held (width s) (begun tab k) out (rowsOf 0 (body s) (afterAtoms (body s)))
+  unfolding decodeForm
+  held-form {tab} {out} k h = held-copied (readForm s) tab out k h
+
+  -- what a pass works on, as the code reads it
+  pub pass-begin : {w k : ℕ} {b : List ℕ} → w ≡ width s → b ≡ body s → {tab : Table} {out : List ℕ}
+      → Copied (readForm s) tab out
+      → (w ≤ 64) × (atomsOk w b ≡ true) × AtomsEnd b (tab .at) × (atomCount b ≡ tab .count) × (tab .count ≤ 256)
+      × Room (begun tab k) out × (getD (begun tab k) 4 0 ≤ 256)
+  unfolding decodeForm
+  pass-begin {w} {k} {b} ew eb {tab} {out} h =
+      let parts = semilinear-parts s ok in
+      let most : tab .count ≤ 256 = h .holds .placed .atoms-le in
+      let count : tab .count ≡ length (rowsOf 0 (body s) (afterAtoms (body s))) = h .holds .kept (h .more) .count in
+      rw (ew, eb) (
+        parts .0 .width-le,
+        parts .1 .atoms,
+        copied-end s bytes ok tab out h,
+        sym (count ∙ length-rows (body s) 0 (afterAtoms (body s))),
+        most,
+        record { words = refl; placed = held-form k h .holds .placed },
+        most,
+      )
 
 -- ---- the rows without the terms that are in groups
 

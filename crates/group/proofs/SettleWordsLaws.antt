@@ -55,6 +55,16 @@ add-word w c z [] j h = absurd (omega (arith, h))
 add-word w c z (x ∷ l) zero h = refl
 add-word w c z (x ∷ l) (suc j) h = ap (λ (m : List ℕ). x .coeff ∷ m) (add-word w c z l j (omega (arith, h)))
 
+-- the same with zeros behind them
+pub add-padded : (w : ℕ) → w ≤ 64 → (c m : ℕ) (l : List Row) (j : ℕ) → j < length l
+    → addWord w c j (padded m (coeffsOf l)) ≡ padded m (coeffsOf (addCoeff w c j l))
+unfolding padded
+add-padded w hw c m l j h =
+    let long : length (coeffsOf l) ≡ length (coeffsOf (addCoeff w c j l)) =
+    length-coeffs l ∙ sym (add-length w [] hw c j l) ∙ sym (length-coeffs (addCoeff w c j l)) in
+    add-word w c (replicate (m - length (coeffsOf l)) 0) l j h
+    ∙ ap (λ (k : ℕ). coeffsOf (addCoeff w c j l) ++ replicate (m - k) 0) long
+
 module _ (w : ℕ) (hw : w ≤ 64) (g : Group) (m : ℕ) (l : List Row) where
   -- as many rows as before, and the words are their coefficients
   record Words (t : List Row) (s : List ℕ) : Type 0 where
@@ -64,7 +74,7 @@ module _ (w : ℕ) (hw : w ≤ 64) (g : Group) (m : ℕ) (l : List Row) where
   module _ (has : (i : ℕ) → i < g .len → isLive (at g i) ≡ true → at g i .atom < length l) where
     words-turn : (i : ℕ) (t : List Row) (s : List ℕ) → i < g .len → Words t s
         → Words (settleAt w g i t) (settleWordAt w (g .coeffs) (g .atoms) (g .marks) i s)
-    unfolding settleAt isLive at padded
+    unfolding settleAt isLive at
     words-turn i t s lt h = go (ℕ-discrete (getD (g .marks) i 0) 1)
       where
         go : Dec (getD (g .marks) i 0 ≡ 1)
@@ -78,16 +88,13 @@ module _ (w : ℕ) (hw : w ≤ 64) (g : Group) (m : ℕ) (l : List Row) where
             let live : not (eqb (getD (g .marks) i 0) 1) ≡ true = simp (ne-eqb (getD (g .marks) i 0) 1 n) in
             let r : settleAt w g i t ≡ addCoeff w c j t = simp (ne-eqb (getD (g .marks) i 0) 1 n) in
             let low : j < length t = omega (arith, has i lt live, h .count) in
-            let long : length (coeffsOf t) ≡ length (coeffsOf (addCoeff w c j t)) =
-            length-coeffs t ∙ sym (add-length w [] hw c j t) ∙ sym (length-coeffs (addCoeff w c j t)) in
             rw r
             (record {
               count = add-length w [] hw c j t ∙ h .count;
               words =
                   word-live w (g .coeffs) (g .atoms) (g .marks) i s n
                   ∙ ap (addWord w c j) (h .words)
-                  ∙ add-word w c (replicate (m - length (coeffsOf t)) 0) t j low
-                  ∙ ap (λ (k : ℕ). coeffsOf (addCoeff w c j t) ++ replicate (m - k) 0) long;
+                  ∙ add-padded w hw c m t j low;
             })
 
     -- the words of the settled rows

@@ -29,9 +29,9 @@ use Rattle.group.specs.declared.Group.{Group}
 use Rattle.group.specs.Group.{at, isLive, addCoeff, settleAt, settle}
 use Rattle.group.specs.Made.{tableOf, flagOf, wordsOf, Held}
 use Rattle.group.specs.Shown.{Shown}
-use Rattle.group.specs.Gathered.{settleWords}
+use Rattle.group.specs.Gathered.{addWord, settleWords}
 use Rattle.group.proofs.CoeffsLaws.{fits-length}
-use Rattle.group.proofs.SettleWordsLaws.{settle-words}
+use Rattle.group.proofs.SettleWordsLaws.{add-padded, settle-words}
 use Rattle.group.proofs.WordsLaws.{held-start}
 
 -- ---- the begin
@@ -120,6 +120,32 @@ module _ (w : ℕ) where
   alike-then p q =
       record { bare = p .bare ∙ q .bare; count = p .count ∙ q .count; records = p .records ∙ q .records }
 
+  alike-fits : {l m : List Row} → Alike l m → fitsTable l ≡ fitsTable m
+  unfolding fitsTable
+  alike-fits h = rw (h .count, h .records) refl
+
+  alike-held : {l m : List Row} → Alike m l → {made out : List ℕ} → Held w made out l → Held w made out m
+  alike-held {l} {m} a {made} {out} h =
+      record {
+        holds = holds-bare l m (sym (a .bare)) w (tableOf made) out (h .holds);
+        clean = h .clean;
+        rows = h .rows ∙ sym (a .count);
+      }
+
+  -- c added to the coefficient of a row
+  module _ (c j : ℕ) (l : List Row) where
+    pub add-fits : fitsTable (addCoeff w c j l) ≡ fitsTable l
+    add-fits = alike-fits (add-alike c j l)
+
+    pub shown-add : w ≤ 64 → j < length l → {made out coeffs coeffs′ : List ℕ} → Held w made out l
+        → (fitsTable l ≡ true → coeffs ≡ padded 256 (coeffsOf l)) → coeffs′ ≡ addWord w c j coeffs
+        → Shown w made out coeffs′ (addCoeff w c j l)
+    shown-add hw lt held terms e =
+        record {
+          held = alike-held (add-alike c j l) held;
+          terms = λ f. e ∙ ap (addWord w c j) (terms (sym add-fits ∙ f)) ∙ add-padded w hw c 256 l j lt;
+        }
+
   module _ (g : Group) (l : List Row) where
     settle-alike : Alike (settle w g l) l
     unfolding settle settleAt
@@ -131,16 +157,10 @@ module _ (w : ℕ) where
         (record { bare = refl; count = refl; records = refl })
 
     pub settle-fits : fitsTable (settle w g l) ≡ fitsTable l
-    unfolding fitsTable
-    settle-fits = rw (settle-alike .count, settle-alike .records)
+    settle-fits = alike-fits settle-alike
 
-    settle-held : {made out : List ℕ} → Held w made out l → Held w made out (settle w g l)
-    settle-held {made} {out} h =
-        record {
-          holds = holds-bare l (settle w g l) (sym (settle-alike .bare)) w (tableOf made) out (h .holds);
-          clean = h .clean;
-          rows = h .rows ∙ sym (settle-alike .count);
-        }
+    pub settle-length : length (settle w g l) ≡ length l
+    settle-length = settle-alike .count
 
     -- every live entry has an atom of the table: the words are those of the settled rows
     pub shown-settle : w ≤ 64 → ((i : ℕ) → i < g .len → isLive (at g i) ≡ true → at g i .atom < length l)
@@ -150,6 +170,6 @@ module _ (w : ℕ) where
         → Shown w made out coeffs′ (settle w g l)
     shown-settle hw has held terms e =
         record {
-          held = settle-held held;
+          held = alike-held settle-alike held;
           terms = λ f. e ∙ settle-words w hw g 256 l has (terms (sym settle-fits ∙ f));
         }

@@ -12,6 +12,7 @@ use borrow.Author.Tests.{eqb-true, ltb-true, lt-ltb}
 use Rattle.arith.specs.Congruence.{Eqm}
 use Rattle.arith.proofs.CongruenceLaws.{eqm-of-eq, eqm-trans, eqm-add, eqm-mul-r}
 use Rattle.record.specs.Choice.{when}
+use Rattle.record.specs.Loop.{forIn}
 use Rattle.record.proofs.SizedLaws.{and-true}
 use Rattle.record.proofs.LoopLaws.{for-ind, for-keeps}
 use Rattle.group.specs.declared.Group.{Group}
@@ -49,19 +50,19 @@ below-mono n m h (y ∷ l) e =
 
 -- ---- one bit carried
 
-abbrev carried : ℕ → ℕ → Carried
+abbrev pub carried : ℕ → ℕ → Carried
 carried c m = record { coeff = c; bits = m }
 
 module _ (c p : ℕ) (y : Carried) (l : List Carried) where
-  carry-joined : eqb (y .coeff) c ≡ true → carry c p (y ∷ l) ≡ carried c (y .bits + 2 ^ p) ∷ l
+  pub carry-joined : eqb (y .coeff) c ≡ true → carry c p (y ∷ l) ≡ carried c (y .bits + 2 ^ p) ∷ l
   unfolding carry
   carry-joined e = simp e
 
-  carry-here : eqb (y .coeff) c ≡ false → ltb c (y .coeff) ≡ true → carry c p (y ∷ l) ≡ carried c (2 ^ p) ∷ y ∷ l
+  pub carry-here : eqb (y .coeff) c ≡ false → ltb c (y .coeff) ≡ true → carry c p (y ∷ l) ≡ carried c (2 ^ p) ∷ y ∷ l
   unfolding carry
   carry-here e h = simp (e, h)
 
-  carry-later : eqb (y .coeff) c ≡ false → ltb c (y .coeff) ≡ false → carry c p (y ∷ l) ≡ y ∷ carry c p l
+  pub carry-later : eqb (y .coeff) c ≡ false → ltb c (y .coeff) ≡ false → carry c p (y ∷ l) ≡ y ∷ carry c p l
   unfolding carry
   carry-later e h = simp (e, h)
 
@@ -149,9 +150,15 @@ module _ (w : ℕ) (hw : w ≤ 64) (x : ℕ) (g : Group) where
   unfolding carriedSum bitsBelow
   carry-start = record { sum = eqm-of-eq (sym (low-total-none x g)); below = refl }
 
+  carried-to : (p : ℕ) → CarriedTo p (forIn (carryAt w g) 0 p [])
+  carried-to p = for-ind CarriedTo (carryAt w g) 0 [] p (omega arith) (λ k l a u h. carry-turn k l h) carry-start
+
+  pub below-to : (p : ℕ) → bitsBelow (2 ^ p) (forIn (carryAt w g) 0 p []) ≡ true
+  below-to p = carried-to p .below
+
   carried-all : CarriedTo w (carriedOf w g)
   unfolding carriedOf
-  carried-all = for-ind CarriedTo (carryAt w g) 0 [] w (omega arith) (λ p l a u h. carry-turn p l h) carry-start
+  carried-all = carried-to w
 
   pub carried-below : bitsBelow (2 ^ w) (carriedOf w g) ≡ true
   carried-below = carried-all .below

@@ -30,3 +30,8 @@ mod RecoveredLaws
 mod GroupRecoveredLaws
 mod AllRecoveredLaws
 mod RecoverEndLaws
+mod CarriedInLaws
+mod CarriedToLaws
+mod NewTermsLaws
+mod CoalesceTurnLaws
+mod CoalescedLaws

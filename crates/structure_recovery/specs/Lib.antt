@@ -6,3 +6,4 @@ pub mod Flattening
 pub mod Search
 pub mod Showing
 pub mod Recovering
+pub mod Coalescing

@@ -1,5 +1,7 @@
 // Recovering structure, coalescing and flattening.
 pub mod bare;
+pub mod carried;
+pub mod coalesce;
 pub mod flatten;
 pub mod pair;
 pub mod recover;

@@ -1,62 +1,33 @@
--- The begin and the end of refining (specs/Refining.antt): the words of the copied table hold the rows of the form, and
--- what the end of a pass gives of the refined rows is the refined form.
-use mathlib.Core.Path.{_≡_, refl, ap, sym, _∙_}
+-- The end of refining (specs/Refining.antt): what the end of a pass gives of the refined rows is the refined form.
+use mathlib.Core.Path.{_≡_, _∙_}
 use Prim.Native.Nat.{ℕ, _*_, _≤_}
 use native.Mathlib.Omega.{arith}
 use mathlib.Core.List.{List}
 use mathlib.Core.Bool.{true, false}
-use lib.ListN.{length, getD}
+use lib.ListN.{length}
 use Rattle.record.specs.Fields.{width, literal}
 use Rattle.record.specs.Span.{body}
 use Rattle.record.specs.Tree.{IsBytes}
 use Rattle.semilinear.specs.declared.outcome.Answer.{Answer}
 use Rattle.semilinear.specs.declared.table.Table.{Table}
 use Rattle.semilinear.specs.Form.{Row}
-use Rattle.semilinear.specs.Items.{atomCount, afterAtoms}
-use Rattle.semilinear.specs.Valid.{atomsOk, isSemilinear}
+use Rattle.semilinear.specs.Items.{afterAtoms}
+use Rattle.semilinear.specs.Valid.{isSemilinear}
 use Rattle.semilinear.specs.DecodeForm.{rowsOf, decodeForm, readForm}
 use Rattle.semilinear.specs.Answers.{GivesForm}
 use Rattle.semilinear.specs.Compact.{limitOutcome}
-use Rattle.semilinear.specs.Scan.{AtomsEnd}
 use Rattle.semilinear.specs.Table.{Placed}
 use Rattle.semilinear.specs.Terms.{Copied, Finished}
 use Rattle.semilinear.proofs.AcceptLaws.{form-valid}
-use Rattle.semilinear.proofs.ValidLaws.{semilinear-parts}
-use Rattle.group.specs.Made.{tableOf, Room, Held}
-use Rattle.group.proofs.ReadLaws.{length-rows}
-use Rattle.group.proofs.ShownLaws.{begun, held-copied, copied-end, shown-ends}
+use Rattle.group.specs.Made.{tableOf}
+use Rattle.group.proofs.PassLaws.{held-form}
+use Rattle.group.proofs.ShownLaws.{begun, shown-ends}
 use Rattle.term_refiner.specs.RefineTerms.{refineForm}
 use Rattle.term_refiner.specs.Refining.{RowsRefined}
 use Rattle.term_refiner.proofs.RefineFormLaws.{all-fair}
 
 module _ (s : List ℕ) (bytes : IsBytes s) (ok : isSemilinear s ≡ true) where
-  -- the words of the copied table hold the rows
-  held : {tab : Table} {out : List ℕ} (k : ℕ) → Copied (readForm s) tab out
-      → Held (width s) (begun tab k) out (rowsOf 0 (body s) (afterAtoms (body s)))
-  unfolding decodeForm
-  held {tab} {out} k h = held-copied (readForm s) tab out k h
-
-  -- what the rows are refined with, as the code reads it
-  pub refine-begin : {w k : ℕ} {b : List ℕ} → w ≡ width s → b ≡ body s → {tab : Table} {out : List ℕ}
-      → Copied (readForm s) tab out
-      → (w ≤ 64) × (atomsOk w b ≡ true) × AtomsEnd b (tab .at) × (atomCount b ≡ tab .count) × (tab .count ≤ 256)
-      × Room (begun tab k) out × (getD (begun tab k) 4 0 ≤ 256)
-  unfolding decodeForm
-  refine-begin {w} {k} {b} ew eb {tab} {out} h =
-      let parts = semilinear-parts s ok in
-      let most : tab .count ≤ 256 = h .holds .placed .atoms-le in
-      let count : tab .count ≡ length (rowsOf 0 (body s) (afterAtoms (body s))) = h .holds .kept (h .more) .count in
-      rw (ew, eb) (
-        parts .0 .width-le,
-        parts .1 .atoms,
-        copied-end s bytes ok tab out h,
-        sym (count ∙ length-rows (body s) 0 (afterAtoms (body s))),
-        most,
-        record { words = refl; placed = held k h .holds .placed },
-        most,
-      )
-
-  -- and the end gives the refined form, or 9
+  -- the end gives the refined form, or 9
   pub refine-end : {w c k : ℕ} {b : List ℕ} → w ≡ width s → c ≡ literal s → b ≡ body s → {tab : Table} {out : List ℕ}
       → Copied (readForm s) tab out → {made out′ coeffs : List ℕ}
       → RowsRefined w (rowsOf 0 b (afterAtoms b)) (begun tab k) out made out′ coeffs
@@ -66,7 +37,7 @@ module _ (s : List ℕ) (bytes : IsBytes s) (ok : isSemilinear s ≡ true) where
   unfolding refineForm decodeForm
   refine-end {w} {c} {k} {b} ew ec eb {tab} {out} h {made} {out′} {coeffs} refined et r finished =
       let own = rw (ew, eb) at refined in
-      let shown = own .shown (all-fair (readForm s) (form-valid s bytes ok)) (held k h) in
+      let shown = own .shown (all-fair (readForm s) (form-valid s bytes ok)) (held-form s bytes ok k h) in
       let end = rw (ew, ec, et) at finished in
       end .gives _ (shown-ends (width s) made out′ coeffs _ shown)
 

@@ -3,7 +3,8 @@ use denote.Ref.{now}
 use native.Mathlib.Omega.{arith}
 use Rattle.record.proofs.PutLaws.{padded-nil}
 use Rattle.semilinear.proofs.ValidLaws.{semilinear-parts}
-use Rattle.term_refiner.proofs.RefinedLaws.{refine-begin, refine-room, refine-end}
+use Rattle.group.proofs.PassLaws.{pass-begin}
+use Rattle.term_refiner.proofs.RefinedLaws.{refine-room, refine-end}
 use borrow.Author.Needs.{needs}
 use Rattle.term_refiner.proofs.refine_form.Statement.{statement}
 use Rattle.term_refiner.proofs.refine_form.Tie as tie
@@ -34,7 +35,7 @@ refine-table-requires c κs =
     let at-known = at-width .before .before in
     let at-start = at-known .before in
     let p =
-    refine-begin (now (at-start .args .s)) (λ i. at-known .shared-slice-known .given i .fits) (at-start .pre .0)
+    pass-begin (now (at-start .args .s)) (λ i. at-known .shared-slice-known .given i .fits) (at-start .pre .0)
     (at-width .width .ensures) (at-body .body .ensures) (at-copy .copy-atoms .ensures) in
     (p .0, p .1, p .2, p .3, p .4, padded-nil 256, p .5, p .6)
 

@@ -1,0 +1,178 @@
+-- Laws of a group coalesced in turn (specs/Coalescing.antt): it is settled or rewritten, and the groups follow each other.
+use mathlib.Core.Path.{_≡_, refl, ap, sym, subst, _∙_}
+use Prim.Native.Nat.{ℕ, zero, suc, _+_, _*_, _≤_, _<_}
+use native.Mathlib.Omega.{arith}
+use mathlib.Core.List.{List, [], _∷_, _++_}
+use mathlib.Core.Bool.{Bool, true, false, _||_}
+use lib.ListN.{length, getD, take, drop, length-drop}
+use lib.Seq.{take-suc, take-all, getD-drop}
+use lib.Dec.{ltb, leb}
+use borrow.Author.Tests.{lt-ltb, le-ltb, le-leb, lt-leb}
+use Rattle.record.specs.Choice.{when}
+use Rattle.record.specs.Tree.{Tree}
+use Rattle.record.proofs.LoopLaws.{when-both}
+use Rattle.semilinear.specs.Form.{Row, fitsTable}
+use Rattle.group.specs.declared.Group.{Group}
+use Rattle.group.specs.Group.{at, isLive, emptyGroup, variableBasis, groupOf, settle}
+use Rattle.group.specs.Made.{tableOf, Room}
+use Rattle.group.specs.Links.{lent}
+use Rattle.group.specs.Gathered.{gathered, settleWords}
+use Rattle.group.proofs.GatherLaws.{gathered-atoms}
+use Rattle.group.proofs.SettleWordsLaws.{length-settle}
+use Rattle.group.proofs.ShownLaws.{settle-fits, settle-length, shown-settle}
+use Rattle.structure_recovery.specs.CoalesceTerms.{Carried, carriedOf, carriedRows, coalesceGroup, coalesceAll}
+use Rattle.structure_recovery.specs.Showing.{Shows}
+use Rattle.structure_recovery.specs.Coalescing.{carriedIn, IsCarried, Coalesced}
+use Rattle.structure_recovery.proofs.CarriedToLaws.{carried-few, carried-lent}
+use Rattle.structure_recovery.proofs.NewTermsLaws.{rows-past, rows-longer, shows-shown, coalesced-as, coalesced-then}
+
+-- ---- one group
+
+module _ (w : ℕ) (t : Tree) (g : Group) where
+  abbrev entries : ℕ
+  entries = length (carriedOf w g)
+
+  pub group-past : (l : List Row) → fitsTable l ≡ false → fitsTable (coalesceGroup w t g l) ≡ false
+  unfolding coalesceGroup
+  group-past l h =
+      when-both (λ (r : List Row). fitsTable r ≡ false) (ltb (g .len) 2 || leb (g .len) entries) (settle w g l)
+      (carriedRows w t (carriedOf w g) l) (λ _. settle-fits w g l ∙ h) (λ _. rows-past w t (carriedOf w g) l h)
+
+  pub group-longer : w ≤ 64 → (l : List Row) → length l ≤ length (coalesceGroup w t g l)
+  unfolding coalesceGroup
+  group-longer hw l =
+      when-both (λ (r : List Row). length l ≤ length r) (ltb (g .len) 2 || leb (g .len) entries) (settle w g l)
+      (carriedRows w t (carriedOf w g) l) (λ _. omega (arith, settle-length w g l))
+      (λ _. rows-longer w t hw (carriedOf w g) l)
+
+  short-settled : g .len < 2 → (l : List Row) → coalesceGroup w t g l ≡ settle w g l
+  unfolding coalesceGroup
+  short-settled h l = simp (lt-ltb (g .len) 2 h)
+
+  many-settled : 2 ≤ g .len → g .len ≤ entries → (l : List Row) → coalesceGroup w t g l ≡ settle w g l
+  unfolding coalesceGroup
+  many-settled two h l = simp (le-ltb (g .len) 2 two, le-leb (g .len) entries h)
+
+  rewritten : 2 ≤ g .len → entries < g .len → (l : List Row)
+      → coalesceGroup w t g l ≡ carriedRows w t (carriedOf w g) l
+  unfolding coalesceGroup
+  rewritten two h l = simp (le-ltb (g .len) 2 two, lt-leb (g .len) entries h)
+
+  -- what the bits of the group carry, as the code finds it
+  module _ (hw : w ≤ 64) {carried₀ bits₀ carried bits : List ℕ} {r : ℕ}
+      (c : IsCarried (carriedOf w (lent (g .coeffs) (g .masks) [] (g .len))) carried₀ bits₀ carried bits r) where
+    count-is : r ≡ entries
+    count-is = c .count ∙ ap length (carried-lent w g)
+
+    pub carried-count : r ≤ 64
+    unfolding carriedOf
+    carried-count = omega (arith, count-is, carried-few w g w)
+
+  module _ (made out coeffs : List ℕ) (hw : w ≤ 64) (n : ℕ) (below : (k : ℕ) → k < g .len → at g k .atom < n)
+      (room : Room made out) (more : tableOf made .full ≡ false) where
+    -- the group is settled
+    settled-turn : {coeffs′ : List ℕ} → coeffs′ ≡ settleWords w (g .coeffs) (g .atoms) (g .marks) (g .len) coeffs
+        → ((l : List Row) → coalesceGroup w t g l ≡ settle w g l)
+        → Coalesced w n 64 (coalesceGroup w t g) made out coeffs made out coeffs′
+    unfolding settleWords
+    settled-turn e is =
+        record {
+          room = room;
+          rows-le = omega arith;
+          long = refl;
+          wide = ap length e ∙ length-settle w (g .coeffs) (g .atoms) (g .marks) (g .len) coeffs;
+          shows = λ l le s.
+              let h = s .shown more in
+              rw (is l)
+              (shows-shown
+              (shown-settle w g l hw (λ k lt _. omega (arith, below k lt, le)) (h .held) (h .terms) e));
+        }
+
+    pub short-turn : {coeffs′ : List ℕ} → coeffs′ ≡ settleWords w (g .coeffs) (g .atoms) (g .marks) (g .len) coeffs
+        → g .len < 2 → Coalesced w n 64 (coalesceGroup w t g) made out coeffs made out coeffs′
+    short-turn e h = settled-turn e (short-settled h)
+
+    module _ (two : 2 ≤ g .len) {carried₀ bits₀ carried bits : List ℕ} {r : ℕ}
+        (c : IsCarried (carriedOf w (lent (g .coeffs) (g .masks) [] (g .len))) carried₀ bits₀ carried bits r) where
+      pub many-turn : {coeffs′ : List ℕ} → coeffs′ ≡ settleWords w (g .coeffs) (g .atoms) (g .marks) (g .len) coeffs
+          → g .len ≤ r → Coalesced w n 64 (coalesceGroup w t g) made out coeffs made out coeffs′
+      many-turn e h = settled-turn e (many-settled two (omega (arith, count-is hw c, h)))
+
+      -- or rewritten
+      pub rewritten-turn : r < g .len → {made′ out′ coeffs′ : List ℕ}
+          → Coalesced w 0 r (carriedRows w t (carriedIn r carried bits)) made out coeffs made′ out′ coeffs′
+          → Coalesced w n 64 (coalesceGroup w t g) made out coeffs made′ out′ coeffs′
+      rewritten-turn h p =
+          coalesced-as (omega arith) (carried-count hw c)
+          (λ l. ap (λ (x : List Carried). carriedRows w t x l) (c .are ∙ carried-lent w g)
+          ∙ sym (rewritten two (omega (arith, count-is hw c, h)) l)) p
+
+-- the group that was gathered
+module _ (f views : List ℕ) (hash : ℕ) (b : List ℕ) (n : ℕ) {g : Group} (e : g ≡ gathered f views hash b n)
+    (most : n ≤ 256) where
+  pub atoms-below : (k : ℕ) → k < g .len → at g k .atom < n
+  atoms-below = rw e (gathered-atoms f views hash b n most)
+
+-- the same of the group by its name
+pub coalesced-of : (w m n : ℕ) (t : Tree) {g h : Group} {made out coeffs made′ out′ coeffs′ : List ℕ} → g ≡ h
+    → Coalesced w m n (coalesceGroup w t g) made out coeffs made′ out′ coeffs′
+    → Coalesced w m n (coalesceGroup w t h) made out coeffs made′ out′ coeffs′
+coalesced-of w m n t {made = made} {out} {coeffs} {made′} {out′} {coeffs′} e p =
+    subst (λ (g : Group). Coalesced w m n (coalesceGroup w t g) made out coeffs made′ out′ coeffs′) e p
+
+-- ---- the groups in turn
+
+take-next : (l : List Tree) (k : ℕ) {b : Tree} → drop k l ≡ b ∷ drop (k + 1) l → take (k + 1) l ≡ take k l ++ (b ∷ [])
+take-next l k {b} e =
+    let s : k + 1 ≡ suc k = omega arith in
+    let z : k + 0 ≡ k = omega arith in
+    let lt : k < length l = omega (arith, length-drop k l, ap length e) in
+    let is : getD l k b ≡ b =
+    sym (getD-drop k l 0 b ∙ ap (λ (i : ℕ). getD l i b) z) ∙ ap (λ (x : List Tree). getD x 0 b) e in
+    rw s (take-suc l k b lt ∙ ap (λ (x : Tree). take k l ++ (x ∷ [])) is)
+
+module _ (w : ℕ) (hw : w ≤ 64) (before : List Row) where
+  -- one basis, as `coalesceAll` takes it
+  abbrev one : Tree → List Row → List Row
+  one b = coalesceGroup w b (groupOf variableBasis w b 0 before emptyGroup)
+
+  all-last : (a : List Tree) (b : Tree) (l : List Row)
+      → coalesceAll w before (a ++ (b ∷ [])) l ≡ one b (coalesceAll w before a l)
+  unfolding coalesceAll
+  all-last [] b l = refl
+  all-last (x ∷ a) b l = all-last a b (one x l)
+
+  all-longer : (a : List Tree) (l : List Row) → length l ≤ length (coalesceAll w before a l)
+  unfolding coalesceAll
+  all-longer [] l = omega arith
+  all-longer (x ∷ a) l =
+      omega (
+        arith,
+        group-longer w x (groupOf variableBasis w x 0 before emptyGroup) hw l,
+        all-longer a (one x l),
+      )
+
+  module _ (bases : List Tree) (n : ℕ) {made₀ out₀ coeffs₀ : List ℕ} where
+    pub all-none : Room made₀ out₀
+        → Coalesced w n 0 (coalesceAll w before (take 0 bases)) made₀ out₀ coeffs₀ made₀ out₀ coeffs₀
+    unfolding coalesceAll
+    all-none room = record { room = room; rows-le = omega arith; long = refl; wide = refl; shows = λ l _ s. s }
+
+    module _ (k : ℕ) {made out coeffs : List ℕ}
+        (p : Coalesced w n (k * 64) (coalesceAll w before (take k bases)) made₀ out₀ coeffs₀ made out coeffs) where
+      pub all-next : {b : Tree} {g : Group} {made′ out′ coeffs′ : List ℕ} → drop k bases ≡ b ∷ drop (k + 1) bases
+          → g ≡ groupOf variableBasis w b 0 before emptyGroup
+          → Coalesced w n 64 (coalesceGroup w b g) made out coeffs made′ out′ coeffs′
+          → Coalesced w n ((k + 1) * 64) (coalesceAll w before (take (k + 1) bases)) made₀ out₀ coeffs₀ made′ out′ coeffs′
+      all-next {b} next own q =
+          coalesced-as (omega arith) (omega arith)
+          (λ l. sym (ap (λ (x : List Tree). coalesceAll w before x l) (take-next bases k next)
+          ∙ all-last (take k bases) b l))
+          (coalesced-then (λ l le. omega (arith, le, all-longer (take k bases) l)) p (coalesced-of w n 64 b own q))
+
+      pub all-done : k ≤ 256 → drop k bases ≡ []
+          → Coalesced w n 16384 (coalesceAll w before bases) made₀ out₀ coeffs₀ made out coeffs
+      all-done few none =
+          let short : length bases ≤ k = omega (arith, length-drop k bases, ap length none) in
+          coalesced-as (omega arith) (omega arith)
+          (λ l. ap (λ (x : List Tree). coalesceAll w before x l) (take-all k bases short)) p
