@@ -83,7 +83,7 @@ call-keeps f ok c = go (passGives (c .pass) (encodeForm f) (c .len)) (pass-keeps
   where
     go : (o : Outcome) → Made f o → InUse f (useOf (encodeForm f) o)
     go o (made g flag k e) = record { form = g; encoded = ap (useOf (encodeForm f)) e; kept = k }
-    go o (not-made n e) =
+    go o (not-made n pos e) =
         record {
           form = f;
           encoded = ap (useOf (encodeForm f)) e;
