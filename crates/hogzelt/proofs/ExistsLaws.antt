@@ -1,0 +1,106 @@
+-- There are calls as any list of calls asks for them (Trace.antt): each contract allows what the definition gives.
+use mathlib.Core.Path.{_≡_, refl, ap, sym, _∙_}
+use Prim.Native.Nat.{ℕ}
+use mathlib.Core.List.{List, [], _∷_}
+use mathlib.Core.Bool.{Bool, true}
+use lib.ListN.{length, take, replicate, length-replicate}
+use denote.Ref.{RefT}
+use Rattle.record.specs.Put.{padded}
+use Rattle.semilinear.specs.declared.outcome.Answer.{Answer}
+use Rattle.semilinear.specs.Form.{Form, encodeForm, validForm}
+use Rattle.semilinear.specs.Outcome.{Outcome, Gives, flagNumber}
+use Rattle.semilinear.specs.Answers.{refusedAnswer, GivesForm}
+use Rattle.semilinear.proofs.MadeLaws.{Made, made, not-made}
+use Rattle.semilinear.proofs.OutcomeLaws.{formAnswer, gives-form, gives-refused, gives-two}
+use Rattle.semilinear.proofs.PassLaws.{gives-same}
+use Rattle.semilinear_normalizer.proofs.NormalizeLaws.{normalize-form}
+use Rattle.claims.specs.Calls.{Pass, Call, refine-terms, recover-structure, coalesce-terms, flatten-complex-atoms}
+use Rattle.claims.specs.Calls.{compact-atom-table, passGives, afterCall}
+use Rattle.claims.proofs.CallsLaws.{pass-keeps, call-keeps}
+use Rattle.hogzelt.proofs.Trace.{Returned, CallOf, refines, flattens, compacts, inUseAfter, Trace, none, then}
+use Rattle.hogzelt.proofs.Trace.{Traced, Exported, AllExported, Accepted}
+use Rattle.hogzelt.proofs.TraceLaws.{call-bytes, begun}
+
+-- what a pass may hand over
+record Handed (o : Outcome) (len : ℕ) : Type 0 where
+  answer : Answer
+  out : List ℕ
+  given : GivesForm o len answer out
+
+handed : {f : Form} {o : Outcome} (len : ℕ) → Made f o → Handed o len
+handed len (made g flag k e) =
+    record {
+      answer = formAnswer g flag;
+      out = padded len (encodeForm g);
+      given = gives-same e len _ _ (gives-form g flag len _ _ refl refl);
+    }
+handed len (not-made n pos e) =
+    record {
+      answer = refusedAnswer n;
+      out = replicate len 0;
+      given = gives-same e len _ _ (gives-refused n len _ _ refl refl);
+    }
+
+-- a reference to a value
+ref : {A : Type 0} → A → RefT A
+ref x = record { ptr = (0, 0); name = 0; now = x }
+
+call-handed : (p : Pass) → Exported p → (s : List ℕ) (len : ℕ) (h : Handed (passGives p s len) len)
+    → CallOf s len (h .answer .refusal) (h .answer .used) (h .out) p
+unfolding passGives Exported
+call-handed refine-terms x s len h =
+    refines (record {
+      κs = ([], [], [], [], tt);
+      args = (ref s, ref (replicate len 0), ref 0, ref 0, tt);
+      exit = (ref s, ref (h .out), ref (h .answer .used), ref (h .answer .terms), tt);
+      learnt = rw (length-replicate len 0) (gives-two _ _ _ _ _ _ _ (h .given));
+      reads = refl;
+      sized = length-replicate len 0;
+      uses = refl;
+      writes = refl;
+    })
+call-handed recover-structure x s len h = absurd x
+call-handed coalesce-terms x s len h = absurd x
+call-handed flatten-complex-atoms x s len h =
+    flattens (record {
+      κs = ([], [], [], [], [], tt);
+      args = (ref s, ref (replicate len 0), ref 0, ref 0, ref 0, tt);
+      exit = (ref s, ref (h .out), ref (h .answer .used), ref (h .answer .terms), ref (flagNumber (h .answer .flag)), tt);
+      learnt = rw (length-replicate len 0) (h .given);
+      reads = refl;
+      sized = length-replicate len 0;
+      uses = refl;
+      writes = refl;
+    })
+call-handed compact-atom-table x s len h =
+    compacts (record {
+      κs = ([], [], [], [], tt);
+      args = (ref s, ref (replicate len 0), ref 0, ref 0, tt);
+      exit = (ref s, ref (h .out), ref (h .answer .used), ref (h .answer .terms), tt);
+      learnt = rw (length-replicate len 0) (gives-two _ _ _ _ _ _ _ (h .given));
+      reads = refl;
+      sized = length-replicate len 0;
+      uses = refl;
+      writes = refl;
+    })
+
+form-traced : (f : Form) → validForm f ≡ true → (calls : List Call) → AllExported calls → (s : List ℕ)
+    → s ≡ encodeForm f → Traced s calls
+unfolding AllExported
+form-traced f ok [] x s e = record { last = s; trace = none }
+form-traced f ok (c ∷ l) x s e =
+    let m : Made f (passGives (c .pass) s (c .len)) = rw e (pass-keeps f ok (c .len) (c .pass)) in
+    let call = call-handed (c .pass) (x .0) s (c .len) (handed (c .len) m) in
+    let next = call-keeps f ok c in
+    let rest =
+    form-traced (next .form) (next .kept .valid) l (x .1) _
+    (call-bytes f ok c e call ∙ ap (afterCall c) e ∙ next .encoded) in
+    record { last = rest .last; trace = then call (rest .trace) }
+
+-- from an expression that normalising accepted
+pub traced : {s : List ℕ} {len used : ℕ} {out : List ℕ} → Accepted s len used out → (calls : List Call)
+    → AllExported calls → Traced (take used out) calls
+traced {s} {len} a calls x =
+    let b = begun a in
+    let n = normalize-form s (a .are-bytes) len (b .first) (b .numbers) (b .normal) in
+    form-traced (n .form) (n .valid) calls x _ (b .taken ∙ n .encoded)
