@@ -21,6 +21,11 @@ use Rattle.runner.specs.RunPasses.{callsOf, isList, bytesOutcome, listOu
 use Rattle.runner.specs.Placed.{Lies}
 use Rattle.runner.proofs.TurnLaws.{take-lies}
 
+-- the test of the list, where the slice has kept its length
+pub list-is : (words : List ℕ) (spare : ℕ) {len n : ℕ} {r b : Bool} → n ≡ len → r ≡ isList n spare words → r ≡ b
+    → isList len spare words ≡ b
+list-is words spare e h k = ap (λ (m : ℕ). isList m spare words) (sym e) ∙ sym h ∙ k
+
 module _ (s words : List ℕ) (len spare : ℕ) (r : Answer) (out : List ℕ)
     (g : GivesForm (normalizeToSemilinear s len) len r out) where
   abbrev o : Outcome

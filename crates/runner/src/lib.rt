@@ -145,13 +145,7 @@ fn settle(first: bool, used: usize, terms: u64, sheet: &mut [u8], spare: &[u8])
 }
 
 // The list run from the form in sheet, which is left there.
-fn run_from(
-    calls: &[u64],
-    used: usize,
-    terms: u64,
-    sheet: &mut [u8],
-    spare: &mut [u8],
-) -> Answer
+fn run_from(calls: &[u64], used: usize, terms: u64, sheet: &mut [u8], spare: &mut [u8]) -> Answer
     requires { ⌜ (isList (length (now sheet)) (length (now spare)) (now calls) ≡ true)
         × Lies (take used (now sheet)) used terms (now sheet) ⌝ }
     ensures { λ r. ⌜ GivesForm (bytesOutcome (inUse (callsOf (now (calls .entry))) (take used (now (sheet .entry)))))
