@@ -5,6 +5,10 @@ use mathlib.Core.List.{List, [], _∷_}
 use mathlib.Core.Bool.{Bool, true}
 use lib.ListN.{length, take, replicate, length-replicate}
 use denote.Ref.{RefT}
+use contract.Lifetimes.{Lfts}
+use borrow.Fn.World.{ArgsD}
+use borrow.Fn.Kinds.{endedOf}
+use denote.Triple.Clauses.{AtExit}
 use Rattle.record.specs.Put.{padded}
 use Rattle.semilinear.specs.declared.outcome.Answer.{Answer}
 use Rattle.semilinear.specs.Form.{Form, encodeForm, validForm}
@@ -18,8 +22,12 @@ use Rattle.claims.specs.Calls.{Pass, Call, refine-terms, recover-structure, coa
 use Rattle.claims.specs.Calls.{compact-atom-table, passGives, afterCall}
 use Rattle.claims.proofs.CallsLaws.{pass-keeps, call-keeps}
 use Rattle.hogzelt.proofs.Trace.{Returned, CallOf, refines, flattens, compacts, inUseAfter, Trace, none, then}
-use Rattle.hogzelt.proofs.Trace.{Traced, Exported, AllExported, Accepted}
+use Rattle.hogzelt.proofs.Trace.{Traced, Exported, AllExported, Accepted, Learns}
 use Rattle.hogzelt.proofs.TraceLaws.{call-bytes, begun}
+use Rattle.hogzelt.proofs.hogzelt_compact_atom_table as writer
+use Rattle.hogzelt.proofs.hogzelt_compact_atom_table.Kinds as writer-kinds
+use Rattle.hogzelt.proofs.hogzelt_compact_atom_table.Reads as compact-reads
+use Rattle.hogzelt.proofs.hogzelt_refine_terms.Reads as refine-reads
 
 -- what a pass may hand over
 record Handed (o : Outcome) (len : ℕ) : Type 0 where
@@ -32,57 +40,66 @@ handed len (made g flag k e) =
     record {
       answer = formAnswer g flag;
       out = padded len (encodeForm g);
-      given = gives-same e len _ _ (gives-form g flag len _ _ refl refl);
+      given = gives-same e len (formAnswer g flag) _ (gives-form g flag len (formAnswer g flag) _ refl refl);
     }
 handed len (not-made n pos e) =
     record {
       answer = refusedAnswer n;
       out = replicate len 0;
-      given = gives-same e len _ _ (gives-refused n len _ _ refl refl);
+      given = gives-same e len (refusedAnswer n) _ (gives-refused n len (refusedAnswer n) _ refl refl);
     }
 
 -- a reference to a value
-ref : {A : Type 0} → A → RefT A
+abbrev ref : {A : Type 0} → A → RefT A
 ref x = record { ptr = (0, 0); name = 0; now = x }
+
+-- a writer that handed over an answer and a slice, where its contract allows it
+abbrev lifetimes : Lfts 4
+lifetimes = ([], ([], ([], ([], tt))))
+
+abbrev given-args : List ℕ → ℕ → ArgsD writer.signature lifetimes
+given-args s len = (ref s, (ref (replicate len 0), (ref 0, (ref 0, tt))))
+
+abbrev left-args : List ℕ → Answer → List ℕ → AtExit (endedOf 4 writer-kinds.ps writer-kinds.r) lifetimes
+left-args s a out = (ref s, (ref out, (ref (a .used), (ref (a .terms), tt))))
+
+returned : (L : Learns) (s : List ℕ) (len : ℕ) (a : Answer) (out : List ℕ)
+    → L lifetimes (given-args s len) (a .refusal) (left-args s a out) → Returned L s len (a .refusal) (a .used) out
+returned L s len a out h =
+    record {
+      κs = lifetimes;
+      args = given-args s len;
+      exit = left-args s a out;
+      learnt = h;
+      reads = refl;
+      sized = length-replicate len 0;
+      uses = refl;
+      writes = refl;
+    }
 
 call-handed : (p : Pass) → Exported p → (s : List ℕ) (len : ℕ) (h : Handed (passGives p s len) len)
     → CallOf s len (h .answer .refusal) (h .answer .used) (h .out) p
 unfolding passGives Exported
 call-handed refine-terms x s len h =
-    refines (record {
-      κs = ([], [], [], [], tt);
-      args = (ref s, ref (replicate len 0), ref 0, ref 0, tt);
-      exit = (ref s, ref (h .out), ref (h .answer .used), ref (h .answer .terms), tt);
-      learnt = rw (length-replicate len 0) (gives-two _ _ _ _ _ _ _ (h .given));
-      reads = refl;
-      sized = length-replicate len 0;
-      uses = refl;
-      writes = refl;
-    })
+    refines (returned refine-reads.Learnt s len (h .answer) (h .out)
+    (rw (length-replicate {A = ℕ} len 0) (gives-two _ _ _ _ _ _ _ (h .given))))
 call-handed recover-structure x s len h = absurd x
 call-handed coalesce-terms x s len h = absurd x
 call-handed flatten-complex-atoms x s len h =
+    let a = h .answer in
     flattens (record {
-      κs = ([], [], [], [], [], tt);
-      args = (ref s, ref (replicate len 0), ref 0, ref 0, ref 0, tt);
-      exit = (ref s, ref (h .out), ref (h .answer .used), ref (h .answer .terms), ref (flagNumber (h .answer .flag)), tt);
-      learnt = rw (length-replicate len 0) (h .given);
+      κs = ([], lifetimes);
+      args = (ref s, (ref (replicate len 0), (ref 0, (ref 0, (ref 0, tt)))));
+      exit = (ref s, (ref (h .out), (ref (a .used), (ref (a .terms), (ref (flagNumber (a .flag)), tt)))));
+      learnt = rw (length-replicate {A = ℕ} len 0) (h .given);
       reads = refl;
       sized = length-replicate len 0;
       uses = refl;
       writes = refl;
     })
 call-handed compact-atom-table x s len h =
-    compacts (record {
-      κs = ([], [], [], [], tt);
-      args = (ref s, ref (replicate len 0), ref 0, ref 0, tt);
-      exit = (ref s, ref (h .out), ref (h .answer .used), ref (h .answer .terms), tt);
-      learnt = rw (length-replicate len 0) (gives-two _ _ _ _ _ _ _ (h .given));
-      reads = refl;
-      sized = length-replicate len 0;
-      uses = refl;
-      writes = refl;
-    })
+    compacts (returned compact-reads.Learnt s len (h .answer) (h .out)
+    (rw (length-replicate {A = ℕ} len 0) (gives-two _ _ _ _ _ _ _ (h .given))))
 
 form-traced : (f : Form) → validForm f ≡ true → (calls : List Call) → AllExported calls → (s : List ℕ)
     → s ≡ encodeForm f → Traced s calls

@@ -25,7 +25,8 @@ use Rattle.semilinear.specs.Value.{semilinearValue}
 use Rattle.semilinear_normalizer.specs.Normalize.{normalizeToSemilinear}
 use Rattle.bit_partitioner.specs.Columns.{atomTree, IsRow, Columns}
 use Rattle.claims.specs.Atoms.{AllAtoms}
-use Rattle.claims.specs.Calls.{Pass, Call, refine-terms, flatten-complex-atoms, compact-atom-table, inUse}
+use Rattle.claims.specs.Calls.{Pass, Call, refine-terms, recover-structure, coalesce-terms, flatten-complex-atoms}
+use Rattle.claims.specs.Calls.{compact-atom-table, inUse}
 use Rattle.runner.specs.RunPasses.{callsOf}
 use Rattle.hogzelt.proofs.hogzelt_compact_atom_table as writer
 use Rattle.hogzelt.proofs.hogzelt_compact_atom_table.Kinds as writer-kinds
@@ -133,9 +134,10 @@ pub record Traced (s : List ℕ) (calls : List Call) : Type 0 where
 -- the passes that are exported, and lists of them
 unfoldable pub Exported : Pass → Type 0
 Exported refine-terms = Unit {0}
+Exported recover-structure = ⊥
+Exported coalesce-terms = ⊥
 Exported flatten-complex-atoms = Unit {0}
 Exported compact-atom-table = Unit {0}
-Exported _ = ⊥
 
 unfoldable pub AllExported : List Call → Type 0
 AllExported [] = Unit {0}

@@ -25,7 +25,7 @@ same-length-2 c = search needs
 
 returns : tie.Need-returns
 returns c =
-    let run = c^8 .run-passes in (
+    let run = c .before .before .before .before .before .before .before .before .run-passes in (
       gives-two _ _ _ _ _ _ _ (run .ensures),
       c .before .before .clear .ensures ∙ ap (λ (n : ℕ). replicate n 0) (run .kept .1 .1 .1 .0),
     )
