@@ -1,7 +1,7 @@
 -- Demand 3 on the exported functions (Trace.antt): one record, one theorem.
 use Rattle.hogzelt.proofs.Trace.{AnyCalls}
 use Rattle.hogzelt.proofs.TraceLaws.{parted-columns, trace-cut, trace-claimed}
-use Rattle.hogzelt.proofs.ExistsLaws.{traced}
+use Rattle.hogzelt.proofs.ExistsLaws.{started, traced}
 use Rattle.hogzelt.proofs.RunLaws.{run-claimed}
 use Rattle.hogzelt.proofs.hogzelt_normalize_to_semilinear.Met as normalize-thm
 use Rattle.hogzelt.proofs.hogzelt_refine_terms.Met as refine-thm
@@ -21,6 +21,7 @@ any-calls =
       run-meets = run-thm.met;
       lists = trace-claimed;
       beginnings = λ a tr n. trace-claimed a (trace-cut n tr);
+      starts = started;
       traces = traced;
       runs = λ h k. run-claimed k h;
       columns = parted-columns;

@@ -2,7 +2,7 @@
 use mathlib.Core.Path.{_≡_, refl, ap, sym, _∙_}
 use Prim.Native.Nat.{ℕ}
 use mathlib.Core.List.{List, [], _∷_}
-use mathlib.Core.Bool.{Bool, true}
+use mathlib.Core.Bool.{Bool, true, false}
 use lib.ListN.{length, take, replicate, length-replicate}
 use denote.Ref.{RefT}
 use contract.Lifetimes.{Lfts}
@@ -10,24 +10,27 @@ use borrow.Fn.World.{ArgsD}
 use borrow.Fn.Kinds.{endedOf}
 use denote.Triple.Clauses.{AtExit}
 use Rattle.record.specs.Put.{padded}
+use Rattle.record.specs.Tree.{IsBytes}
 use Rattle.semilinear.specs.declared.outcome.Answer.{Answer}
-use Rattle.semilinear.specs.Form.{Form, encodeForm, validForm}
-use Rattle.semilinear.specs.Outcome.{Outcome, Gives, flagNumber}
+use Rattle.semilinear.specs.Form.{Form, termCount, encodeForm, validForm}
+use Rattle.semilinear.specs.Outcome.{Outcome, accepted, refusalOf, numbersOf, writtenOf, Gives, flagNumber}
 use Rattle.semilinear.specs.Answers.{refusedAnswer, GivesForm}
 use Rattle.semilinear.proofs.MadeLaws.{Made, made, not-made}
 use Rattle.semilinear.proofs.OutcomeLaws.{formAnswer, gives-form, gives-refused, gives-two}
 use Rattle.semilinear.proofs.PassLaws.{gives-same}
+use Rattle.semilinear_normalizer.specs.Normalize.{normalizeToSemilinear}
 use Rattle.semilinear_normalizer.proofs.NormalizeLaws.{normalize-form}
 use Rattle.claims.specs.Calls.{Pass, Call, refine-terms, recover-structure, coalesce-terms, flatten-complex-atoms}
 use Rattle.claims.specs.Calls.{compact-atom-table, passGives, afterCall}
 use Rattle.claims.proofs.CallsLaws.{pass-keeps, call-keeps}
 use Rattle.hogzelt.proofs.Trace.{Returned, CallOf, refines, flattens, compacts, inUseAfter, Trace, none, then}
-use Rattle.hogzelt.proofs.Trace.{Traced, Exported, AllExported, Accepted, Learns}
+use Rattle.hogzelt.proofs.Trace.{Traced, Exported, AllExported, Accepted, Started, Learns}
 use Rattle.hogzelt.proofs.TraceLaws.{call-bytes, begun}
 use Rattle.hogzelt.proofs.hogzelt_compact_atom_table as writer
 use Rattle.hogzelt.proofs.hogzelt_compact_atom_table.Kinds as writer-kinds
 use Rattle.hogzelt.proofs.hogzelt_compact_atom_table.Reads as compact-reads
 use Rattle.hogzelt.proofs.hogzelt_refine_terms.Reads as refine-reads
+use Rattle.hogzelt.proofs.hogzelt_normalize_to_semilinear.Reads as normalize-reads
 
 -- what a pass may hand over
 record Handed (o : Outcome) (len : ℕ) : Type 0 where
@@ -113,6 +116,25 @@ form-traced f ok (c ∷ l) x s e =
     form-traced (next .form) (next .kept .valid) l (x .1) _
     (call-bytes f ok c e call ∙ ap (afterCall c) e ∙ next .encoded) in
     record { last = rest .last; trace = then call (rest .trace) }
+
+-- normalising itself
+pub started : (s : List ℕ) → IsBytes s → (len : ℕ) (b ns : List ℕ) → normalizeToSemilinear s len ≡ accepted b ns
+    → Started s len
+unfolding refusalOf numbersOf writtenOf
+started s h len b ns e =
+    let n = normalize-form s h len b ns e in
+    let a : Answer = record { refusal = 0; used = length b; terms = termCount (n .form .rows); flag = false } in
+    let given : Gives (normalizeToSemilinear s len) len 0 (a .used ∷ a .terms ∷ []) (padded len b) =
+    rw e (record { number = refl; beside = sym (ap (take 2) (n .counted)); written = refl }) in
+    record {
+      used = a .used;
+      out = padded len b;
+      accepts =
+          record {
+            are-bytes = h;
+            returned = returned normalize-reads.Learnt s len a (padded len b) (rw (length-replicate {A = ℕ} len 0) given);
+          };
+    }
 
 -- from an expression that normalising accepted
 pub traced : {s : List ℕ} {len used : ℕ} {out : List ℕ} → Accepted s len used out → (calls : List Call)

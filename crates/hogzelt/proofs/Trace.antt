@@ -173,9 +173,16 @@ pub record Accepted (s : List ℕ) (len used : ℕ) (out : List ℕ) : Type 0 wh
   pub are-bytes : IsBytes s
   pub returned : Returned normalize-reads.Learnt s len 0 used out
 
+-- some call that normalising accepted
+pub record Started (s : List ℕ) (len : ℕ) : Type 0 where
+  pub used : ℕ
+  pub out : List ℕ
+  pub accepts : Accepted s len used out
+
 -- demand 3: the exported functions meet their contracts; whatever calls these contracts allow, from an expression that
--- normalising accepted, the bytes in use at every step are as claimed; there are such calls for every list; running the
--- list gives them; and the partition classes of any bytes that are accepted are those of their form
+-- normalising accepted, the bytes in use at every step are as claimed; there are such calls for every expression that
+-- the definition accepts and every list; running the list gives the same; and the partition classes of any bytes that
+-- are accepted are those of their form
 pub record AnyCalls (M : Type 1) : Type 2 where
   pub normalize-meets : normalize-stated.statement M
   pub refine-meets : refine-stated.statement M
@@ -188,6 +195,8 @@ pub record AnyCalls (M : Type 1) : Type 2 where
   pub beginnings : {s : List ℕ} {len used : ℕ} {out : List ℕ} → Accepted s len used out
       → {calls : List Call} {t : List ℕ} (tr : Trace (take used out) calls t) (n : ℕ)
       → Claimed s len (take n calls) (sheetAfter n tr)
+  pub starts : (s : List ℕ) → IsBytes s → (len : ℕ) (b ns : List ℕ) → normalizeToSemilinear s len ≡ accepted b ns
+      → Started s len
   pub traces : {s : List ℕ} {len used : ℕ} {out : List ℕ} → Accepted s len used out
       → (calls : List Call) → AllExported calls → Traced (take used out) calls
   pub runs : {s words : List ℕ} {len used : ℕ} {sheet : List ℕ} → IsBytes s → Ran s words len 0 used sheet

@@ -98,14 +98,14 @@ fn turn(pass: u64, len: usize, x: InUse, sheet: &mut [u8], spare: &mut [u8]) -> 
             terms: made.terms,
         };
     }
-    let made = call_part(pass, spare, used, sheet, len);
-    if made.refusal != 0 {
+    let back = call_part(pass, spare, used, sheet, len);
+    if back.refusal != 0 {
         return x;
     }
     InUse {
         first: true,
-        used: made.used as usize,
-        terms: made.terms,
+        used: back.used as usize,
+        terms: back.terms,
     }
 }
 

@@ -27,9 +27,10 @@ sub-if1 c = search needs
 
 returns : tie.Need-returns Inv-loop μ-loop
 returns c =
-    let v = c .before .before .loop .inv in
-    let more = c .before .loop-test .taken in
-    sym (sym (v .2) ∙ list-odd _ (c .before .before .loop .i) _ _ (omega (arith, v .0, more)) (omega (arith, v .0, c .if1 .taken)))
+    let at = c .before in
+    let v = at .before .loop .inv in
+    sym (sym (v .2)
+    ∙ list-odd _ (at .before .loop .i) _ _ (omega (arith, v .0, at .loop-test .taken)) (omega (arith, v .0, c .if1 .taken)))
 
 mul-is-pass : tie.Need-mul-is-pass Inv-loop μ-loop
 mul-is-pass c = search needs
@@ -42,10 +43,14 @@ is-pass-requires c κs = search needs
 
 returns-2 : tie.Need-returns-2 Inv-loop μ-loop
 returns-2 c =
-    let v = c .before .before .before .before .before .loop .inv in
-    let two : c .before .before .before .before .before .loop .i + 2 ≤ length (c .before .before .before .before .before .before .before .args .calls .now) = omega (arith, v .0, c .before .before .before .before .loop-test .taken, c .before .before .before .if1 .left) in
+    let first = c .before .before .before in
+    let at = first .before in
+    let loop = at .before .loop in
+    let v = loop .inv in
+    let words = at .before .before .before .args .calls .now in
+    let two : loop .i + 2 ≤ length words = omega (arith, v .0, at .loop-test .taken, first .if1 .left) in
     let none = sym (c .before .is-pass .ensures) ∙ not-true _ (c .if2 .taken) in
-    sym (sym (v .2) ∙ list-pass _ (c .before .before .before .before .before .loop .i) _ _ two none)
+    sym (sym (v .2) ∙ list-pass _ (loop .i) _ _ two none)
 
 add-len : tie.Need-add-len Inv-loop μ-loop
 add-len c = search needs
@@ -58,17 +63,25 @@ shared-slice-read-len c = search needs
 
 returns-3 : tie.Need-returns-3 Inv-loop μ-loop
 returns-3 c =
-    let v = c .before .before .before .before .before .before .before .loop .inv in
-    let two : c .before .before .before .before .before .before .before .loop .i + 2 ≤ length (c .before .before .before .before .before .before .before .before .before .args .calls .now) = omega (arith, v .0, c .before .before .before .before .before .before .loop-test .taken, c .before .before .before .before .before .if1 .left) in
+    let first = c .before .before .before .before .before in
+    let at = first .before in
+    let loop = at .before .loop in
+    let v = loop .inv in
+    let words = at .before .before .before .args .calls .now in
+    let two : loop .i + 2 ≤ length words = omega (arith, v .0, at .loop-test .taken, first .if1 .left) in
     let one = sym (c .before .before .before .is-pass .ensures) ∙ not-false _ (c .before .before .if2 .left) in
-    sym (sym (v .2) ∙ list-a _ (c .before .before .before .before .before .before .before .loop .i) _ _ two one (c .if3 .taken))
+    sym (sym (v .2) ∙ list-a _ (loop .i) _ _ two one (c .if3 .taken))
 
 returns-4 : tie.Need-returns-4 Inv-loop μ-loop
 returns-4 c =
-    let v = c .before .before .before .before .before .before .before .before .loop .inv in
-    let two : c .before .before .before .before .before .before .before .before .loop .i + 2 ≤ length (c .before .before .before .before .before .before .before .before .before .before .args .calls .now) = omega (arith, v .0, c .before .before .before .before .before .before .before .loop-test .taken, c .before .before .before .before .before .before .if1 .left) in
+    let first = c .before .before .before .before .before .before in
+    let at = first .before in
+    let loop = at .before .loop in
+    let v = loop .inv in
+    let words = at .before .before .before .args .calls .now in
+    let two : loop .i + 2 ≤ length words = omega (arith, v .0, at .loop-test .taken, first .if1 .left) in
     let one = sym (c .before .before .before .before .is-pass .ensures) ∙ not-false _ (c .before .before .before .if2 .left) in
-    sym (sym (v .2) ∙ list-b _ (c .before .before .before .before .before .before .before .before .loop .i) _ _ two one (c .before .if3 .left) (c .if4 .taken))
+    sym (sym (v .2) ∙ list-b _ (loop .i) _ _ two one (c .before .if3 .left) (c .if4 .taken))
 
 add-i : tie.Need-add-i Inv-loop μ-loop
 add-i c = search needs
@@ -78,10 +91,14 @@ loop-less c = search needs
 
 loop-again : tie.Need-loop-again Inv-loop μ-loop
 loop-again c =
-    let v = c .before .before .before .before .before .before .before .before .loop .inv in
-    let two : c .before .before .before .before .before .before .before .before .loop .i + 2 ≤ length (c .before .before .before .before .before .before .before .before .before .before .args .calls .now) = omega (arith, v .0, c .before .before .before .before .before .before .before .loop-test .taken, c .before .before .before .before .before .before .if1 .left) in
+    let first = c .before .before .before .before .before .before in
+    let at = first .before in
+    let loop = at .before .loop in
+    let v = loop .inv in
+    let words = at .before .before .before .args .calls .now in
+    let two : loop .i + 2 ≤ length words = omega (arith, v .0, at .loop-test .taken, first .if1 .left) in
     let one = sym (c .before .before .before .before .is-pass .ensures) ∙ not-false _ (c .before .before .before .if2 .left) in
-    (v .0, two, sym (list-turn _ (c .before .before .before .before .before .before .before .before .loop .i) _ _ two one (c .before .if3 .left) (c .if4 .left)) ∙ v .2)
+    (v .0, two, sym (list-turn _ (loop .i) _ _ two one (c .before .if3 .left) (c .if4 .left)) ∙ v .2)
 
 returns-5 : tie.Need-returns-5 Inv-loop μ-loop
 returns-5 c =

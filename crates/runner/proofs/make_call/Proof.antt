@@ -28,7 +28,9 @@ same-length-2 c = search needs
 
 returns-2 : tie.Need-returns-2
 unfolding passGives
-returns-2 c = rw (at-four _ (c .before .before .before .before .before .if1 .left) (c .before .before .before .before .if2 .taken)) (c .before .before .flatten-complex-atoms .ensures)
+returns-2 c =
+    let at = c .before .before .before .before in
+    rw (at-four _ (at .before .if1 .left) (at .if2 .taken)) (c .before .before .flatten-complex-atoms .ensures)
 
 compact-atom-table-requires : tie.Need-compact-atom-table-requires
 compact-atom-table-requires c κs = search needs
@@ -38,7 +40,9 @@ same-length-3 c = search needs
 
 returns-3 : tie.Need-returns-3
 unfolding passGives
-returns-3 c = rw (at-other _ (c .before .before .before .before .before .if1 .left) (c .before .before .before .before .if2 .left)) (c .before .before .compact-atom-table .ensures)
+returns-3 c =
+    let at = c .before .before .before .before in
+    rw (at-other _ (at .before .if1 .left) (at .if2 .left)) (c .before .before .compact-atom-table .ensures)
 
 pub make-call-spec : {M : Type 1} → statement M
 make-call-spec =

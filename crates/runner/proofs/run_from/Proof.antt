@@ -16,7 +16,8 @@ run-list-requires c κs = let at = c .before .before .before .before .before in 
 settle-requires : tie.Need-settle-requires
 settle-requires c κs =
     let run = c .before .before .before .before .before .before .run-list in
-    (run .kept .1 .1 .0 ∙ slice-length (c .before .before .before .before .before .before .before .before .before .before .before .before .pre .1), placed-again (run .ensures))
+    let at = c .before .before .before .before .before .before .before .before .before .before .before .before in
+    (run .kept .1 .1 .0 ∙ slice-length (at .pre .1), placed-again (run .ensures))
 
 same-length : tie.Need-same-length
 same-length c = search needs
@@ -25,7 +26,9 @@ same-length-2 : tie.Need-same-length-2
 same-length-2 c = search needs
 
 returns : tie.Need-returns
-returns c = lies-given (placed-bytes (c .before .before .before .before .before .before .before .before .before .run-list .ensures) (c .before .before .settle .ensures))
+returns c =
+    let run = c .before .before .before .before .before .before .before .before .before .run-list in
+    lies-given (placed-bytes (run .ensures) (c .before .before .settle .ensures))
 
 pub run-from-spec : {M : Type 1} → statement M
 run-from-spec =

@@ -63,7 +63,9 @@ loop-less c = search needs
 loop-again : tie.Need-loop-again Inv-loop μ-loop
 loop-again c =
     let turn = c .before .before .before .before .turn in
-    running-turn (c .before .before .before .before .before .before .before .before .before .before .loop .inv) (c .before .before .before .before .before .before .before .before .before .loop-test .taken) (turn .ensures) (turn .kept .1 .1 .1 .0) (turn .kept .1 .1 .1 .1 .0)
+    let at = c .before .before .before .before .before .before .before .before .before in
+    running-turn (at .before .loop .inv) (at .loop-test .taken) (turn .ensures)
+    (turn .kept .1 .1 .1 .0) (turn .kept .1 .1 .1 .1 .0)
 
 same-length : tie.Need-same-length Inv-loop μ-loop
 same-length c = c .before .loop .inv .sheet-length

@@ -1,5 +1,5 @@
 -- A law for each way out.
-use mathlib.Core.Path.{refl}
+use mathlib.Core.Path.{sym, _∙_}
 use lib.ListN.{length}
 use borrow.Author.Tests.{not-true, not-false}
 use Rattle.runner.proofs.EntryLaws.{list-is, run-one, run-two, run-bad, run-refused, run-start, run-end}
@@ -21,20 +21,20 @@ same-length c = search needs
 
 returns : tie.Need-returns
 returns c =
+    let normal = c .before .before .before .before .normalize-to-semilinear in
     let at = c .before .before .before .before .before .before .before .before .before .before in
-    let first = c .before .before .before .before .normalize-to-semilinear in
     run-one (at .args .expr .now) (at .args .calls .now) (length (at .args .sheet .now)) (length (at .args .spare .now))
-    (first .result) (first .last .1 .0) (first .ensures) (c .if1 .taken)
+    (normal .result) (normal .last .1 .0) (normal .ensures) (c .if1 .taken)
 
 same-length-2 : tie.Need-same-length-2
 same-length-2 c = search needs
 
 returns-2 : tie.Need-returns-2
 returns-2 c =
+    let normal = c .before .before .before .before .before .before .normalize-to-semilinear in
     let at = c .before .before .before .before .before .before .before .before .before .before .before .before in
-    let first = c .before .before .before .before .before .before .normalize-to-semilinear in
     run-two (at .args .expr .now) (at .args .calls .now) (length (at .args .sheet .now)) (length (at .args .spare .now))
-    (first .result) (first .last .1 .0) (first .ensures) (c .if2 .taken)
+    (normal .result) (normal .last .1 .0) (normal .ensures) (c .if2 .taken)
 
 is-list-requires : tie.Need-is-list-requires
 is-list-requires c κs = search needs
@@ -47,34 +47,50 @@ same-length-3 c = search needs
 
 returns-3 : tie.Need-returns-3
 returns-3 c =
-    let at = c .before .before .before .before .before .before .before .before .before .before .before .before .before .before .before .before .before .before in
-    let first = c .before .before .before .before .before .before .before .before .before .before .before .before .normalize-to-semilinear in
+    let tested = c .before .before .before .before in
+    let two = tested .before .before in
+    let one = two .before .before in
+    let found = one .before .before .before .before in
+    let normal = found .normalize-to-semilinear in
+    let known = found .before .before .before .before .before in
+    let at = known .before in
+    let refuse = c .before .before .refuse in
     run-bad (at .args .expr .now) (at .args .calls .now) (length (at .args .sheet .now)) (length (at .args .spare .now))
-    (first .result) (first .last .1 .0) (first .ensures) (c .before .before .before .before .before .before .before .before .if1 .left) (c .before .before .before .before .before .before .if2 .left)
-    (list-is _ _ (first .kept .1 .0) (c .before .before .before .before .before .is-list .ensures) (not-true _ (c .before .before .before .before .if3 .taken)))
-    _ (first .kept .1 .0) (c .before .before .refuse .result) _ (c .before .before .refuse .ensures)
+    (normal .result) (normal .last .1 .0) (normal .ensures)
+    (one .if1 .left) (two .if2 .left) (list-is _ _ (normal .kept .1 .0) (tested .before .is-list .ensures) (not-true _ (tested .if3 .taken)))
+    _ (normal .kept .1 .0) (refuse .result) _ (refuse .ensures)
 
 same-length-4 : tie.Need-same-length-4
 same-length-4 c = search needs
 
 returns-4 : tie.Need-returns-4
 returns-4 c =
-    let at = c .before .before .before .before .before .before .before .before .before .before .before .before .before .before .before .before in
-    let first = c .before .before .before .before .before .before .before .before .before .before .normalize-to-semilinear in
+    let tested = c .before .before in
+    let two = tested .before .before in
+    let one = two .before .before in
+    let found = one .before .before .before .before in
+    let normal = found .normalize-to-semilinear in
+    let known = found .before .before .before .before .before in
+    let at = known .before in
     run-refused (at .args .expr .now) (at .args .calls .now) (length (at .args .sheet .now)) (length (at .args .spare .now))
-    (first .result) (first .last .1 .0) (first .ensures) (c .before .before .before .before .before .before .if1 .left) (c .before .before .before .before .if2 .left)
-    (list-is _ _ (first .kept .1 .0) (c .before .before .before .is-list .ensures) (not-false _ (c .before .before .if3 .left))) (c .if4 .taken)
+    (normal .result) (normal .last .1 .0) (normal .ensures)
+    (one .if1 .left) (two .if2 .left) (list-is _ _ (normal .kept .1 .0) (tested .before .is-list .ensures) (not-false _ (tested .if3 .left)))
+    (c .if4 .taken)
 
 run-from-requires : tie.Need-run-from-requires
 run-from-requires c κs =
-    let listed = list-is _ _ refl (c .before .before .before .before .before .is-list .ensures) (not-false _ (c .before .before .before .before .if3 .left)) in
-    let at = c .before .before .before .before .before .before .before .before .before .before .before .before .before .before .before .before .before .before in
-    let first = c .before .before .before .before .before .before .before .before .before .before .before .before .normalize-to-semilinear in (
-      listed,
+    let tested = c .before .before .before .before in
+    let two = tested .before .before in
+    let one = two .before .before in
+    let found = one .before .before .before .before in
+    let normal = found .normalize-to-semilinear in
+    let known = found .before .before .before .before .before in
+    let at = known .before in (
+      sym (tested .before .is-list .ensures) ∙ not-false _ (tested .if3 .left),
       run-start (at .args .expr .now) (at .args .calls .now) (length (at .args .sheet .now)) (length (at .args .spare .now))
-          (first .result) (first .last .1 .0) (first .ensures) (c .before .before .before .before .before .before .before .before .if1 .left) (c .before .before .before .before .before .before .if2 .left)
-          (list-is _ _ (first .kept .1 .0) (c .before .before .before .before .before .is-list .ensures) (not-false _ (c .before .before .before .before .if3 .left)))
-          (λ i. c .before .before .before .before .before .before .before .before .before .before .before .before .before .before .before .before .before .shared-slice-known .given i .fits) (c .before .before .if4 .left),
+          (normal .result) (normal .last .1 .0) (normal .ensures)
+          (one .if1 .left) (two .if2 .left) (list-is _ _ (normal .kept .1 .0) (tested .before .is-list .ensures) (not-false _ (tested .if3 .left)))
+          (λ i. known .shared-slice-known .given i .fits) (c .before .before .if4 .left),
     )
 
 same-length-5 : tie.Need-same-length-5
@@ -85,12 +101,18 @@ same-length-6 c = search needs
 
 returns-5 : tie.Need-returns-5
 returns-5 c =
-    let at = c .before .before .before .before .before .before .before .before .before .before .before .before .before .before .before .before .before .before .before .before .before .before .before in
-    let first = c .before .before .before .before .before .before .before .before .before .before .before .before .before .before .before .before .before .normalize-to-semilinear in
+    let tested = c .before .before .before .before .before .before .before .before .before in
+    let two = tested .before .before in
+    let one = two .before .before in
+    let found = one .before .before .before .before in
+    let normal = found .normalize-to-semilinear in
+    let known = found .before .before .before .before .before in
+    let at = known .before in
+    let run = c .before .before .before .before .run-from in
     run-end (at .args .expr .now) (at .args .calls .now) (length (at .args .sheet .now)) (length (at .args .spare .now))
-    (first .result) (first .last .1 .0) (first .ensures) (c .before .before .before .before .before .before .before .before .before .before .before .before .before .if1 .left) (c .before .before .before .before .before .before .before .before .before .before .before .if2 .left)
-    (list-is _ _ (first .kept .1 .0) (c .before .before .before .before .before .before .before .before .before .before .is-list .ensures) (not-false _ (c .before .before .before .before .before .before .before .before .before .if3 .left)))
-    (λ i. c .before .before .before .before .before .before .before .before .before .before .before .before .before .before .before .before .before .before .before .before .before .before .shared-slice-known .given i .fits) (c .before .before .before .before .before .before .before .if4 .left) (c .before .before .before .before .run-from .result) _ (c .before .before .before .before .run-from .ensures)
+    (normal .result) (normal .last .1 .0) (normal .ensures)
+    (one .if1 .left) (two .if2 .left) (list-is _ _ (normal .kept .1 .0) (tested .before .is-list .ensures) (not-false _ (tested .if3 .left)))
+    (λ i. known .shared-slice-known .given i .fits) (c .before .before .before .before .before .before .before .if4 .left) (run .result) _ (run .ensures)
 
 pub run-passes-spec : {M : Type 1} → statement M
 run-passes-spec =

@@ -31,7 +31,9 @@ same-length c = search needs
 
 returns-2 : tie.Need-returns-2
 returns-2 c =
-    let at = c .before .before .before .before .before .before .before .before in settled-second (c .before .before .before .before .before .if1 .left) (at .pre .0) (at .pre .1) _ (c .before .before .put-bytes .ensures)
+    let second = c .before .before .before .before .before in
+    let at = second .before .before .before in
+    settled-second (second .if1 .left) (at .pre .0) (at .pre .1) _ (c .before .before .put-bytes .ensures)
 
 pub settle-spec : {M : Type 1} → statement M
 settle-spec =

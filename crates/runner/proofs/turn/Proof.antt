@@ -20,10 +20,11 @@ same-length-2 c = search needs
 
 returns : tie.Need-returns
 returns c =
-    let at = c .before .before .before .before .before .before .before .before .before .before in
     let call = c .before .before .before .before .call-part in
-    first-refused (callOf (at .args .pass) (at .args .len)) (call .result) (call .last .1 .1 .1 .0) (c .before .before .before .before .before .before .before .if1 .taken)
-    (at .pre .2) (call .ensures) (c .if2 .taken)
+    let side = c .before .before .before .before .before .before .before in
+    let at = side .before .before .before in
+    first-refused (callOf (at .args .pass) (at .args .len)) (call .result) (call .last .1 .1 .1 .0)
+    (side .if1 .taken) (at .pre .2) (call .ensures) (c .if2 .taken)
 
 same-length-3 : tie.Need-same-length-3
 same-length-3 c = search needs
@@ -33,10 +34,11 @@ same-length-4 c = search needs
 
 returns-2 : tie.Need-returns-2
 returns-2 c =
-    let at = c .before .before .before .before .before .before .before .before .before .before in
     let call = c .before .before .before .before .call-part in
-    first-accepted (callOf (at .args .pass) (at .args .len)) (call .result) (call .last .1 .1 .1 .0) (c .before .before .before .before .before .before .before .if1 .taken)
-    (at .pre .2) (call .ensures) (c .if2 .left)
+    let side = c .before .before .before .before .before .before .before in
+    let at = side .before .before .before in
+    first-accepted (callOf (at .args .pass) (at .args .len)) (call .result) (call .last .1 .1 .1 .0)
+    (side .if1 .taken) (at .pre .2) (call .ensures) (c .if2 .left)
 
 call-part-requires-2 : tie.Need-call-part-requires-2
 call-part-requires-2 c κs = let at = c .before .before .before .before .before in (second-asks (c .before .before .if1 .left) (at .pre .2), at .pre .0)
@@ -49,10 +51,11 @@ same-length-6 c = search needs
 
 returns-3 : tie.Need-returns-3
 returns-3 c =
-    let at = c .before .before .before .before .before .before .before .before .before .before in
     let call = c .before .before .before .before .call-part2 in
-    second-refused (callOf (at .args .pass) (at .args .len)) (call .result) (call .last .1 .1 .1 .0) (c .before .before .before .before .before .before .before .if1 .left)
-    (at .pre .2) (call .ensures) (c .if3 .taken)
+    let side = c .before .before .before .before .before .before .before in
+    let at = side .before .before .before in
+    second-refused (callOf (at .args .pass) (at .args .len)) (call .result) (call .last .1 .1 .1 .0)
+    (side .if1 .left) (at .pre .2) (call .ensures) (c .if3 .taken)
 
 same-length-7 : tie.Need-same-length-7
 same-length-7 c = search needs
@@ -62,10 +65,11 @@ same-length-8 c = search needs
 
 returns-4 : tie.Need-returns-4
 returns-4 c =
-    let at = c .before .before .before .before .before .before .before .before .before .before in
     let call = c .before .before .before .before .call-part2 in
-    second-accepted (callOf (at .args .pass) (at .args .len)) (call .result) (call .last .1 .1 .1 .0) (c .before .before .before .before .before .before .before .if1 .left)
-    (at .pre .2) (call .ensures) (c .if3 .left)
+    let side = c .before .before .before .before .before .before .before in
+    let at = side .before .before .before in
+    second-accepted (callOf (at .args .pass) (at .args .len)) (call .result) (call .last .1 .1 .1 .0)
+    (side .if1 .left) (at .pre .2) (call .ensures) (c .if3 .left)
 
 pub turn-spec : {M : Type 1} → statement M
 turn-spec =
