@@ -3,8 +3,9 @@
  *
  * Every pointer must be valid for its length: expr for expr_len bytes, s for s_len bytes, vars for
  * vars_len words, out for out_len bytes (for out_len words of 64 bits in hogzelt_compute_partitions),
- * value, used, terms, flattened and classes for one word. A pointer with length 0 must not be null
- * and must be aligned. What is written to must overlap neither the inputs nor one another.
+ * calls for calls_len words, sheet for sheet_len and spare for spare_len bytes, value, used, terms,
+ * flattened and classes for one word. A pointer with length 0 must not be null and must be aligned.
+ * What is written to must overlap neither the inputs nor one another.
  */
 #ifndef HOGZELT_H
 #define HOGZELT_H
@@ -137,6 +138,28 @@ uint64_t hogzelt_flatten_complex_atoms(const uint8_t *s, size_t s_len, uint8_t *
  */
 uint64_t hogzelt_compute_partitions(const uint8_t *s, size_t s_len, uint64_t *out, size_t out_len,
                                     uint64_t *classes);
+
+/*
+ * The semilinear form in use after a list of passes, run from an expression file: the expression is
+ * normalised into sheet, and then each call reads the form in use and gives the next one; a call that
+ * is refused leaves the form in use. The value is that of the expression, under every assignment.
+ * calls has two words for a call: the pass, 1 for hogzelt_refine_terms, 4 for
+ * hogzelt_flatten_complex_atoms and 5 for hogzelt_compact_atom_table, and the length in bytes of the
+ * result slice that is lent to it; with another length than 57,360 it is refused. calls_len counts
+ * words; there may be any number of calls, 0 too. sheet and spare take turns as result slices:
+ * sheet_len must be 57,360, and spare_len at least the greatest of the lengths. Returns 0 for
+ * accepted, else the first of these that applies:
+ *    1  as for hogzelt_normalize_to_semilinear
+ *    2  sheet_len is not 57,360
+ *   32  calls_len is odd, a pass is none of these, or a length is above spare_len or sheet_len
+ *   3 to 9  as for hogzelt_normalize_to_semilinear
+ * All of sheet and spare is written. Where the list is accepted, the first *used bytes of sheet are
+ * the form in use after the last call, the rest is zero, and *terms is the count of its terms. Beside
+ * a refusal all of sheet is zero, and so are *used and *terms. spare is left all zero.
+ */
+uint64_t hogzelt_run_passes(const uint8_t *expr, size_t expr_len, const uint64_t *calls,
+                            size_t calls_len, uint8_t *sheet, size_t sheet_len, uint8_t *spare,
+                            size_t spare_len, uint64_t *used, uint64_t *terms);
 
 #ifdef __cplusplus
 }

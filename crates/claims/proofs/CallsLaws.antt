@@ -7,9 +7,11 @@ use mathlib.Core.Bool.{true, false}
 use Rattle.record.specs.Tree.{IsBytes}
 use Rattle.expr.specs.ExprValue.{exprValue}
 use Rattle.semilinear.specs.Form.{Form, encodeForm, validForm}
-use Rattle.semilinear.specs.Outcome.{Outcome, accepted, formOutcome}
+use Rattle.semilinear.specs.Outcome.{Outcome, accepted, refused, formOutcome}
 use Rattle.semilinear.specs.Value.{semilinearValue}
-use Rattle.semilinear.specs.Compact.{limitOutcome}
+use Rattle.semilinear.specs.Compact.{limitOutcome, compactAtomTable}
+use Rattle.semilinear.proofs.FormLaws.{form-not-refused}
+use Rattle.semilinear.proofs.PassLaws.{pass-slice}
 use Rattle.semilinear.proofs.ValueLaws.{encoded-value}
 use Rattle.semilinear.proofs.MadeLaws.{Kept, Made, made, not-made, limit-made, pass-made, compact-made}
 use Rattle.semilinear_normalizer.specs.Normalize.{normalizeToSemilinear}
@@ -69,28 +71,37 @@ module _ (f : Form) (ok : validForm f ≡ true) (len : ℕ) where
   pass-keeps flatten-complex-atoms = flatten-made
   pass-keeps compact-atom-table = compact-made f ok len
 
+  -- a result slice of another length is refused
+  pub pass-two : (p : Pass) → (len ≡ 57360 → ⊥) → passGives p (encodeForm f) len ≡ refused 2
+  unfolding passGives refineTerms recoverStructure coalesceTerms flattenComplexAtoms compactAtomTable
+  pass-two refine-terms = pass-slice _ (encodeForm f) len (form-not-refused f ok)
+  pass-two recover-structure = pass-slice _ (encodeForm f) len (form-not-refused f ok)
+  pass-two coalesce-terms = pass-slice _ (encodeForm f) len (form-not-refused f ok)
+  pass-two flatten-complex-atoms = pass-slice _ (encodeForm f) len (form-not-refused f ok)
+  pass-two compact-atom-table = pass-slice _ (encodeForm f) len (form-not-refused f ok)
+
 -- ---- any list of calls
 
 -- the bytes t are those of a valid form with the value of f
-record InUse (f : Form) (t : List ℕ) : Type 0 where
-  form : Form
-  encoded : t ≡ encodeForm form
-  kept : Kept f form
+pub record InUse (f : Form) (t : List ℕ) : Type 0 where
+  pub form : Form
+  pub encoded : t ≡ encodeForm form
+  pub kept : Kept f form
 
-call-keeps : (f : Form) → validForm f ≡ true → (c : Call) → InUse f (afterCall c (encodeForm f))
+pub call-keeps : (f : Form) → validForm f ≡ true → (c : Call) → InUse f (afterCall c (encodeForm f))
 unfolding afterCall useOf formOutcome
 call-keeps f ok c = go (passGives (c .pass) (encodeForm f) (c .len)) (pass-keeps f ok (c .len) (c .pass))
   where
     go : (o : Outcome) → Made f o → InUse f (useOf (encodeForm f) o)
     go o (made g flag k e) = record { form = g; encoded = ap (useOf (encodeForm f)) e; kept = k }
-    go o (not-made n e) =
+    go o (not-made n pos e) =
         record {
           form = f;
           encoded = ap (useOf (encodeForm f)) e;
           kept = record { valid = ok; wide = refl; value = λ vars. refl };
         }
 
-list-keeps : (calls : List Call) (f : Form) → validForm f ≡ true → InUse f (inUse calls (encodeForm f))
+pub list-keeps : (calls : List Call) (f : Form) → validForm f ≡ true → InUse f (inUse calls (encodeForm f))
 unfolding inUse
 list-keeps [] f ok =
     record { form = f; encoded = refl; kept = record { valid = ok; wide = refl; value = λ vars. refl } }

@@ -1,4 +1,5 @@
--- The worked examples computed, and the claim about any list of calls.
+-- The worked examples computed, the claim about any list of calls, and what the atoms of a valid form hold.
 mod ExamplesLaws
 pub mod CallsLaws
 pub mod NormalizedLaws
+pub mod AtomsLaws

@@ -2,7 +2,7 @@
 ghost use mathlib.Core.Path.{_≡_};
 ghost use Rattle.arith.specs.Effective.{reduceMask, canChangeMaskTo, canChangeCoefficientTo};
 ghost use mathlib.Core.List.{[], _∷_};
-ghost use lib.ListN.{length};
+ghost use lib.ListN.{length, replicate};
 ghost use Rattle.expr.specs.ExprValue.{IsExprValue};
 ghost use Rattle.semilinear.specs.Value.{IsSemilinearValue};
 ghost use Rattle.semilinear.specs.Outcome.{flagNumber, Gives};
@@ -11,6 +11,7 @@ ghost use Rattle.semilinear_normalizer.specs.Normalize.{normalizeToSemilinear};
 ghost use Rattle.term_refiner.specs.RefineTerms.{refineTerms};
 ghost use Rattle.structure_recovery.specs.FlattenComplexAtoms.{flattenComplexAtoms};
 ghost use Rattle.bit_partitioner.specs.Partition.{computePartitions};
+ghost use Rattle.runner.specs.RunPasses.{runPasses};
 
 // The value of an expression under an assignment; returns the refusal, 0 where it is accepted.
 #[no_mangle]
@@ -153,4 +154,27 @@ pub extern "C" fn hogzelt_compute_partitions(s: &[u8], out: &mut [u64], classes:
     let found = bit_partitioner::compute_partitions(s, out);
     *classes = found.classes;
     found.refusal
+}
+
+// The form in use after a list of passes, run from an expression; two words of calls for each: the
+// number of the pass and the length of its result slice. Returns the refusal, 0 where it is accepted.
+#[no_mangle]
+pub extern "C" fn hogzelt_run_passes(
+    expr: &[u8],
+    calls: &[u64],
+    sheet: &mut [u8],
+    spare: &mut [u8],
+    used: &mut u64,
+    terms: &mut u64,
+) -> u64
+    ensures { λ r. ⌜ Gives (runPasses (now (expr .entry)) (now (calls .entry)) (length (now (sheet .entry)))
+        (length (now (spare .entry)))) (length (now (sheet .entry))) r (now (used .exit) ∷ now (terms .exit) ∷ [])
+        (now (sheet .exit)) ⌝ }
+    ensures { λ _. ⌜ now (spare .exit) ≡ replicate (length (now (spare .entry))) 0 ⌝ }
+{
+    let ran = runner::run_passes(expr, calls, sheet, spare);
+    record::write::clear(spare);
+    *used = ran.used;
+    *terms = ran.terms;
+    ran.refusal
 }

@@ -1,7 +1,7 @@
--- What a pass makes of a valid form (specs/Compact.antt): a valid form of the same width and value, or a refusal; 9
--- exactly where the table would pass its limits.
+-- What a pass makes of a valid form (specs/Compact.antt): a valid form of the same width and value, or a refusal, which
+-- is not 0; 9 exactly where the table would pass its limits.
 use mathlib.Core.Path.{_≡_, refl, ap, sym, _∙_}
-use Prim.Native.Nat.{ℕ}
+use Prim.Native.Nat.{ℕ, _<_}
 use native.Mathlib.Omega.{arith}
 use native.Mathlib.Decide.{ℕ-discrete}
 use mathlib.Core.Logic.{_↔_}
@@ -22,7 +22,7 @@ pub record Kept (f g : Form) : Type 0 where
 
 pub data Made (f : Form) (o : Outcome) : Type 0 where
   made : (g : Form) (flag : Bool) → Kept f g → o ≡ formOutcome g flag → Made f o
-  not-made : (n : ℕ) → o ≡ refused n → Made f o
+  not-made : (n : ℕ) → 0 < n → o ≡ refused n → Made f o
 
 -- a form that is given only where its table keeps the limits
 module _ (f g : Form) (flag : Bool) where
@@ -32,7 +32,7 @@ module _ (f g : Form) (flag : Bool) where
     where
       go : (b : Bool) → fitsTable (g .rows) ≡ b → Made f (limitOutcome g flag)
       go true e = made g flag (k e) (simp e)
-      go false e = not-made 9 (simp e)
+      go false e = not-made 9 (omega arith) (simp e)
 
   -- refusal 9 exactly where it does not
   pub limit-nine : limitOutcome g flag ≡ refused 9 ↔ fitsTable (g .rows) ≡ false
@@ -56,12 +56,12 @@ pass-made pass f ok m len = go (ℕ-discrete len 57360)
         pass-accepted pass (encodeForm f) len (form-not-refused f ok) e (form-accept f ok) ∙ ap pass (form-decode f ok)
 
     go : Dec (len ≡ 57360) → Made f (passOutcome pass (encodeForm f) len)
-    go (no n) = not-made 2 (pass-slice pass (encodeForm f) len (form-not-refused f ok) n)
+    go (no n) = not-made 2 (omega arith) (pass-slice pass (encodeForm f) len (form-not-refused f ok) n)
     go (yes e) = by-case m
       where
         by-case : Made f (pass f) → Made f (passOutcome pass (encodeForm f) len)
         by-case (made g flag k q) = made g flag k (same e ∙ q)
-        by-case (not-made n q) = not-made n (same e ∙ q)
+        by-case (not-made n pos q) = not-made n pos (same e ∙ q)
 
 pub compact-made : (f : Form) → validForm f ≡ true → (len : ℕ) → Made f (compactAtomTable (encodeForm f) len)
 unfolding compactAtomTable compactForm

@@ -180,6 +180,32 @@ not-accepted : {A : Type 0} {o : Outcome} {n : ℕ} {b ns : List ℕ} → o ≡ 
 unfolding refusalOf
 not-accepted {n} f h e = let z : n ≡ 0 = ap refusalOf (sym f ∙ e) in absurd (omega arith)
 
+-- 1 beside a refusal
+tag : Outcome → ℕ
+tag (accepted l ns) = 0
+tag (refused n) = 1
+
+-- a refusal is not 0
+pub normalize-refused : (s : List ℕ) (len n : ℕ) → normalizeToSemilinear s len ≡ refused n → 0 < n
+unfolding refusalOf tag formOutcome
+normalize-refused s len n e = go (file-case s len)
+  where
+    same : {k : ℕ} → normalizeToSemilinear s len ≡ refused k → n ≡ k
+    same f = ap refusalOf (sym e ∙ f)
+
+    by-tree : normalizeToSemilinear s len ≡ normalizeTree (width s) (decode s) → TreeCase (width s) (decode s) → 0 < n
+    by-tree q (arithmetic a f) = let k = same (q ∙ f) in omega (arith, k)
+    by-tree q (not-linear a x f) = let k = same (q ∙ f) in omega (arith, k)
+    by-tree q (too-large a c l x fits f) = let k = same (q ∙ f) in omega (arith, k)
+    by-tree q (written a c l x fits f) =
+        let z : _≡_ {A = ℕ} 0 1 = ap tag (sym (q ∙ f) ∙ e) in absurd (omega (arith, z))
+
+    go : FileCase s len → 0 < n
+    go (wrong-length x f) = let k = same f in omega (arith, k)
+    go (wrong-slice x k f) = let k = same f in omega (arith, k)
+    go (no-expression x z k f) = let j = same f in omega (arith, z, j)
+    go (expression z k f) = by-tree f (tree-case (width s) (decode s))
+
 -- what an accepted call gives: the bytes of a valid form of the expression's width and value, and its numbers
 pub record Normalized (s bytes numbers : List ℕ) : Type 0 where
   pub form : Form

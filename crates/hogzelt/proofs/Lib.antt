@@ -1,0 +1,6 @@
+-- Any list of calls of the exported functions, by their own contracts.
+pub mod Trace
+pub mod TraceLaws
+mod ExistsLaws
+mod RunLaws
+pub mod AnyCalls
