@@ -115,6 +115,24 @@ uint64_t hogzelt_refine_terms(const uint8_t *s, size_t s_len, uint8_t *out, size
                               uint64_t *used, uint64_t *terms);
 
 /*
+ * A semilinear form with its structure recovered: two terms of one basis under masks that complement
+ * each other become one term of an Xor, or lose one of the masks. The value is that of the form given,
+ * under every assignment; atoms that lose their term stay. Refusals, out, *used and *terms are as for
+ * hogzelt_refine_terms.
+ */
+uint64_t hogzelt_recover_structure(const uint8_t *s, size_t s_len, uint8_t *out, size_t out_len,
+                                   uint64_t *used, uint64_t *terms);
+
+/*
+ * A semilinear form with the terms of each variable coalesced: where that leaves fewer terms, one term
+ * stands for all bits of the variable that have the same coefficient. The value is that of the form
+ * given, under every assignment; atoms that lose their term stay. Refusals, out, *used and *terms are
+ * as for hogzelt_refine_terms.
+ */
+uint64_t hogzelt_coalesce_terms(const uint8_t *s, size_t s_len, uint8_t *out, size_t out_len,
+                                uint64_t *used, uint64_t *terms);
+
+/*
  * A semilinear form in which every term of an atom that has one variable, no shift and is neither
  * this variable nor a mask of it is written as a constant, the bits that the variable passes and
  * those that it inverts. The value is that of the form given, under every assignment. Refusals, out,
@@ -143,10 +161,11 @@ uint64_t hogzelt_compute_partitions(const uint8_t *s, size_t s_len, uint64_t *ou
  * The semilinear form in use after a list of passes, run from an expression file: the expression is
  * normalised into sheet, and then each call reads the form in use and gives the next one; a call that
  * is refused leaves the form in use. The value is that of the expression, under every assignment.
- * calls has two words for a call: the pass, 1 for hogzelt_refine_terms, 4 for
- * hogzelt_flatten_complex_atoms and 5 for hogzelt_compact_atom_table, and the length in bytes of the
- * result slice that is lent to it; with another length than 57,360 it is refused. calls_len counts
- * words; there may be any number of calls, 0 too. sheet and spare take turns as result slices:
+ * calls has two words for a call: the pass, 1 for hogzelt_refine_terms, 2 for
+ * hogzelt_recover_structure, 3 for hogzelt_coalesce_terms, 4 for hogzelt_flatten_complex_atoms and 5
+ * for hogzelt_compact_atom_table, and the length in bytes of the result slice that is lent to it; with
+ * another length than 57,360 it is refused. calls_len counts words; there may be any number of calls,
+ * 0 too. sheet and spare take turns as result slices:
  * sheet_len must be 57,360, and spare_len at least the greatest of the lengths. Returns 0 for
  * accepted, else the first of these that applies:
  *    1  as for hogzelt_normalize_to_semilinear

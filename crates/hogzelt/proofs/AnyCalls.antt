@@ -5,6 +5,8 @@ use Rattle.hogzelt.proofs.ExistsLaws.{started, traced}
 use Rattle.hogzelt.proofs.RunLaws.{run-claimed}
 use Rattle.hogzelt.proofs.hogzelt_normalize_to_semilinear.Met as normalize-thm
 use Rattle.hogzelt.proofs.hogzelt_refine_terms.Met as refine-thm
+use Rattle.hogzelt.proofs.hogzelt_recover_structure.Met as recover-thm
+use Rattle.hogzelt.proofs.hogzelt_coalesce_terms.Met as coalesce-thm
 use Rattle.hogzelt.proofs.hogzelt_flatten_complex_atoms.Met as flatten-thm
 use Rattle.hogzelt.proofs.hogzelt_compact_atom_table.Met as compact-thm
 use Rattle.hogzelt.proofs.hogzelt_compute_partitions.Met as partitions-thm
@@ -15,6 +17,8 @@ any-calls =
     record {
       normalize-meets = normalize-thm.met;
       refine-meets = refine-thm.met;
+      recover-meets = recover-thm.met;
+      coalesce-meets = coalesce-thm.met;
       flatten-meets = flatten-thm.met;
       compact-meets = compact-thm.met;
       partitions-meets = partitions-thm.met;

@@ -23,13 +23,15 @@ use Rattle.semilinear_normalizer.proofs.NormalizeLaws.{normalize-form}
 use Rattle.claims.specs.Calls.{Pass, Call, refine-terms, recover-structure, coalesce-terms, flatten-complex-atoms}
 use Rattle.claims.specs.Calls.{compact-atom-table, passGives, afterCall}
 use Rattle.claims.proofs.CallsLaws.{pass-keeps, call-keeps}
-use Rattle.hogzelt.proofs.Trace.{Returned, CallOf, refines, flattens, compacts, inUseAfter, Trace, none, then}
-use Rattle.hogzelt.proofs.Trace.{Traced, Exported, AllExported, Accepted, Started, Learns}
+use Rattle.hogzelt.proofs.Trace.{Returned, CallOf, refines, recovers, coalesces, flattens, compacts, inUseAfter}
+use Rattle.hogzelt.proofs.Trace.{Trace, none, then, Traced, Accepted, Started, Learns}
 use Rattle.hogzelt.proofs.TraceLaws.{call-bytes, begun}
 use Rattle.hogzelt.proofs.hogzelt_compact_atom_table as writer
 use Rattle.hogzelt.proofs.hogzelt_compact_atom_table.Kinds as writer-kinds
 use Rattle.hogzelt.proofs.hogzelt_compact_atom_table.Reads as compact-reads
 use Rattle.hogzelt.proofs.hogzelt_refine_terms.Reads as refine-reads
+use Rattle.hogzelt.proofs.hogzelt_recover_structure.Reads as recover-reads
+use Rattle.hogzelt.proofs.hogzelt_coalesce_terms.Reads as coalesce-reads
 use Rattle.hogzelt.proofs.hogzelt_normalize_to_semilinear.Reads as normalize-reads
 
 -- what a pass may hand over
@@ -80,15 +82,19 @@ returned L s len a out h =
       writes = refl;
     }
 
-call-handed : (p : Pass) → Exported p → (s : List ℕ) (len : ℕ) (h : Handed (passGives p s len) len)
+call-handed : (p : Pass) (s : List ℕ) (len : ℕ) (h : Handed (passGives p s len) len)
     → CallOf s len (h .answer .refusal) (h .answer .used) (h .out) p
-unfolding passGives Exported
-call-handed refine-terms x s len h =
+unfolding passGives
+call-handed refine-terms s len h =
     refines (returned refine-reads.Learnt s len (h .answer) (h .out)
     (rw (length-replicate {A = ℕ} len 0) (gives-two _ _ _ _ _ _ _ (h .given))))
-call-handed recover-structure x s len h = absurd x
-call-handed coalesce-terms x s len h = absurd x
-call-handed flatten-complex-atoms x s len h =
+call-handed recover-structure s len h =
+    recovers (returned recover-reads.Learnt s len (h .answer) (h .out)
+    (rw (length-replicate {A = ℕ} len 0) (gives-two _ _ _ _ _ _ _ (h .given))))
+call-handed coalesce-terms s len h =
+    coalesces (returned coalesce-reads.Learnt s len (h .answer) (h .out)
+    (rw (length-replicate {A = ℕ} len 0) (gives-two _ _ _ _ _ _ _ (h .given))))
+call-handed flatten-complex-atoms s len h =
     let a = h .answer in
     flattens (record {
       κs = ([], lifetimes);
@@ -100,20 +106,19 @@ call-handed flatten-complex-atoms x s len h =
       uses = refl;
       writes = refl;
     })
-call-handed compact-atom-table x s len h =
+call-handed compact-atom-table s len h =
     compacts (returned compact-reads.Learnt s len (h .answer) (h .out)
     (rw (length-replicate {A = ℕ} len 0) (gives-two _ _ _ _ _ _ _ (h .given))))
 
-form-traced : (f : Form) → validForm f ≡ true → (calls : List Call) → AllExported calls → (s : List ℕ)
+form-traced : (f : Form) → validForm f ≡ true → (calls : List Call) (s : List ℕ)
     → s ≡ encodeForm f → Traced s calls
-unfolding AllExported
-form-traced f ok [] x s e = record { last = s; trace = none }
-form-traced f ok (c ∷ l) x s e =
+form-traced f ok [] s e = record { last = s; trace = none }
+form-traced f ok (c ∷ l) s e =
     let m : Made f (passGives (c .pass) s (c .len)) = rw e (pass-keeps f ok (c .len) (c .pass)) in
-    let call = call-handed (c .pass) (x .0) s (c .len) (handed (c .len) m) in
+    let call = call-handed (c .pass) s (c .len) (handed (c .len) m) in
     let next = call-keeps f ok c in
     let rest =
-    form-traced (next .form) (next .kept .valid) l (x .1) _
+    form-traced (next .form) (next .kept .valid) l _
     (call-bytes f ok c e call ∙ ap (afterCall c) e ∙ next .encoded) in
     record { last = rest .last; trace = then call (rest .trace) }
 
@@ -138,8 +143,8 @@ started s h len b ns e =
 
 -- from an expression that normalising accepted
 pub traced : {s : List ℕ} {len used : ℕ} {out : List ℕ} → Accepted s len used out → (calls : List Call)
-    → AllExported calls → Traced (take used out) calls
-traced {s} {len} a calls x =
+    → Traced (take used out) calls
+traced {s} {len} a calls =
     let b = begun a in
     let n = normalize-form s (a .are-bytes) len (b .first) (b .numbers) (b .normal) in
-    form-traced (n .form) (n .valid) calls x _ (b .taken ∙ n .encoded)
+    form-traced (n .form) (n .valid) calls _ (b .taken ∙ n .encoded)

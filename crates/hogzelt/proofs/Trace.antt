@@ -36,6 +36,10 @@ use Rattle.hogzelt.proofs.hogzelt_normalize_to_semilinear.Reads as norm
 use Rattle.hogzelt.proofs.hogzelt_normalize_to_semilinear.Statement as normalize-stated
 use Rattle.hogzelt.proofs.hogzelt_refine_terms.Reads as refine-reads
 use Rattle.hogzelt.proofs.hogzelt_refine_terms.Statement as refine-stated
+use Rattle.hogzelt.proofs.hogzelt_recover_structure.Reads as recover-reads
+use Rattle.hogzelt.proofs.hogzelt_recover_structure.Statement as recover-stated
+use Rattle.hogzelt.proofs.hogzelt_coalesce_terms.Reads as coalesce-reads
+use Rattle.hogzelt.proofs.hogzelt_coalesce_terms.Statement as coalesce-stated
 use Rattle.hogzelt.proofs.hogzelt_flatten_complex_atoms as flatten
 use Rattle.hogzelt.proofs.hogzelt_flatten_complex_atoms.Kinds as flatten-kinds
 use Rattle.hogzelt.proofs.hogzelt_flatten_complex_atoms.Reads as flatten-reads
@@ -106,6 +110,8 @@ pub record Ran (s words : List ℕ) (len r used : ℕ) (sheet : List ℕ) : Type
 -- a call of the exported function of a pass: one constructor for each
 pub data CallOf (s : List ℕ) (len r used : ℕ) (out : List ℕ) : Pass → Type 0 where
   refines : Returned refine-reads.Learnt s len r used out → CallOf s len r used out refine-terms
+  recovers : Returned recover-reads.Learnt s len r used out → CallOf s len r used out recover-structure
+  coalesces : Returned coalesce-reads.Learnt s len r used out → CallOf s len r used out coalesce-terms
   flattens : Flattened s len r used out → CallOf s len r used out flatten-complex-atoms
   compacts : Returned compact-reads.Learnt s len r used out → CallOf s len r used out compact-atom-table
 
@@ -130,18 +136,6 @@ sheetAfter (suc n) (then k rest) = sheetAfter n rest
 pub record Traced (s : List ℕ) (calls : List Call) : Type 0 where
   pub last : List ℕ
   pub trace : Trace s calls last
-
--- the passes that are exported, and lists of them
-unfoldable pub Exported : Pass → Type 0
-Exported refine-terms = Unit {0}
-Exported recover-structure = ⊥
-Exported coalesce-terms = ⊥
-Exported flatten-complex-atoms = Unit {0}
-Exported compact-atom-table = Unit {0}
-
-unfoldable pub AllExported : List Call → Type 0
-AllExported [] = Unit {0}
-AllExported (c ∷ l) = Exported (c .pass) × AllExported l
 
 -- ---- what is claimed
 
@@ -186,6 +180,8 @@ pub record Started (s : List ℕ) (len : ℕ) : Type 0 where
 pub record AnyCalls (M : Type 1) : Type 2 where
   pub normalize-meets : normalize-stated.statement M
   pub refine-meets : refine-stated.statement M
+  pub recover-meets : recover-stated.statement M
+  pub coalesce-meets : coalesce-stated.statement M
   pub flatten-meets : flatten-stated.statement M
   pub compact-meets : compact-stated.statement M
   pub partitions-meets : partitions-stated.statement M
@@ -198,7 +194,7 @@ pub record AnyCalls (M : Type 1) : Type 2 where
   pub starts : (s : List ℕ) → IsBytes s → (len : ℕ) (b ns : List ℕ) → normalizeToSemilinear s len ≡ accepted b ns
       → Started s len
   pub traces : {s : List ℕ} {len used : ℕ} {out : List ℕ} → Accepted s len used out
-      → (calls : List Call) → AllExported calls → Traced (take used out) calls
+      → (calls : List Call) → Traced (take used out) calls
   pub runs : {s words : List ℕ} {len used : ℕ} {sheet : List ℕ} → IsBytes s → Ran s words len 0 used sheet
       → Claimed s len (callsOf words) (take used sheet)
   pub columns : (s : List ℕ) → IsBytes s → (len count : ℕ) (out : List ℕ) → Parted s len 0 count out

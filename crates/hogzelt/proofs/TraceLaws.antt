@@ -26,11 +26,12 @@ use Rattle.bit_partitioner.specs.Columns.{atomTree}
 use Rattle.bit_partitioner.specs.Partition.{computePartitions}
 use Rattle.bit_partitioner.proofs.ColumnsLaws.{row-is}
 use Rattle.bit_partitioner.proofs.EntryLaws.{columns-of-call}
-use Rattle.claims.specs.Calls.{Pass, Call, refine-terms, flatten-complex-atoms, compact-atom-table, passGives}
-use Rattle.claims.specs.Calls.{useOf, afterCall, inUse}
+use Rattle.claims.specs.Calls.{Pass, Call, refine-terms, recover-structure, coalesce-terms, flatten-complex-atoms}
+use Rattle.claims.specs.Calls.{compact-atom-table, passGives, useOf, afterCall, inUse}
 use Rattle.claims.proofs.AtomsLaws.{valid-atoms}
 use Rattle.claims.proofs.CallsLaws.{pass-keeps, call-keeps, list-keeps}
-use Rattle.hogzelt.proofs.Trace.{Returned, Flattened, Parted, CallOf, refines, flattens, compacts, inUseAfter}
+use Rattle.hogzelt.proofs.Trace.{Returned, Flattened, Parted, CallOf, refines, recovers, coalesces, flattens}
+use Rattle.hogzelt.proofs.Trace.{compacts, inUseAfter}
 use Rattle.hogzelt.proofs.Trace.{Trace, none, then, sheetAfter, ColumnsOf, Claimed, Accepted}
 use Rattle.hogzelt.proofs.hogzelt_normalize_to_semilinear.Reads as normalize-reads
 
@@ -45,6 +46,16 @@ call-gives : {s : List ℕ} {len r used : ℕ} {out : List ℕ} (p : Pass) → C
     → GivesUsed (passGives p s len) len r used out
 unfolding passGives
 call-gives refine-terms (refines k) =
+    record {
+      terms = now (k .exit .1 .1 .1 .0);
+      given = rw (sym (k .reads), sym (k .sized), sym (k .uses), sym (k .writes)) (k .learnt);
+    }
+call-gives recover-structure (recovers k) =
+    record {
+      terms = now (k .exit .1 .1 .1 .0);
+      given = rw (sym (k .reads), sym (k .sized), sym (k .uses), sym (k .writes)) (k .learnt);
+    }
+call-gives coalesce-terms (coalesces k) =
     record {
       terms = now (k .exit .1 .1 .1 .0);
       given = rw (sym (k .reads), sym (k .sized), sym (k .uses), sym (k .writes)) (k .learnt);

@@ -9,6 +9,8 @@ ghost use Rattle.semilinear.specs.Outcome.{flagNumber, Gives};
 ghost use Rattle.semilinear.specs.Compact.{compactAtomTable};
 ghost use Rattle.semilinear_normalizer.specs.Normalize.{normalizeToSemilinear};
 ghost use Rattle.term_refiner.specs.RefineTerms.{refineTerms};
+ghost use Rattle.structure_recovery.specs.RecoverStructure.{recoverStructure};
+ghost use Rattle.structure_recovery.specs.CoalesceTerms.{coalesceTerms};
 ghost use Rattle.structure_recovery.specs.FlattenComplexAtoms.{flattenComplexAtoms};
 ghost use Rattle.bit_partitioner.specs.Partition.{computePartitions};
 ghost use Rattle.runner.specs.RunPasses.{runPasses};
@@ -112,6 +114,40 @@ pub extern "C" fn hogzelt_refine_terms(
     *used = refined.used;
     *terms = refined.terms;
     refined.refusal
+}
+
+// The form s with its structure recovered; returns the refusal, 0 where it is accepted.
+#[no_mangle]
+pub extern "C" fn hogzelt_recover_structure(
+    s: &[u8],
+    out: &mut [u8],
+    used: &mut u64,
+    terms: &mut u64,
+) -> u64
+    ensures { λ r. ⌜ Gives (recoverStructure (now (s .entry)) (length (now (out .entry))))
+        (length (now (out .entry))) r (now (used .exit) ∷ now (terms .exit) ∷ []) (now (out .exit)) ⌝ }
+{
+    let recovered = structure_recovery::recover::recover_structure(s, out);
+    *used = recovered.used;
+    *terms = recovered.terms;
+    recovered.refusal
+}
+
+// The form s with its terms coalesced; returns the refusal, 0 where it is accepted.
+#[no_mangle]
+pub extern "C" fn hogzelt_coalesce_terms(
+    s: &[u8],
+    out: &mut [u8],
+    used: &mut u64,
+    terms: &mut u64,
+) -> u64
+    ensures { λ r. ⌜ Gives (coalesceTerms (now (s .entry)) (length (now (out .entry))))
+        (length (now (out .entry))) r (now (used .exit) ∷ now (terms .exit) ∷ []) (now (out .exit)) ⌝ }
+{
+    let joined = structure_recovery::coalesce::coalesce_terms(s, out);
+    *used = joined.used;
+    *terms = joined.terms;
+    joined.refusal
 }
 
 // A flag as a number.

@@ -7,37 +7,45 @@ use mathlib.Core.List.{List, [], _∷_}
 use mathlib.Core.Bool.{Bool, true, false}
 use lib.ListN.{length, getD, drop, drop-of-length-le}
 use lib.Seq.{drop-cons}
-use lib.Dec.{eqb}
+use lib.Dec.{leb}
 use borrow.Author.Tests.{eq-eqb, ne-eqb, le-leb, lt-leb}
-use Rattle.claims.specs.Calls.{Call, refine-terms, flatten-complex-atoms, compact-atom-table}
+use Rattle.claims.specs.Calls.{Call, refine-terms, recover-structure, coalesce-terms, flatten-complex-atoms}
+use Rattle.claims.specs.Calls.{compact-atom-table}
 use Rattle.runner.specs.RunPasses.{passAt, callOf, callsOf, isPass, isCall, isList}
 
 -- ---- the number of a pass, by the first test that decides
 
 module _ (p : ℕ) where
-  pub pass-one : p ≡ 1 → true ≡ isPass p
+  pub pass-none : p < 1 → false ≡ isPass p
   unfolding isPass
-  pass-one e = rw (eq-eqb p 1 e)
+  pass-none h = rw (lt-leb 1 p h)
 
-  pub pass-four : (p ≡ 1 → ⊥) → p ≡ 4 → true ≡ isPass p
+  pub pass-some : 1 ≤ p → leb p 5 ≡ isPass p
   unfolding isPass
-  pass-four n e = rw (ne-eqb p 1 n, eq-eqb p 4 e)
-
-  pub pass-five : (p ≡ 1 → ⊥) → (p ≡ 4 → ⊥) → eqb p 5 ≡ isPass p
-  unfolding isPass
-  pass-five n m = rw (ne-eqb p 1 n, ne-eqb p 4 m)
+  pass-some h = rw (le-leb 1 p h)
 
   pub at-one : p ≡ 1 → passAt p ≡ refine-terms
   unfolding passAt
   at-one e = rw (eq-eqb p 1 e)
 
-  pub at-four : (p ≡ 1 → ⊥) → p ≡ 4 → passAt p ≡ flatten-complex-atoms
-  unfolding passAt
-  at-four n e = rw (ne-eqb p 1 n, eq-eqb p 4 e)
+  module _ (n1 : p ≡ 1 → ⊥) where
+    pub at-two : p ≡ 2 → passAt p ≡ recover-structure
+    unfolding passAt
+    at-two e = rw (ne-eqb p 1 n1, eq-eqb p 2 e)
 
-  pub at-other : (p ≡ 1 → ⊥) → (p ≡ 4 → ⊥) → passAt p ≡ compact-atom-table
-  unfolding passAt
-  at-other n m = rw (ne-eqb p 1 n, ne-eqb p 4 m)
+    module _ (n2 : p ≡ 2 → ⊥) where
+      pub at-three : p ≡ 3 → passAt p ≡ coalesce-terms
+      unfolding passAt
+      at-three e = rw (ne-eqb p 1 n1, ne-eqb p 2 n2, eq-eqb p 3 e)
+
+      module _ (n3 : p ≡ 3 → ⊥) where
+        pub at-four : p ≡ 4 → passAt p ≡ flatten-complex-atoms
+        unfolding passAt
+        at-four e = rw (ne-eqb p 1 n1, ne-eqb p 2 n2, ne-eqb p 3 n3, eq-eqb p 4 e)
+
+        pub at-other : (p ≡ 4 → ⊥) → passAt p ≡ compact-atom-table
+        unfolding passAt
+        at-other n4 = rw (ne-eqb p 1 n1, ne-eqb p 2 n2, ne-eqb p 3 n3, ne-eqb p 4 n4)
 
 -- ---- the words of a list
 

@@ -9,17 +9,20 @@ use Rattle.semilinear.specs.Form.{termCount}
 use Rattle.semilinear.specs.DecodeForm.{decodeForm}
 use Rattle.semilinear.specs.Outcome.{Outcome, accepted, refused, refusalOf}
 use Rattle.semilinear_normalizer.specs.Normalize.{normalizeToSemilinear}
-use Rattle.claims.specs.Calls.{Pass, Call, refine-terms, flatten-complex-atoms, compact-atom-table, inUse}
+use Rattle.claims.specs.Calls.{Pass, Call, refine-terms, recover-structure, coalesce-terms, flatten-complex-atoms}
+use Rattle.claims.specs.Calls.{compact-atom-table, inUse}
 
--- the pass of a number: refining 1, flattening 4, compacting 5
+-- the pass of a number: refining 1, recovering 2, coalescing 3, flattening 4, compacting 5
 unfoldable pub passAt : ℕ → Pass
 passAt n =
     when (eqb n 1) (λ _. refine-terms)
-    (λ _. when (eqb n 4) (λ _. flatten-complex-atoms) (λ _. compact-atom-table))
+    (λ _. when (eqb n 2) (λ _. recover-structure)
+    (λ _. when (eqb n 3) (λ _. coalesce-terms)
+    (λ _. when (eqb n 4) (λ _. flatten-complex-atoms) (λ _. compact-atom-table))))
 
 -- there is a pass of this number
 unfoldable pub isPass : ℕ → Bool
-isPass n = when (eqb n 1) (λ _. true) (λ _. when (eqb n 4) (λ _. true) (λ _. eqb n 5))
+isPass n = leb 1 n && leb n 5
 
 -- the call of two words
 abbrev pub callOf : ℕ → ℕ → Call

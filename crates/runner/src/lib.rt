@@ -20,13 +20,10 @@ pub struct InUse {
 fn is_pass(pass: u64) -> bool
     ensures { λ r. ⌜ r ≡ isPass pass ⌝ }
 {
-    if pass == 1 {
-        return true;
+    if pass < 1 {
+        return false;
     }
-    if pass == 4 {
-        return true;
-    }
-    pass == 5
+    pass <= 5
 }
 
 // Whether the words are a list of calls whose result slices fit both slices, of a and b bytes.
@@ -61,6 +58,12 @@ fn make_call(pass: u64, s: &[u8], out: &mut [u8]) -> Answer
 {
     if pass == 1 {
         return term_refiner::refine_terms(s, out);
+    }
+    if pass == 2 {
+        return structure_recovery::recover::recover_structure(s, out);
+    }
+    if pass == 3 {
+        return structure_recovery::coalesce::coalesce_terms(s, out);
     }
     if pass == 4 {
         return structure_recovery::flatten::flatten_complex_atoms(s, out);
