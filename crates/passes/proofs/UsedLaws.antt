@@ -1,4 +1,4 @@
--- The bytes used after a list of passes lie within the result slice.
+-- Numbers that count what stands at the start of a slice: the words of a list, the bytes used after it is run.
 use mathlib.Core.Path.{_≡_, refl, ap, sym}
 use Prim.Native.Nat.{ℕ, _≤_, _-_}
 use native.Mathlib.Omega.{arith}
@@ -17,6 +17,9 @@ use Rattle.semilinear.specs.Answers.{GivesForm}
 use Rattle.semilinear_normalizer.specs.Normalize.{normalizeToSemilinear}
 use Rattle.claims.specs.Calls.{Call}
 use Rattle.runner.specs.RunPasses.{callsOf, isList, bytesOutcome, listOutcome, runOutcome, runPasses}
+
+pub counts-within : (n : ℕ) (l : List ℕ) → n ≤ length l → Counts n l
+counts-within n l le = (le, sym (length-take-le n l le))
 
 -- the first number is how many elements there are
 abbrev Counted : Outcome → Type 0
@@ -64,5 +67,4 @@ pub run-used : (s words : List ℕ) (len spare : ℕ) (r : Answer) (out : List �
 unfolding runPasses
 run-used s words len spare r out g =
     let counted = counted-run (normalizeToSemilinear s len) (isList len spare words) (callsOf words) in
-    let le = used-le (runPasses s words len spare) counted len r out g in
-    (le, sym (length-take-le _ _ le))
+    counts-within (r .used) out (used-le (runPasses s words len spare) counted len r out g)

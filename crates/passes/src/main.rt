@@ -9,7 +9,9 @@
 // that no term uses.
 mod names;
 
-ghost use Prim.Native.Nat.{_≤_, _<_};
+ghost use mathlib.Core.Path.{_≡_};
+ghost use Prim.Native.Nat.{_+_, _*_, _≤_, _<_};
+ghost use lib.ListN.{length};
 ghost use Rattle.io.specs.Counts.{Counts};
 
 // The pass that argument i names, or 0.
@@ -26,16 +28,16 @@ fn arg_pass(i: usize) -> u64 {
 }
 
 // Call k of the list: the pass, and a result slice of the one length that is accepted.
-fn put_call(k: usize, pass: u64, calls: &mut [u64; 512])
-    requires { ⌜ k < 256 ⌝ }
+fn put_call(k: usize, pass: u64, calls: &mut [u64])
+    requires { ⌜ 2 * k + 1 < length (now calls) ⌝ }
 {
     calls[2 * k] = pass;
     calls[2 * k + 1] = 57360;
 }
 
 // The calls that the first arguments name, n of them.
-fn put_named(n: usize, calls: &mut [u64; 512])
-    requires { ⌜ n ≤ 256 ⌝ }
+fn put_named(n: usize, calls: &mut [u64])
+    requires { ⌜ 2 * n ≤ length (now calls) ⌝ }
 {
     let mut k = 0;
     while k < n {
@@ -45,7 +47,9 @@ fn put_named(n: usize, calls: &mut [u64; 512])
 }
 
 // The list that is run where there are no arguments.
-fn put_usual(calls: &mut [u64; 512]) {
+fn put_usual(calls: &mut [u64])
+    requires { ⌜ 10 ≤ length (now calls) ⌝ }
+{
     put_call(0, names::REFINE, calls);
     put_call(1, names::RECOVER, calls);
     put_call(2, names::COALESCE, calls);
@@ -53,9 +57,11 @@ fn put_usual(calls: &mut [u64; 512]) {
     put_call(4, names::COMPACT, calls);
 }
 
-// Puts the list in calls and gives its length in words. One word alone is no list.
-fn read_list(calls: &mut [u64; 512]) -> usize
-    ensures { λ r. ⌜ r ≤ 512 ⌝ }
+// Puts the list in calls and gives its length in words. With too many arguments it is a call of
+// pass 0, which there is not.
+fn read_list(calls: &mut [u64]) -> usize
+    requires { ⌜ 512 ≡ length (now calls) ⌝ }
+    ensures { λ r. ⌜ Counts r (now (calls .exit)) ⌝ }
 {
     let count = os::arg_count();
     if count < 2 {
@@ -65,7 +71,8 @@ fn read_list(calls: &mut [u64; 512]) -> usize
     let n = count - 1;
     if n > 256 {
         io::write_all(2, b"passes: more than 256 arguments\n");
-        return 1;
+        put_call(0, 0, calls);
+        return 2;
     }
     put_named(n, calls);
     2 * n

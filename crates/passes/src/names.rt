@@ -3,9 +3,13 @@ ghost use mathlib.Core.Path.{_≡_};
 ghost use Rattle.passes.specs.Names.{isName, passNumber};
 
 pub const REFINE: u64 = 1;
+
 pub const RECOVER: u64 = 2;
+
 pub const COALESCE: u64 = 3;
+
 pub const FLATTEN: u64 = 4;
+
 pub const COMPACT: u64 = 5;
 
 // Whether the name is the function's or the short one.
