@@ -23,7 +23,9 @@ arg-pass-requires : tie.Need-arg-pass-requires Inv-loop μ-loop
 arg-pass-requires c κs = search needs
 
 put-call-requires : tie.Need-put-call-requires Inv-loop μ-loop
-put-call-requires c κs = omega (arith, c .before .before .loop-test .taken, c .before .before .before .loop .inv, c .before .before .before .before .before .pre)
+put-call-requires c κs =
+    let at-loop = c .before .before .before in
+    omega (arith, c .before .before .loop-test .taken, at-loop .loop .inv, at-loop .before .before .pre)
 
 add-k : tie.Need-add-k Inv-loop μ-loop
 add-k c = omega (arith, c .before .before .before .before .before .loop-test .taken, c .before .before .before .before .before .before .before .before .fits .n)

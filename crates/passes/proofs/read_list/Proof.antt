@@ -37,7 +37,8 @@ same-length-2 c = search needs
 returns-2 : tie.Need-returns-2
 returns-2 c =
     let put = c .before .before .put-call in
-    counts-within 2 (put .last .1 .1 .0) (omega (arith, put .kept .1 .1 .0, c .before .before .before .before .before .before .before .before .before .before .pre))
+    let at-start = c .before .before .before .before .before .before .before .before .before .before in
+    counts-within 2 (put .last .1 .1 .0) (omega (arith, put .kept .1 .1 .0, at-start .pre))
 
 put-named-requires : tie.Need-put-named-requires
 put-named-requires c κs = search needs
