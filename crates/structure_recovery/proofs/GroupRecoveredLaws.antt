@@ -1,16 +1,15 @@
 -- Laws of a group recovered and settled (specs/Recovering.antt): a group without partners, and what the table shows
 -- afterwards, full or not.
 use mathlib.Core.Path.{_≡_, refl, ap, sym, subst, _∙_}
-use Prim.Native.Nat.{ℕ, _+_, _-_, _^_, _≤_, _<_}
+use Prim.Native.Nat.{ℕ, _-_, _^_, _≤_}
 use native.Mathlib.Omega.{arith}
 use mathlib.Core.List.{List}
 use mathlib.Core.Bool.{true, false}
 use lib.ListN.{length, getD}
 use Rattle.record.specs.Tree.{Tree}
 use Rattle.record.proofs.SizedLaws.{false-true}
-use Rattle.semilinear.specs.Form.{Row, fitsTable}
+use Rattle.semilinear.specs.Form.{Row}
 use Rattle.group.specs.declared.Group.{Group}
-use Rattle.group.specs.Group.{settle}
 use Rattle.group.specs.Made.{tableOf, Room}
 use Rattle.group.specs.Gathered.{settleWords}
 use Rattle.group.specs.Shown.{Shown}
