@@ -1,6 +1,7 @@
 // The number of a tree among the atoms of a pass's table, to which it is added where it has none.
 use group::made;
 use semilinear::items;
+use semilinear::table::{self};
 ghost use mathlib.Core.Path.{_≡_};
 ghost use mathlib.Core.Bool.{true};
 ghost use Prim.Native.Nat.{_+_, _^_, _<_, _≤_};
@@ -11,9 +12,6 @@ ghost use Rattle.group.specs.Group.{createRow};
 ghost use Rattle.group.specs.Made.{Room, Grew, Basis};
 ghost use Rattle.structure_recovery.specs.Search.{hasTree, atomWith};
 ghost use Rattle.structure_recovery.specs.Showing.{BareFound};
-
-// The provenance of an atom that is no And, Or, Xor or Not.
-const MIXED: u8 = 4;
 
 // Whether the atom at the front has this hash and the tree t. Bytes are compared only where the
 // hashes are equal.
@@ -72,6 +70,6 @@ pub fn find_or_create_bare(made: &mut [u64], out: &mut [u8], b: &[u8], hash: u64
     if i < made[1] {
         return i;
     }
-    create_row(made, out, b, hash, MIXED, w);
+    create_row(made, out, b, hash, table::MIXED_FAMILY, w);
     i
 }
