@@ -156,7 +156,7 @@ pub fn columns(mut bytes: Vec<u8>, length: usize) -> Entry {
     Entry {
         kind: COLUMNS,
         refusal: answer.refusal as u8,
-        expected: answer.classes << 32 | 8 * words as u64,
+        expected: (answer.classes << 32) | (8 * words as u64),
         words: vec![length as u64],
         bytes,
     }
