@@ -3,7 +3,7 @@
 ghost use Rattle.io_form.specs.Used.{IsUsed};
 
 // R and the refusal's number.
-fn print_refusal(number: u64) {
+pub fn print_refusal(number: u64) {
     io::write_all(1, b"R ");
     io::print_decimal(1, number);
     io::write_all(1, b"\n");

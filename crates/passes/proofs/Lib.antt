@@ -1,0 +1,3 @@
+-- The laws that the functions of the crate cite.
+mod UsedLaws
+mod NamesLaws

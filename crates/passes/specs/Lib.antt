@@ -1,0 +1,2 @@
+-- The passes by name.
+pub mod Names
