@@ -2,7 +2,7 @@
 //! directory named by COBRA_SRC, with the stand-ins of this package beside them, and then again in
 //! two builds with edited text (edits.rs): `sorted`, whose maps are sorted, and `parted`, which also
 //! has document 01's partings. Edited files stand in OUT_DIR. With the feature `library` it also
-//! links the archive named by HOGZELT_LIB, and says which functions it has.
+//! links the archive named by HOGZELT_LIB.
 
 mod edits;
 
@@ -10,15 +10,6 @@ use edits::{Edit, CALLED, EDITED, PARTING_1, PARTING_2, PARTING_3, PARTING_5, SO
 use std::env;
 use std::fs;
 use std::path::{Path, PathBuf};
-
-/// The functions of the library that the archive may not have yet.
-const PROBED: [&str; 5] = [
-    "refine_terms",
-    "recover_structure",
-    "coalesce_terms",
-    "flatten_complex_atoms",
-    "compute_partitions",
-];
 
 /// A module of the published crate: its submodules, and those that have stand-ins.
 struct Module {
@@ -66,8 +57,6 @@ fn main() {
     let edits: [&[Edit]; 5] = [&SORTED_MAPS, &PARTING_1, &PARTING_2, &PARTING_3, &PARTING_5];
     text += &edited_build("parted", &edits, &CALLED, &sources, &package, &out);
     write(&out.join("published.rs"), &text);
-    let probed = PROBED.map(|name| format!("{name:?}")).join(", ");
-    println!("cargo:rustc-check-cfg=cfg(hogzelt, values({probed}))");
     if env::var_os("CARGO_FEATURE_LIBRARY").is_some() {
         link_library();
     }
@@ -159,8 +148,6 @@ fn submodule(name: &str, folder: &Path) -> String {
     format!("    #[path = {file:?}]\n    pub mod {name};\n")
 }
 
-/// Links the archive. Each function of the passes and columns that it has is a value of the cfg
-/// `hogzelt`, so that the harness can be built beside an archive that does not have them all.
 fn link_library() {
     println!("cargo:rerun-if-env-changed=HOGZELT_LIB");
     let archive = PathBuf::from(variable("HOGZELT_LIB"));
@@ -168,24 +155,4 @@ fn link_library() {
     println!("cargo:rerun-if-changed={}", archive.display());
     println!("cargo:rustc-link-search=native={}", folder.display());
     println!("cargo:rustc-link-lib=static=hogzelt");
-    let symbols = symbols(&fs::read(&archive).expect("the archive can be read"));
-    for function in PROBED {
-        if symbols.contains(&format!("hogzelt_{function}")) {
-            println!("cargo:rustc-cfg=hogzelt=\"{function}\"");
-        }
-    }
-}
-
-/// The symbols that an archive of GNU's format defines: its first member, named `/`, is their index,
-/// a big-endian count, that many offsets, and the names, each ended by a zero byte.
-fn symbols(archive: &[u8]) -> Vec<String> {
-    assert!(archive.starts_with(b"!<arch>\n/ "), "an index comes first");
-    let size = std::str::from_utf8(&archive[8 + 48..8 + 58]).expect("digits");
-    let size: usize = size.trim().parse().expect("the size of the index");
-    let index = &archive[68..68 + size];
-    let count = u32::from_be_bytes(index[..4].try_into().expect("four bytes")) as usize;
-    index[4 + 4 * count..]
-        .split(|byte| *byte == 0)
-        .map(|name| String::from_utf8_lossy(name).into_owned())
-        .collect()
 }

@@ -1,7 +1,7 @@
 -- Laws of the loop over the groups (specs/Recovering.antt): after k groups the table shows some rows, of which the other
 -- groups make what all groups make of the first ones, or it is full and those pass a limit.
-use mathlib.Core.Path.{_≡_, refl, ap, ap₂, sym, subst, _∙_}
-use Prim.Native.Nat.{ℕ, _+_, _*_, _≤_, _<_}
+use mathlib.Core.Path.{_≡_, refl, ap, sym, subst, _∙_}
+use Prim.Native.Nat.{ℕ, _+_, _*_, _≤_}
 use native.Mathlib.Omega.{arith}
 use mathlib.Core.List.{List, [], _∷_}
 use mathlib.Core.Bool.{true, false}
@@ -14,13 +14,13 @@ use Rattle.semilinear.specs.Items.{atomCount, afterAtoms}
 use Rattle.semilinear.specs.DecodeForm.{rowsOf}
 use Rattle.group.specs.declared.Group.{Group}
 use Rattle.group.specs.Group.{emptyGroup, anyBasis, basesOf, groupOf, ungrouped, settle}
-use Rattle.group.specs.Made.{tableOf, Room, Held}
+use Rattle.group.specs.Made.{tableOf, Room}
 use Rattle.group.specs.Shown.{Shown}
 use Rattle.group.specs.Views.{onlyOf, Views, ViewsRead}
 use Rattle.group.proofs.PassLaws.{read-wide, read-shown}
 use Rattle.group.proofs.ShownLaws.{settle-fits}
 use Rattle.group.proofs.SplitLaws.{only-any}
-use Rattle.structure_recovery.specs.RecoverStructure.{Recovery, recoverGroup, recoverAll}
+use Rattle.structure_recovery.specs.RecoverStructure.{Recovery, recoverAll}
 use Rattle.structure_recovery.specs.Recovering.{recovery, settledForm, ShowsForm, GroupRecovered, oneRecovered}
 use Rattle.structure_recovery.specs.Recovering.{AllFair, AllRecovered, RowsRecovered}
 use Rattle.structure_recovery.proofs.RecoveredLaws.{past-group}

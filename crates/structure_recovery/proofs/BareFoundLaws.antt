@@ -1,15 +1,14 @@
 -- Laws of specs/Showing.antt: the number that the search finds, with the table as it is or with an atom more.
-use mathlib.Core.Path.{_≡_, refl, ap, sym, _∙_}
-use Prim.Native.Nat.{ℕ, _≤_, _<_}
+use mathlib.Core.Path.{_≡_, refl, ap, _∙_}
+use Prim.Native.Nat.{ℕ, _^_, _≤_, _<_}
 use native.Mathlib.Omega.{arith}
 use mathlib.Core.List.{List}
-use mathlib.Core.Bool.{true, false}
+use mathlib.Core.Bool.{false}
 use lib.ListN.{length, getD, take, length-take}
-use lib.Dec.{ltb}
 use borrow.Author.Tests.{lt-ltb, le-ltb}
 use Rattle.record.specs.Tree.{Tree}
 use Rattle.record.specs.Decode.{decode}
-use Rattle.semilinear.specs.Form.{mixedFamily, Row, atomsBytes}
+use Rattle.semilinear.specs.Form.{mixedFamily, Row}
 use Rattle.group.specs.Group.{createRow}
 use Rattle.group.specs.Made.{tableOf, Room, Held, Grew, Basis}
 use Rattle.group.proofs.SteppedLaws.{later-none}
@@ -35,12 +34,12 @@ module _ (w : ℕ) (t : Tree) (l : List Row) where
   unfolding withBare
   bare-new h = simp (le-ltb (rowWith w t 0 l) (length l) h)
 
-module _ {w hash : ℕ} {b : List ℕ} (basis : Basis w hash b) {made out : List ℕ} {r : ℕ}
-    (e : r ≡ atomWith b (take (getD made 0 0) out)) where
+module _ {w hash : ℕ} {b : List ℕ} (basis : Basis w hash b) (word : hash < 2 ^ 64) {made out : List ℕ} {r : ℕ}
+    (e : r ≡ atomWith hash b (take (getD made 0 0) out)) where
   -- what the search finds where the table is not full, and the count of rows
   found-row : tableOf made .full ≡ false → (l : List Row) → Held w made out l → r ≡ rowWith w (decode b) 0 l
   unfolding tableOf
-  found-row more l h = e ∙ ap (atomWith b) (h .holds .kept more .bytes) ∙ row-found w b (basis .same) l
+  found-row more l h = e ∙ ap (atomWith hash b) (h .holds .kept more .bytes) ∙ row-found w hash b basis word l
 
   count-rows : tableOf made .full ≡ false → (l : List Row) → Held w made out l → getD made 1 0 ≡ length l
   unfolding tableOf

@@ -14,17 +14,20 @@ use Rattle.record.proofs.LoopLaws.{when-both}
 use Rattle.semilinear.specs.Form.{Row, fitsTable}
 use Rattle.group.specs.declared.Group.{Group}
 use Rattle.group.specs.Group.{at, isLive, emptyGroup, variableBasis, groupOf, settle}
-use Rattle.group.specs.Made.{tableOf, Room}
+use Rattle.group.specs.Made.{Room}
 use Rattle.group.specs.Links.{lent}
-use Rattle.group.specs.Gathered.{gathered, settleWords}
+use Rattle.group.specs.declared.views.View.{View}
+use Rattle.group.specs.Gathered.{gathered, addWord, settleWords}
+use Rattle.group.specs.Lone.{loneGroup}
 use Rattle.group.proofs.GatherLaws.{gathered-atoms}
 use Rattle.group.proofs.SettleWordsLaws.{length-settle}
 use Rattle.group.proofs.ShownLaws.{settle-fits, settle-length, shown-settle}
+use Rattle.group.proofs.LoneLaws.{lone-len, settle-lone}
 use Rattle.structure_recovery.specs.CoalesceTerms.{Carried, carriedOf, carriedRows, coalesceGroup, coalesceAll}
 use Rattle.structure_recovery.specs.Showing.{Shows}
 use Rattle.structure_recovery.specs.Coalescing.{carriedIn, IsCarried, Coalesced}
 use Rattle.structure_recovery.proofs.CarriedToLaws.{carried-few, carried-lent}
-use Rattle.structure_recovery.proofs.NewTermsLaws.{rows-past, rows-longer, shows-shown, coalesced-as, coalesced-then}
+use Rattle.structure_recovery.proofs.NewTermsLaws.{rows-past, rows-longer, coalesced-as, coalesced-then}
 
 -- ---- one group
 
@@ -69,7 +72,7 @@ module _ (w : ℕ) (t : Tree) (g : Group) where
     carried-count = omega (arith, count-is, carried-few w g w)
 
   module _ (made out coeffs : List ℕ) (hw : w ≤ 64) (n : ℕ) (below : (k : ℕ) → k < g .len → at g k .atom < n)
-      (room : Room made out) (more : tableOf made .full ≡ false) where
+      (room : Room made out) where
     -- the group is settled
     settled-turn : {coeffs′ : List ℕ} → coeffs′ ≡ settleWords w (g .coeffs) (g .atoms) (g .marks) (g .len) coeffs
         → ((l : List Row) → coalesceGroup w t g l ≡ settle w g l)
@@ -82,10 +85,13 @@ module _ (w : ℕ) (t : Tree) (g : Group) where
           long = refl;
           wide = ap length e ∙ length-settle w (g .coeffs) (g .atoms) (g .marks) (g .len) coeffs;
           shows = λ l le s.
-              let h = s .shown more in
               rw (is l)
-              (shows-shown
-              (shown-settle w g l hw (λ k lt _. omega (arith, below k lt, le)) (h .held) (h .terms) e));
+              (record {
+                shown = λ more.
+                    shown-settle w g l hw (λ k lt _. omega (arith, below k lt, le)) (s .shown more .held)
+                    (s .shown more .terms) e;
+                past = λ full. settle-fits w g l ∙ s .past full;
+              });
         }
 
     pub short-turn : {coeffs′ : List ℕ} → coeffs′ ≡ settleWords w (g .coeffs) (g .atoms) (g .marks) (g .len) coeffs
@@ -112,6 +118,19 @@ module _ (f views : List ℕ) (hash : ℕ) (b : List ℕ) (n : ℕ) {g : Group} 
     (most : n ≤ 256) where
   pub atoms-below : (k : ℕ) → k < g .len → at g k .atom < n
   atoms-below = rw e (gathered-atoms f views hash b n most)
+
+  -- where it is that of one row alone, its coefficient is added to that row
+  module _ (w : ℕ) (t : Tree) (v : View) (i : ℕ) (hw : w ≤ 64) {made out coeffs coeffs′ : List ℕ} where
+    pub lone-turn : Room made out → g ≡ loneGroup v i → coeffs′ ≡ addWord w (v .coeff) i coeffs
+        → Coalesced w n 64 (coalesceGroup w t g) made out coeffs made out coeffs′
+    lone-turn room lone p =
+        let one : g .len ≡ 1 = ap (λ (q : Group). q .len) lone ∙ lone-len v i in
+        short-turn w t g made out coeffs hw n atoms-below room
+        (p
+        ∙ sym (settle-lone v i w coeffs)
+        ∙ ap (λ (q : Group). settleWords w (q .coeffs) (q .atoms) (q .marks) 1 coeffs) (sym lone)
+        ∙ ap (λ (k : ℕ). settleWords w (g .coeffs) (g .atoms) (g .marks) k coeffs) (sym one))
+        (omega (arith, one))
 
 -- the same of the group by its name
 pub coalesced-of : (w m n : ℕ) (t : Tree) {g h : Group} {made out coeffs made′ out′ coeffs′ : List ℕ} → g ≡ h

@@ -8,16 +8,19 @@ use mathlib.Core.Bool.{true, false}
 use lib.ListN.{length, getD}
 use Rattle.record.specs.Tree.{Tree}
 use Rattle.record.proofs.SizedLaws.{false-true}
-use Rattle.semilinear.specs.Form.{Row, fitsTable}
+use Rattle.record.proofs.LoopLaws.{first-from}
+use Rattle.semilinear.specs.Form.{Row}
 use Rattle.group.specs.declared.Group.{Group}
-use Rattle.group.specs.Group.{settle}
 use Rattle.group.specs.Made.{tableOf, Room}
-use Rattle.group.specs.Gathered.{settleWords}
+use Rattle.group.specs.declared.views.View.{View}
+use Rattle.group.specs.Gathered.{addWord, settleWords}
+use Rattle.group.specs.Lone.{loneGroup}
 use Rattle.group.specs.Shown.{Shown}
 use Rattle.group.proofs.SettleWordsLaws.{length-settle}
 use Rattle.group.proofs.ShownLaws.{settle-fits, shown-settle}
+use Rattle.group.proofs.LoneLaws.{lone-len, settle-lone}
 use Rattle.structure_recovery.specs.RecoverStructure.{Recovery, recoverGroup}
-use Rattle.structure_recovery.specs.Recovering.{NoPartner, Stands, Recovers, Recovered, recovery, Fair}
+use Rattle.structure_recovery.specs.Recovering.{partnerFits, NoPartner, Stands, Recovers, Recovered, recovery, Fair}
 use Rattle.structure_recovery.specs.Recovering.{settledForm, ShowsForm, GroupRecovered}
 use Rattle.structure_recovery.proofs.PairingLaws.{group-alone}
 use Rattle.structure_recovery.proofs.RecoveredLaws.{recovers-of}
@@ -79,26 +82,26 @@ module _ {w : ℕ} (t : Tree) {g r : Group} {made out made′ out′ : List ℕ}
         shown = λ l fair shown. past-settled full l shown;
       })
 
-  module _ (hw : w ≤ 64) (more : tableOf made′ .full ≡ false) {coeffs coeffs′ : List ℕ} {m : ℕ} (em : m ≡ g .len)
+  module _ (hw : w ≤ 64) {coeffs coeffs′ : List ℕ} {m : ℕ} (em : m ≡ g .len)
       (e : coeffs′ ≡ settleWords w (r .coeffs) (r .atoms) (r .marks) m coeffs) where
     shown-settled : (l : List Row) → Fair l (recoverGroup w t (begun l)) → Shown w made out coeffs l
         → ShowsForm w made′ out′ coeffs′ (settledForm w (recoverGroup w t (begun l)))
     unfolding settledForm
     shown-settled l fair shown =
         let x : Recovery = recoverGroup w t (begun l) in
-        let stood = s .recovers (begun l) (begins l shown) .stands more in
-        let words : coeffs′ ≡ settleWords w (x .group .coeffs) (x .group .atoms) (x .group .marks) (x .group .len) coeffs =
-        e
+        let done = s .recovers (begun l) (begins l shown) in
+        let words : r ≡ x .group → coeffs′ ≡ settleWords w (x .group .coeffs) (x .group .atoms) (x .group .marks) (x .group .len) coeffs =
+        λ same. e
         ∙ ap (λ (k : ℕ). settleWords w (r .coeffs) (r .atoms) (r .marks) k coeffs) (em ∙ sym (s .len))
-        ∙ ap (λ (q : Group). settleWords w (q .coeffs) (q .atoms) (q .marks) (q .len) coeffs) (stood .same) in
+        ∙ ap (λ (q : Group). settleWords w (q .coeffs) (q .atoms) (q .marks) (q .len) coeffs) same in
         record {
           shows = record {
-            shown = λ _.
-                shown-settle w (x .group) (x .rows) hw (fair .atoms) (stood .held)
-                (λ f. shown .terms (fair .fits f) ∙ sym (fair .coeffs f)) words;
-            past = λ full. false-true (sym more ∙ full);
+            shown = λ more.
+                shown-settle w (x .group) (x .rows) hw (fair .atoms) (done .stands more .held)
+                (λ f. shown .terms (fair .fits f) ∙ sym (fair .coeffs f)) (words (done .stands more .same));
+            past = λ full. settle-fits w (x .group) (x .rows) ∙ done .past full;
           };
-          constant = λ _. stood .constant;
+          constant = λ more. done .stands more .constant;
         }
 
     pub group-settled : {h : Group} → g ≡ h → GroupRecovered w 256 t h made out coeffs made′ out′ coeffs′
@@ -112,3 +115,23 @@ module _ {w : ℕ} (t : Tree) {g r : Group} {made out made′ out′ : List ℕ}
           wide = ap length e ∙ length-settle w (r .coeffs) (r .atoms) (r .marks) m coeffs;
           shown = shown-settled;
         })
+
+-- ---- a row that is alone in its group
+
+no-partner : (f : ℕ) (v : View) (i : ℕ)
+    → NoPartner f (loneGroup v i .masks) (loneGroup v i .marks) (loneGroup v i .len)
+no-partner f v i k lt =
+    let g : Group = loneGroup v i in
+    omega (
+      arith,
+      lone-len v i,
+      first-from (partnerFits (f - getD (g .masks) k 0) (g .masks) (g .marks)) (k + 1) (g .len),
+    )
+
+-- it is not paired, and settling adds its coefficient to its row
+pub lone-recovered : {w : ℕ} (t : Tree) {g : Group} (v : View) (i : ℕ) {made out coeffs coeffs′ : List ℕ} → w ≤ 64
+    → Room made out → g ≡ loneGroup v i → coeffs′ ≡ addWord w (v .coeff) i coeffs
+    → GroupRecovered w 256 t g made out coeffs made out coeffs′
+lone-recovered {w} t v i {coeffs = coeffs} hw room lone e =
+    group-settled t (recovered-none t {f = 2 ^ w - 1} refl (no-partner (2 ^ w - 1) v i) room) hw (sym (lone-len v i))
+    (e ∙ sym (settle-lone v i w coeffs)) (sym lone)

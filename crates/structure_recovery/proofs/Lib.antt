@@ -20,6 +20,7 @@ mod FlatTurnLaws
 mod KeptRowsLaws
 mod FlatWalkLaws
 mod FlatFormLaws
+mod HashBytesLaws
 mod SearchLaws
 mod BareFoundLaws
 mod XoredLaws

@@ -5,13 +5,12 @@ use mathlib.Core.Logic.{_≢_}
 use Prim.Native.Nat.{ℕ, _+_, _-_, _^_, _≤_, _<_}
 use native.Mathlib.Omega.{arith}
 use mathlib.Core.List.{List}
-use mathlib.Core.Bool.{Bool, true, false, _&&_, _||_}
+use mathlib.Core.Bool.{_||_}
 use lib.ListN.{getD}
 use lib.Count.{ones}
-use lib.Dec.{eqb, ltb, leb}
+use lib.Dec.{eqb}
 use borrow.Author.Tests.{eq-eqb, ne-eqb, le-leb, lt-leb, lt-ltb, le-ltb}
 use Rattle.arith.specs.Width.{modAdd, modSub}
-use Rattle.record.specs.Loop.{forIn}
 use Rattle.record.specs.Tree.{Tree}
 use Rattle.record.proofs.LoopLaws.{when-both, first-from, for-same}
 use Rattle.group.specs.declared.Group.{Group}

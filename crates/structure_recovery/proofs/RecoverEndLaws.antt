@@ -1,6 +1,6 @@
 -- The begin and the end of recovering (specs/Recovering.antt): the words of the copied table hold the rows of the form,
 -- and what the end of a pass gives of the recovered rows is the recovered form, or 9.
-use mathlib.Core.Path.{_≡_, refl, ap, ap₂, sym, subst, _∙_}
+use mathlib.Core.Path.{_≡_, refl, ap, ap₂, sym, _∙_}
 use Prim.Native.Nat.{ℕ, _*_, _≤_}
 use native.Mathlib.Omega.{arith}
 use mathlib.Core.List.{List, [], _∷_}

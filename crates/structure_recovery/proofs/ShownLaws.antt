@@ -1,21 +1,17 @@
 -- Laws of a table with its coefficients (specs/Flattening.antt): a coefficient put in its place, and steps that follow
 -- each other.
 use mathlib.Core.Path.{_≡_, refl, ap, sym, _∙_}
-use Prim.Native.Nat.{ℕ, suc, _+_, _-_, _≤_, _<_}
+use Prim.Native.Nat.{ℕ, suc, _+_, _-_, _<_}
 use native.Mathlib.Omega.{arith}
 use mathlib.Core.List.{List, [], _∷_, _++_, append-assoc}
-use mathlib.Core.Bool.{Bool, true, false}
-use lib.ListN.{length, getD, set, replicate, length-append, length-set}
-use lib.Seq.{set-at, getD-set-same, getD-set-other}
-use lib.Dec.{leb}
-use borrow.Author.Tests.{leb-true}
+use lib.ListN.{length, getD, set, replicate, length-append}
+use lib.Seq.{set-at, getD-set-same}
 use Rattle.record.specs.Put.{put, padded}
 use Rattle.record.specs.Tree.{sizeOf}
-use Rattle.record.proofs.SizedLaws.{false-true, and-true}
 use Rattle.semilinear.specs.Form.{Row, treeRecords, fitsTable}
 use Rattle.semilinear.specs.Terms.{coeffsOf}
 use Rattle.semilinear.proofs.TermsLaws.{length-coeffs, coeffs-append}
-use Rattle.semilinear.proofs.HoldsLaws.{bareRows, holds-bare, past-more}
+use Rattle.semilinear.proofs.HoldsLaws.{bareRows, holds-bare}
 use Rattle.group.specs.Made.{tableOf, Room, Held}
 use Rattle.group.specs.Shown.{Shown}
 use Rattle.structure_recovery.specs.Flattening.{bareRow, Extended}

@@ -1,22 +1,34 @@
 // The number of a tree among the atoms of a pass's table, to which it is added where it has none.
 use group::made;
 use semilinear::items;
+use semilinear::table::{self};
 ghost use mathlib.Core.Path.{_≡_};
+ghost use mathlib.Core.Bool.{true};
 ghost use Prim.Native.Nat.{_+_, _^_, _<_, _≤_};
 ghost use lib.ListN.{getD};
 ghost use Rattle.record.specs.Decode.{decode};
+ghost use Rattle.semilinear.specs.Items.{isAtom};
 ghost use Rattle.group.specs.Group.{createRow};
 ghost use Rattle.group.specs.Made.{Room, Grew, Basis};
-ghost use Rattle.structure_recovery.specs.Search.{atomWith};
+ghost use Rattle.structure_recovery.specs.Search.{hasTree, atomWith};
 ghost use Rattle.structure_recovery.specs.Showing.{BareFound};
 
-// The provenance of an atom that is no And, Or, Xor or Not.
-const MIXED: u8 = 4;
+// Whether the atom at the front has this hash and the tree t. Bytes are compared only where the
+// hashes are equal.
+fn has_tree(r: &[u8], t: &[u8], hash: u64) -> bool
+    requires { ⌜ isAtom (now r) ≡ true ⌝ }
+    ensures { λ b. ⌜ b ≡ hasTree hash (now (t .entry)) (now (r .entry)) ⌝ }
+{
+    if items::front_word(r) != hash {
+        return false;
+    }
+    record::same_bytes(items::tree_span(r), t)
+}
 
-// The number of the first atom at the front of f with the tree t; the count of atoms where there is
-// none.
-fn row_with(f: &[u8], t: &[u8]) -> u64
-    ensures { λ r. ⌜ r ≡ atomWith (now (t .entry)) (now (f .entry)) ⌝ }
+// The number of the first atom at the front of f with the tree t, which has this hash; the count of
+// atoms where there is none.
+fn row_with(f: &[u8], t: &[u8], hash: u64) -> u64
+    ensures { λ r. ⌜ r ≡ atomWith hash (now (t .entry)) (now (f .entry)) ⌝ }
 {
     let mut at = 0;
     let mut i: u64 = 0;
@@ -25,7 +37,7 @@ fn row_with(f: &[u8], t: &[u8]) -> u64
         if !items::is_atom(r) {
             return i;
         }
-        if record::same_bytes(items::tree_span(r), t) {
+        if has_tree(r, t, hash) {
             return i;
         }
         i += 1;
@@ -54,10 +66,10 @@ pub fn find_or_create_bare(made: &mut [u64], out: &mut [u8], b: &[u8], hash: u64
         (now (made .entry)) (now (out .entry)) (now (made .exit)) (now (out .exit)) ⌝ }
 {
     let at = made[0] as usize;
-    let i = row_with(&out[..at], b);
+    let i = row_with(&out[..at], b, hash);
     if i < made[1] {
         return i;
     }
-    create_row(made, out, b, hash, MIXED, w);
+    create_row(made, out, b, hash, table::MIXED_FAMILY, w);
     i
 }

@@ -2,6 +2,7 @@
 use crate::carried::{self};
 use group::Group;
 use group::bases;
+use group::lone;
 use group::made;
 use group::settle;
 use group::views;
@@ -70,7 +71,7 @@ fn coalesce_group(
     carried::put_carried(&carried, &bits, count, b, hash, w, made, coeffs, out);
 }
 
-// The group of the basis of row `first`.
+// The group of the basis of row `first`; where that row is alone, none is gathered.
 fn coalesce_at(
     first: usize,
     n: usize,
@@ -95,6 +96,10 @@ fn coalesce_at(
     let hash = views[v + 1];
     let start = views[v + 2] as usize;
     let end = views[v + 3] as usize;
+    if lone::is_lone(first, n, hash, &f[start..end], views, f) {
+        settle::add_word(coeffs, first as u64, views[v], w as u32);
+        return;
+    }
     coalesce_group(hash, &f[start..end], n, views, f, w, made, coeffs, out);
 }
 

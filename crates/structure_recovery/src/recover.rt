@@ -2,6 +2,7 @@
 use crate::pair;
 use group::Group;
 use group::bases;
+use group::lone;
 use group::made;
 use group::settle;
 use group::views;
@@ -63,7 +64,7 @@ fn recover_group(
     settle::settle(&g.coeffs, &g.atoms, &g.marks, len, coeffs, w as u32);
 }
 
-// The group of the basis of row `first`.
+// The group of the basis of row `first`; where that row is alone, none is gathered.
 fn recover_at(
     first: usize,
     n: usize,
@@ -88,6 +89,10 @@ fn recover_at(
     let hash = views[v + 1];
     let start = views[v + 2] as usize;
     let end = views[v + 3] as usize;
+    if lone::is_lone(first, n, hash, &f[start..end], views, f) {
+        settle::add_word(coeffs, first as u64, views[v], w as u32);
+        return;
+    }
     recover_group(hash, &f[start..end], n, views, f, w, made, coeffs, out);
 }
 

@@ -1,6 +1,7 @@
 // The atom `literal ^ basis`, and the constant that recovering it takes along.
 use group::made;
 use semilinear::table::Table;
+use semilinear::table::{self};
 ghost use mathlib.Core.Path.{_≡_};
 ghost use Prim.Native.Nat.{_+_, _*_, _^_, _<_, _≤_};
 ghost use lib.ListN.{length, getD, set};
@@ -13,9 +14,6 @@ ghost use Rattle.semilinear.specs.Table.{Placed, storeOf, atomSpan, createAtom}
 ghost use Rattle.group.specs.Group.{createRow};
 ghost use Rattle.group.specs.Made.{Room, Grew};
 ghost use Rattle.structure_recovery.specs.Recovering.{xorTree};
-
-// The provenance of a new Xor.
-const XOR: u8 = 2;
 
 // Puts the Xor of the literal m and the tree b into out from index `at` on; it has `size` records.
 fn put_tree(out: &mut [u8], at: usize, b: &[u8], m: u64, size: u64, w: u8)
@@ -41,7 +39,7 @@ fn put_xored(out: &mut [u8], at: usize, b: &[u8], m: u64, size: u64, w: u8)
     let end = at + 48 + b.len();
     put_tree(out, start, b, m, size, w);
     let hash = expr::hash::structural_hash(&out[start..end]);
-    record::write::put_record(out, at, 33, XOR, size, w, hash);
+    record::write::put_record(out, at, 33, table::XOR_FAMILY, size, w, hash);
 }
 
 // Appends the Xor of the literal m and the tree b.

@@ -1,18 +1,18 @@
 -- Laws of the loop over the groups (specs/Refining.antt): after k groups the table shows some rows, of which the other
 -- groups make what all groups make of the first ones.
-use mathlib.Core.Path.{_≡_, refl, ap, sym, subst, _∙_}
-use Prim.Native.Nat.{ℕ, _+_, _*_, _≤_, _<_}
+use mathlib.Core.Path.{_≡_, refl, _∙_}
+use Prim.Native.Nat.{ℕ, _+_, _*_, _≤_}
 use native.Mathlib.Omega.{arith}
 use mathlib.Core.List.{List, [], _∷_}
 use lib.ListN.{length, getD, drop}
 use Rattle.record.specs.Tree.{Tree}
 use Rattle.semilinear.specs.Form.{Row}
 use Rattle.group.specs.declared.Group.{Group}
-use Rattle.group.specs.Group.{work, emptyGroup, anyBasis, groupOf}
+use Rattle.group.specs.Group.{emptyGroup, anyBasis, groupOf}
 use Rattle.group.specs.Made.{Room}
 use Rattle.group.specs.Shown.{Shown}
-use Rattle.term_refiner.specs.RefineTerms.{refineGroup, refineAll}
-use Rattle.term_refiner.specs.Refining.{Fair, settledRows, GroupRefined, oneRefined, AllFair, AllRefined}
+use Rattle.term_refiner.specs.RefineTerms.{refineAll}
+use Rattle.term_refiner.specs.Refining.{settledRows, GroupRefined, oneRefined, AllFair, AllRefined}
 
 module _ (w : ℕ) (before : List Row) (bases : List Tree) where
   -- the table shows rows of which the groups from k on make what all make of l

@@ -1,11 +1,10 @@
 -- Laws of the rows of a form refined (specs/Refining.antt): what the code knows of the views, and that all groups are
 -- refined of the rows without the terms that are in groups.
-use mathlib.Core.Path.{_≡_, refl, _∙_}
+use mathlib.Core.Path.{_≡_, _∙_}
 use Prim.Native.Nat.{ℕ, _≤_}
 use mathlib.Core.List.{List, []}
 use mathlib.Core.Bool.{false}
 use Rattle.record.specs.Put.{padded}
-use Rattle.semilinear.specs.Form.{Row}
 use Rattle.semilinear.specs.Items.{atomCount, afterAtoms}
 use Rattle.semilinear.specs.DecodeForm.{rowsOf}
 use Rattle.group.specs.Group.{anyBasis, basesOf, ungrouped}

@@ -1,5 +1,6 @@
 // The functions under test, each run on an entry's words and bytes.
 use crate::columns;
+use crate::lists;
 
 pub struct Answer {
     pub refusal: u64,
@@ -71,7 +72,7 @@ fn form_value(form: &[u8], words: &[u64]) -> Answer {
     Answer { refusal, value }
 }
 
-fn fill(out: &mut [u8]) {
+pub fn fill(out: &mut [u8]) {
     let mut i = 0;
     while i < out.len() {
         out[i] = UNWRITTEN_BYTE;
@@ -79,7 +80,7 @@ fn fill(out: &mut [u8]) {
     }
 }
 
-fn all_zero(out: &[u8]) -> bool {
+pub fn all_zero(out: &[u8]) -> bool {
     let mut i = 0;
     while i < out.len() {
         if out[i] != 0 {
@@ -103,7 +104,7 @@ fn is_padded(out: &[u8], wanted: &[u8]) -> bool {
 }
 
 // Whether every byte of the result slice is right: on refusal all of them are zero.
-fn result_ok(refusal: u64, out: &[u8], wanted: &[u8]) -> bool {
+pub fn result_ok(refusal: u64, out: &[u8], wanted: &[u8]) -> bool {
     if refusal != 0 {
         return all_zero(out);
     }
@@ -125,16 +126,18 @@ pub fn packed(used: u64, count: u64, flag: u64) -> u64 {
     (flag << 63) | (count << 32) | used
 }
 
-// What the function of type 7, 8 or 9 gives for an input.
+// What the function of type 7, 8, 9, 12 or 13 gives for an input.
 fn write_form(kind: u8, input: &[u8], out: &mut [u8], used: &mut u64, terms: &mut u64) -> u64 {
     match kind {
         7 => hogzelt::hogzelt_compact_atom_table(input, out, used, terms),
         8 => hogzelt::hogzelt_normalize_to_semilinear(input, out, used, terms),
-        _ => hogzelt::hogzelt_refine_terms(input, out, used, terms),
+        9 => hogzelt::hogzelt_refine_terms(input, out, used, terms),
+        12 => hogzelt::hogzelt_recover_structure(input, out, used, terms),
+        _ => hogzelt::hogzelt_coalesce_terms(input, out, used, terms),
     }
 }
 
-// What the function of types 7 to 10 gives for an input; only type 10 has a flag.
+// What the function of types 7 to 10, 12 and 13 gives for an input; only type 10 has a flag.
 fn write_flagged(
     kind: u8,
     input: &[u8],
@@ -150,7 +153,7 @@ fn write_flagged(
     write_form(kind, input, out, used, terms)
 }
 
-// Types 7 to 10, over the result slice out: the refusal and the numbers found.
+// Types 7 to 10, 12 and 13, over the result slice out: the refusal and the numbers found.
 fn written(kind: u8, input: &[u8], wanted: &[u8], out: &mut [u8]) -> Answer {
     fill(out);
     let mut used = UNWRITTEN;
@@ -167,8 +170,8 @@ fn written(kind: u8, input: &[u8], wanted: &[u8], out: &mut [u8]) -> Answer {
     Answer { refusal, value }
 }
 
-// Types 7 to 10, which have one word, the length of the result slice: the last `used` bytes are the
-// expected result, those before them the form or the expression.
+// Types 7 to 10, 12 and 13, which have one word, the length of the result slice: the last `used`
+// bytes are the expected result, those before them the form or the expression.
 fn writing(kind: u8, bytes: &[u8], words: &[u64], used: usize, out: &mut [u8]) -> Answer {
     if words.len() != 1 {
         return malformed();
@@ -199,8 +202,9 @@ pub fn answer_of(
         1 => expr_value(bytes, words),
         2 => hash(bytes),
         6 => form_value(bytes, words),
-        7 | 8 | 9 | 10 => writing(kind, bytes, words, used, out),
+        7 | 8 | 9 | 10 | 12 | 13 => writing(kind, bytes, words, used, out),
         11 => columns::partitioning(bytes, words, used, classes),
+        14 => lists::running(bytes, words, used, out),
         _ => masks(kind, words),
     }
 }

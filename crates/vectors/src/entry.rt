@@ -78,16 +78,16 @@ fn run(head: Head, bytes: &[u8], out: &mut [u8], classes: &mut [u64]) -> Answer
 }
 
 // One more in the count of a type. It does not wrap, since the number of entries is bounded.
-fn count(counts: &mut [u64; 12], kind: u8)
-    requires { ⌜ kind < 12 ⌝ }
+fn count(counts: &mut [u64; 15], kind: u8)
+    requires { ⌜ kind < 15 ⌝ }
 {
     let k = kind as usize;
     counts[k] = std::num::wrapping_add_u64(counts[k], 1);
 }
 
 // Counts a difference; the first five of a type are printed.
-fn differ(at: u64, head: Head, found: Answer, differences: &mut [u64; 12])
-    requires { ⌜ head .kind < 12 ⌝ }
+fn differ(at: u64, head: Head, found: Answer, differences: &mut [u64; 15])
+    requires { ⌜ head .kind < 15 ⌝ }
 {
     let k = head.kind as usize;
     if differences[k] < 5 {
@@ -97,8 +97,8 @@ fn differ(at: u64, head: Head, found: Answer, differences: &mut [u64; 12])
 }
 
 // Counts an entry, and compares what was found with what is expected.
-fn compare(at: u64, head: Head, found: Answer, entries: &mut [u64; 12], differences: &mut [u64; 12])
-    requires { ⌜ head .kind < 12 ⌝ }
+fn compare(at: u64, head: Head, found: Answer, entries: &mut [u64; 15], differences: &mut [u64; 15])
+    requires { ⌜ head .kind < 15 ⌝ }
 {
     count(entries, head.kind);
     let expected = head.expected;
@@ -118,10 +118,10 @@ fn body(
     bytes: &mut [u8; 191008],
     out: &mut [u8; 57376],
     classes: &mut [u64; 16464],
-    entries: &mut [u64; 12],
-    differences: &mut [u64; 12],
+    entries: &mut [u64; 15],
+    differences: &mut [u64; 15],
 ) -> bool
-    requires { ⌜ head .kind < 12 ⌝ }
+    requires { ⌜ head .kind < 15 ⌝ }
 {
     if 256 < head.words {
         report::malformed(at, b"too many words");
@@ -165,8 +165,8 @@ pub fn step(
     bytes: &mut [u8; 191008],
     out: &mut [u8; 57376],
     classes: &mut [u64; 16464],
-    entries: &mut [u64; 12],
-    differences: &mut [u64; 12],
+    entries: &mut [u64; 15],
+    differences: &mut [u64; 15],
 ) -> bool {
     let mut front = [0u8; 16];
     if io::read_full(0, &mut front) != 16 {
@@ -179,7 +179,7 @@ pub fn step(
         end(at, expected.value);
         return false;
     }
-    if 11 < head.kind {
+    if 14 < head.kind {
         report::malformed(at, b"unknown type");
         return false;
     }

@@ -3,6 +3,7 @@
 mod answer;
 mod columns;
 mod entry;
+mod lists;
 mod report;
 
 // A file of more entries is malformed. The bound makes the loop end on any input.
@@ -13,8 +14,8 @@ fn replay(
     bytes: &mut [u8; 191008],
     out: &mut [u8; 57376],
     classes: &mut [u64; 16464],
-    entries: &mut [u64; 12],
-    differences: &mut [u64; 12],
+    entries: &mut [u64; 15],
+    differences: &mut [u64; 15],
 ) {
     let mut at = 0;
     while at < MOST_ENTRIES {
@@ -27,9 +28,9 @@ fn replay(
 }
 
 // A line for each type.
-fn summary(entries: &[u64; 12], differences: &[u64; 12]) {
+fn summary(entries: &[u64; 15], differences: &[u64; 15]) {
     let mut kind = 1;
-    while kind < 12 {
+    while kind < 15 {
         report::summary(kind, entries[kind], differences[kind]);
         kind += 1;
     }
@@ -40,8 +41,8 @@ fn main() {
     let mut bytes = [0u8; 191008];
     let mut out = [0u8; 57376];
     let mut classes = [0u64; 16464];
-    let mut entries = [0u64; 12];
-    let mut differences = [0u64; 12];
+    let mut entries = [0u64; 15];
+    let mut differences = [0u64; 15];
     replay(
         &mut bytes,
         &mut out,

@@ -51,7 +51,10 @@ fn name(kind: usize) {
         8 => text(b"normalize_to_semilinear"),
         9 => text(b"refine_terms"),
         10 => text(b"flatten_complex_atoms"),
-        _ => text(b"compute_partitions"),
+        11 => text(b"compute_partitions"),
+        12 => text(b"recover_structure"),
+        13 => text(b"coalesce_terms"),
+        _ => text(b"run_passes"),
     }
 }
 

@@ -9,11 +9,12 @@ use crate::bench_rust::{self as rust, Sum, Whole};
 use crate::bench_table::{text, Measured, Row, CORE, WHOLE};
 use crate::form::RESULT_BYTES;
 use crate::library;
+use crate::library_forms::normalize_into;
 use crate::measure::{medians, stack_used};
 use crate::pass::{self, PASSES};
 use crate::record::RECORD_BYTES;
 use crate::written::same_bytes;
-use crate::{bench_forms, bench_passes, pass_library};
+use crate::{bench_forms, bench_lists, bench_passes};
 
 /// The marks around the printed text in a document.
 const BEGIN: &str = "<!-- printed by tools/harness/run.sh bench -->\n";
@@ -37,6 +38,7 @@ pub fn run(document: Option<&str>) -> Result<(), String> {
         rows.push(row("semilinear_value", class, 0, form_value)?);
     }
     rows.extend(form_rows(&classes[0].files)?);
+    rows.push(row("run_passes", &classes[0], 0, bench_lists::running)?);
     let text = text(&rows);
     print!("{text}");
     match document {
@@ -45,26 +47,20 @@ pub fn run(document: Option<&str>) -> Result<(), String> {
     }
 }
 
-/// The rows of the passes and the columns, as far as the library has them.
+/// The rows of the passes and the columns.
 fn form_rows(expressions: &[Vec<u8>]) -> Result<Vec<Row>, String> {
     let classes = bench_forms::classes(expressions);
     let mut rows = Vec::new();
-    for pass in PASSES.into_iter().filter(|pass| pass_library::has(*pass)) {
+    for pass in PASSES {
         for class in &classes {
             let refusal = pass::answer(pass, &class.files[0], RESULT_BYTES).refusal;
             let measure = |form: &[u8], refusal| bench_passes::passing(pass, form, refusal);
             rows.push(row(pass.name(), class, refusal, measure)?);
         }
     }
-    if pass_library::HAS_COLUMNS {
-        for class in &classes {
-            rows.push(row(
-                "compute_partitions",
-                class,
-                0,
-                bench_passes::partitioning,
-            )?);
-        }
+    for class in &classes {
+        let measure = bench_passes::partitioning;
+        rows.push(row("compute_partitions", class, 0, measure)?);
     }
     Ok(rows)
 }
@@ -113,14 +109,14 @@ fn normalizing(file: &[u8], refusal: u64) -> Result<Measured, String> {
     let bytes = out.clone();
     out.fill(1);
     let mut answer = [0; 3];
-    let stack = stack_used(&mut || answer = library::normalize_into(file, &mut out))?;
+    let stack = stack_used(&mut || answer = normalize_into(file, &mut out))?;
     if answer != wanted || !same_bytes(&out, &bytes) || answer[0] != refusal {
         return Err("the library's answer is not the Rust's".to_string());
     }
     let times = medians(|subject| match subject {
         CORE => drop(black_box(rust::core(&whole))),
         WHOLE => drop(black_box(rust::normalize(file, &mut out))),
-        _ => drop(black_box(library::normalize_into(file, &mut out))),
+        _ => drop(black_box(normalize_into(file, &mut out))),
     });
     Ok(Measured { times, stack })
 }

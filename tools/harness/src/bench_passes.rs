@@ -17,9 +17,9 @@ use crate::ir::semilinear::{
 };
 use crate::ir::structure_recovery::{coalesce_terms, flatten_complex_atoms, recover_structure};
 use crate::ir::term_refiner::refine_terms;
+use crate::library_forms as library;
 use crate::measure::{medians, stack_used};
 use crate::pass::{self, Pass};
-use crate::pass_library as library;
 use crate::passes::bit_partitioner::compute_partitions;
 use crate::record::Record;
 use crate::refusal::RESULT_LENGTH;
@@ -79,7 +79,7 @@ pub fn partitioning(form: &[u8], _: u64) -> Result<Measured, String> {
 }
 
 /// The published pass, as it is; whether it flattened.
-fn apply(pass: Pass, ir: &mut SemilinearIR) -> bool {
+pub fn apply(pass: Pass, ir: &mut SemilinearIR) -> bool {
     match pass {
         Pass::Refine => refine_terms(ir),
         Pass::Recover => recover_structure(ir),
@@ -91,7 +91,7 @@ fn apply(pass: Pass, ir: &mut SemilinearIR) -> bool {
 }
 
 /// A pass from bytes to bytes, with every byte of `out` written: the refusal and the numbers.
-fn passed(pass: Pass, form: &[u8], out: &mut [u8]) -> [u64; 4] {
+pub fn passed(pass: Pass, form: &[u8], out: &mut [u8]) -> [u64; 4] {
     let written = read(form).and_then(|mut ir| {
         let flattened = apply(pass, &mut ir);
         let [refusal, used, terms] = rust::write(&ir, out)?;

@@ -1,8 +1,10 @@
 //! All cases of the vector file: the hand-chosen expression files, random and damaged ones, hashes,
-//! calls of the mask functions, semilinear forms, expressions to be normalised, and forms for the
-//! passes and columns.
+//! calls of the mask functions, semilinear forms, expressions to be normalised, forms for the passes
+//! and columns, and lists of passes.
 
-use crate::entry::{self, Entry, CHANGE_COEFFICIENT, CHANGE_MASK, FLATTEN, REDUCE_MASK, REFINE};
+use crate::entry::{
+    self, Entry, CHANGE_COEFFICIENT, CHANGE_MASK, COALESCE, FLATTEN, RECOVER, REDUCE_MASK, REFINE,
+};
 use crate::form::{Form, RESULT_BYTES};
 use crate::prng::Prng;
 use crate::random::{self, Kinds};
@@ -11,7 +13,8 @@ use crate::record::{
     XOR,
 };
 use crate::{
-    edges, form_edges, form_limits, form_random, masks, normal_cases, pass_cases, published,
+    edges, form_edges, form_limits, form_random, list_cases, masks, normal_cases, pass_cases,
+    published,
 };
 
 /// The seed of the vector file: the letters of "hogzelt".
@@ -55,10 +58,15 @@ pub fn entries() -> Vec<Entry> {
     for family in &pass_cases::FAMILIES {
         for case in (family.make)(rng, family.stored) {
             let bytes = case.bytes();
-            all.push(entry::pass(REFINE, case.file.clone(), bytes));
-            all.push(entry::pass(FLATTEN, case.file.clone(), bytes));
+            for kind in [REFINE, FLATTEN, RECOVER, COALESCE] {
+                all.push(entry::pass(kind, case.file.clone(), bytes));
+            }
             all.push(entry::columns(case.file.clone(), case.words()));
         }
+    }
+    for family in &list_cases::FAMILIES {
+        let cases = (family.make)(rng, family.stored);
+        all.extend(cases.into_iter().map(entry::run));
     }
     all
 }

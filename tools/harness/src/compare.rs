@@ -3,17 +3,21 @@
 //! difference.
 
 use crate::cases::{self, SEED};
+use crate::differences::hex;
 use crate::entry::{
     self, Entry, CHANGE_COEFFICIENT, CHANGE_MASK, COMPACT, FORM_VALUE, REDUCE_MASK, TYPE_NAMES,
     VALUE,
 };
 use crate::form::RESULT_BYTES;
 use crate::model::Answer;
+use crate::pass::Pass;
 use crate::prng::Prng;
 use crate::random::{self, Kinds};
 use crate::refusal::{NUMBERS, OF_COMPACT, OF_EXPR_VALUE, OF_FORM_VALUE};
 use crate::written::Written;
-use crate::{form_random, library, masks, normal_compare, pass_compare};
+use crate::{
+    form_random, library, library_forms, list_compare, masks, normal_compare, pass_compare,
+};
 
 /// Random inputs for each function, beside the cases of the vector file.
 const RANDOM_INPUTS: usize = 250_000;
@@ -30,7 +34,8 @@ pub fn run() -> Result<(), String> {
     compare_form_values(rng, &edges)?;
     compare_compactions(rng, &edges)?;
     normal_compare::run()?;
-    pass_compare::run()
+    pass_compare::run()?;
+    list_compare::run()
 }
 
 /// How many inputs had which refusal.
@@ -96,10 +101,6 @@ fn check_value(entry: &Entry) -> Result<u64, String> {
         entry.words,
         hex(&entry.bytes)
     ))
-}
-
-fn hex(file: &[u8]) -> String {
-    file.iter().map(|byte| format!("{byte:02x}")).collect()
 }
 
 fn compare_masks(rng: &mut Prng, edges: &[Entry], kind: u8) -> Result<(), String> {
@@ -199,7 +200,7 @@ fn compare_compactions(rng: &mut Prng, edges: &[Entry]) -> Result<(), String> {
 /// The refusal that both give; every byte of the result slice is compared too.
 fn check_compaction(form: &[u8], length: usize) -> Result<u64, String> {
     let wanted = entry::compact_answer(form, length);
-    let found = library::compact(form, length);
+    let found = library_forms::passed(Pass::Compact, form, length);
     if found == wanted {
         return Ok(found.refusal);
     }

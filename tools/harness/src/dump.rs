@@ -1,8 +1,8 @@
 //! A vector file as text, one block of lines for each entry.
 
 use crate::entry::{
-    Entry, COLUMNS, COMPACT, FLATTEN, FORM_VALUE, HASH, NORMALIZE, REDUCE_MASK, REFINE, TYPE_NAMES,
-    VALUE,
+    Entry, COALESCE, COLUMNS, COMPACT, FLATTEN, FORM_VALUE, HASH, NORMALIZE, RECOVER, REDUCE_MASK,
+    REFINE, RUN, TYPE_NAMES, VALUE,
 };
 use crate::record::{split, RECORD_BYTES};
 use crate::{form_model, model, published, refusal};
@@ -26,7 +26,7 @@ fn entry_text(number: usize, entry: &Entry) -> String {
     let bytes = match entry.kind {
         VALUE | HASH => expression_text(&entry.bytes),
         FORM_VALUE => form_text("form", &entry.bytes),
-        COMPACT..=COLUMNS => writing_text(entry),
+        COMPACT..=RUN => writing_text(entry),
         _ => String::new(),
     };
     format!(
@@ -46,7 +46,7 @@ fn writing_text(entry: &Entry) -> String {
         _ => form_text("result", result),
     };
     let input = match entry.kind {
-        NORMALIZE => expression_text(input),
+        NORMALIZE | RUN => expression_text(input),
         _ => form_text("form", input),
     };
     input + &result
@@ -70,7 +70,7 @@ pub fn form_text(name: &str, bytes: &[u8]) -> String {
 }
 
 /// Infix text where the file is well formed, else its bytes, a record to a line.
-fn expression_text(file: &[u8]) -> String {
+pub fn expression_text(file: &[u8]) -> String {
     let text = format!("    expression: {} bytes\n", file.len());
     let whole = !file.is_empty() && file.len().is_multiple_of(RECORD_BYTES);
     if whole && model::well_formed(&split(file)) {
@@ -110,9 +110,10 @@ fn outcomes(kind: u8) -> Vec<&'static str> {
         HASH => vec!["hash"],
         FORM_VALUE => refused(refusal::OF_FORM_VALUE),
         COMPACT => refused(refusal::OF_COMPACT),
-        REFINE | FLATTEN => refused(refusal::OF_PASSES),
+        REFINE | FLATTEN | RECOVER | COALESCE => refused(refusal::OF_PASSES),
         COLUMNS => refused(refusal::OF_COLUMNS),
         NORMALIZE => refused(refusal::OF_NORMALIZE),
+        RUN => refused(refusal::OF_LISTS),
         REDUCE_MASK => vec!["mask 0", "another mask"],
         _ => vec!["false", "true"],
     }
@@ -129,7 +130,7 @@ fn refused(refusals: &[u64]) -> Vec<&'static str> {
 
 fn outcome(entry: &Entry) -> &'static str {
     match (entry.kind, entry.expected) {
-        (VALUE | FORM_VALUE..=COLUMNS, _) => refusal::name(u64::from(entry.refusal)),
+        (VALUE | FORM_VALUE..=RUN, _) => refusal::name(u64::from(entry.refusal)),
         (HASH, _) => "hash",
         (REDUCE_MASK, 0) => "mask 0",
         (REDUCE_MASK, _) => "another mask",

@@ -5,7 +5,7 @@ use crate::form_model;
 use crate::pass::{self, Pass};
 use crate::record::RECORD_BYTES;
 use crate::written::{self, Written};
-use crate::{columns, form, model, normal_model, published, record};
+use crate::{columns, form, list, model, normal_model, published, record};
 
 pub const HEAD_BYTES: usize = 16;
 pub const MAX_WORDS: usize = 256;
@@ -24,9 +24,12 @@ pub const NORMALIZE: u8 = 8;
 pub const REFINE: u8 = 9;
 pub const FLATTEN: u8 = 10;
 pub const COLUMNS: u8 = 11;
+pub const RECOVER: u8 = 12;
+pub const COALESCE: u8 = 13;
+pub const RUN: u8 = 14;
 
 /// The names of the entry types, by number.
-pub const TYPE_NAMES: [&str; 12] = [
+pub const TYPE_NAMES: [&str; 15] = [
     "end",
     "expression value",
     "structural hash",
@@ -39,6 +42,9 @@ pub const TYPE_NAMES: [&str; 12] = [
     "refine_terms",
     "flatten_complex_atoms",
     "compute_partitions",
+    "recover_structure",
+    "coalesce_terms",
+    "run_passes",
 ];
 
 #[derive(Clone, Debug, PartialEq, Eq)]
@@ -125,10 +131,12 @@ pub fn normalize(file: Vec<u8>, length: usize) -> Entry {
     writing(NORMALIZE, file, length, &written)
 }
 
-/// An entry of refining or flattening a form into a result slice of `length` bytes.
+/// An entry of a pass beside compaction, over a form, into a result slice of `length` bytes.
 pub fn pass(kind: u8, bytes: Vec<u8>, length: usize) -> Entry {
     let pass = match kind {
         REFINE => Pass::Refine,
+        RECOVER => Pass::Recover,
+        COALESCE => Pass::Coalesce,
         _ => Pass::Flatten,
     };
     let written = pass::answer(pass, &bytes, length);
@@ -148,10 +156,19 @@ pub fn columns(mut bytes: Vec<u8>, length: usize) -> Entry {
     Entry {
         kind: COLUMNS,
         refusal: answer.refusal as u8,
-        expected: answer.classes << 32 | 8 * words as u64,
+        expected: (answer.classes << 32) | (8 * words as u64),
         words: vec![length as u64],
         bytes,
     }
+}
+
+/// An entry of a list of passes: the lengths of both slices stand before the words of the list.
+pub fn run(case: list::Case) -> Entry {
+    let written = list::answer(&case).written;
+    let mut entry = writing(RUN, case.file, case.sheet, &written);
+    entry.words.push(case.spare as u64);
+    entry.words.extend(case.words);
+    entry
 }
 
 /// An entry of a function that writes a form, with what it is to write.

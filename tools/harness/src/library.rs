@@ -1,4 +1,5 @@
-//! The functions of the static library (include/hogzelt.h).
+//! The functions of the static library (include/hogzelt.h) that give a number, and what the others
+//! share (library_forms.rs).
 
 mod raw {
     extern "C" {
@@ -19,28 +20,28 @@ mod raw {
             vars_len: usize,
             value: *mut u64,
         ) -> u64;
-        pub fn hogzelt_compact_atom_table(
-            s: *const u8,
-            s_len: usize,
-            out: *mut u8,
-            out_len: usize,
-            used: *mut u64,
-            terms: *mut u64,
-        ) -> u64;
-        pub fn hogzelt_normalize_to_semilinear(
-            expr: *const u8,
-            expr_len: usize,
-            out: *mut u8,
-            out_len: usize,
-            used: *mut u64,
-            terms: *mut u64,
-        ) -> u64;
     }
 }
 
+/// Functions that write a form: input, result slice, used length and count of terms.
+macro_rules! writers {
+    ($($name:ident),* $(,)?) => {
+        extern "C" {
+            $(pub fn $name(
+                input: *const u8,
+                input_len: usize,
+                out: *mut u8,
+                out_len: usize,
+                used: *mut u64,
+                terms: *mut u64,
+            ) -> u64;)*
+        }
+    };
+}
+pub(crate) use writers;
+
 use crate::entry::{CHANGE_COEFFICIENT, CHANGE_MASK, REDUCE_MASK};
 use crate::model::Answer;
-use crate::written::Written;
 
 /// What stands in a result before a call, so that one which is not written shows.
 pub const UNWRITTEN: u64 = 0xBAD0_BAD0_BAD0_BAD0;
@@ -93,40 +94,6 @@ pub fn semilinear_value(form: &[u8], vars: &[u64]) -> Answer {
     Answer { refusal, value }
 }
 
-/// A function that writes a form: input, result slice, used length and count of terms.
-pub type Writer = unsafe extern "C" fn(*const u8, usize, *mut u8, usize, *mut u64, *mut u64) -> u64;
-
-/// The library's compaction of a form into a result slice of `length` bytes.
-pub fn compact(form: &[u8], length: usize) -> Written {
-    written(raw::hogzelt_compact_atom_table, form, length)
-}
-
-/// The library's form of an expression file, in a result slice of `length` bytes.
-pub fn normalize(file: &[u8], length: usize) -> Written {
-    written(raw::hogzelt_normalize_to_semilinear, file, length)
-}
-
-/// Compaction into `out`: the refusal, the used length, the count of terms.
-pub fn compact_into(form: &[u8], out: &mut [u8]) -> [u64; 3] {
-    write_into(raw::hogzelt_compact_atom_table, form, out)
-}
-
-/// Normalising into `out`, likewise.
-pub fn normalize_into(file: &[u8], out: &mut [u8]) -> [u64; 3] {
-    write_into(raw::hogzelt_normalize_to_semilinear, file, out)
-}
-
-fn written(writer: Writer, input: &[u8], length: usize) -> Written {
-    let ([refusal, used, terms], out) = guarded(length, |out| write_into(writer, input, out));
-    Written {
-        refusal,
-        used,
-        terms,
-        flag: 0,
-        out,
-    }
-}
-
 /// What a call gives that writes a result slice of `length` bytes, and the slice.
 pub fn guarded<T>(length: usize, call: impl FnOnce(&mut [u8]) -> T) -> (T, Vec<u8>) {
     let mut out = vec![UNWRITTEN_BYTE; length + GUARD];
@@ -139,6 +106,10 @@ pub fn guarded<T>(length: usize, call: impl FnOnce(&mut [u8]) -> T) -> (T, Vec<u
     (answer, out)
 }
 
+/// A function of `writers`.
+pub type Writer = unsafe extern "C" fn(*const u8, usize, *mut u8, usize, *mut u64, *mut u64) -> u64;
+
+/// A form written to `out`: the refusal, the used length, the count of terms.
 pub fn write_into(writer: Writer, input: &[u8], out: &mut [u8]) -> [u64; 3] {
     let (mut used, mut terms) = (UNWRITTEN, UNWRITTEN);
     // SAFETY: both slices are valid for their lengths; what is written lies in neither and apart.

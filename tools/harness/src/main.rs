@@ -13,6 +13,8 @@ mod bench_forms;
 #[cfg(feature = "library")]
 mod bench_inputs;
 #[cfg(feature = "library")]
+mod bench_lists;
+#[cfg(feature = "library")]
 mod bench_passes;
 #[cfg(feature = "library")]
 mod bench_rust;
@@ -24,9 +26,12 @@ mod collide;
 mod columns;
 #[cfg(feature = "library")]
 mod compare;
+#[cfg(feature = "library")]
+mod differences;
 mod dump;
 mod edges;
 mod entry;
+mod family;
 mod form;
 mod form_edges;
 mod form_limits;
@@ -34,6 +39,14 @@ mod form_model;
 mod form_random;
 #[cfg(feature = "library")]
 mod library;
+#[cfg(feature = "library")]
+mod library_forms;
+mod list;
+mod list_cases;
+#[cfg(feature = "library")]
+mod list_compare;
+#[cfg(feature = "library")]
+mod list_stack;
 mod masks;
 #[cfg(feature = "library")]
 mod measure;
@@ -57,8 +70,6 @@ mod pass_checks;
 mod pass_compare;
 mod pass_examples;
 mod pass_groups;
-#[cfg(feature = "library")]
-mod pass_library;
 #[cfg(feature = "library")]
 mod pass_stack;
 #[cfg(test)]
@@ -92,6 +103,8 @@ fn main() -> ExitCode {
         ["compare", "normalize"] => normal_compare::run(),
         #[cfg(feature = "library")]
         ["compare", "passes"] => pass_compare::run(),
+        #[cfg(feature = "library")]
+        ["compare", "lists"] => list_compare::run(),
         #[cfg(feature = "library")]
         ["stack"] => stack::run(),
         #[cfg(feature = "library")]

@@ -3,11 +3,11 @@
 //! (normal_random.rs).
 
 use crate::collide;
+use crate::family::{family, Family};
 use crate::form::RESULT_BYTES;
 use crate::normal_limits as limits;
 use crate::normal_random as random_cases;
 use crate::normal_small;
-use crate::prng::Prng;
 use crate::published;
 use crate::record::{
     self, binary, literal, nested, unary, variable, Records, ADD, AND, MUL, NEG, NOT, OR, SHR, XOR,
@@ -20,33 +20,8 @@ pub struct Case {
     pub length: usize,
 }
 
-/// A family of calls. `make` makes as many as it is asked for; a fixed list takes 0 for all of it.
-#[cfg_attr(not(feature = "library"), allow(dead_code))]
-pub struct Family {
-    pub name: &'static str,
-    /// how many are compared with the library
-    pub compared: usize,
-    /// how many are kept in the vector file
-    pub stored: usize,
-    pub make: fn(&mut Prng, usize) -> Vec<Case>,
-}
-
-const fn family(
-    name: &'static str,
-    compared: usize,
-    stored: usize,
-    make: fn(&mut Prng, usize) -> Vec<Case>,
-) -> Family {
-    Family {
-        name,
-        compared,
-        stored,
-        make,
-    }
-}
-
 /// All families.
-pub const FAMILIES: [Family; 20] = [
+pub const FAMILIES: [Family<Case>; 20] = [
     family("examples", 0, 0, |_, _| examples()),
     family("all small ones", 0, 100, |_, n| normal_small::all(n)),
     family("shapes at every width", 0, 200, |_, n| every_width(n)),
@@ -86,7 +61,7 @@ pub fn add(left: Records, right: Records) -> Records {
 }
 
 /// Document 01's worked examples and those of its rules that normalising shows.
-fn examples() -> Vec<Case> {
+pub fn examples() -> Vec<Case> {
     let n = |value: u64| literal(8, value);
     let (a, b) = (|| variable(8, 0), || variable(8, 1));
     let sum = || add(n(1), n(2));

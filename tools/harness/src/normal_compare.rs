@@ -2,19 +2,19 @@
 //! it has an answer: the build with document 01's partings must give the same, and each difference
 //! from the build with sorted maps alone is named by its parting.
 
-use std::collections::BTreeMap;
-
 use crate::cases::SEED;
+use crate::differences::{Differences, Input};
+use crate::dump;
 use crate::entry;
 use crate::form::{Form, RESULT_BYTES};
 use crate::form_model;
-use crate::library;
+use crate::library_forms as library;
 use crate::model;
 use crate::normal_cases::{Case, FAMILIES};
 use crate::normal_model;
 use crate::prng::Prng;
 use crate::published;
-use crate::record::{split, RECORD_BYTES};
+use crate::record::split;
 use crate::refusal::{NONLINEAR, OF_NORMALIZE, SUM_IN_CONSTANT, TABLE_FULL};
 use crate::written::{self, Written};
 use crate::{parted, sorted};
@@ -58,55 +58,22 @@ impl Counts {
     }
 }
 
-/// By name, how many inputs differ, and the smallest of them.
-#[derive(Default)]
-struct Differences(BTreeMap<&'static str, (usize, Option<Case>)>);
-
-impl Differences {
-    fn add(&mut self, name: &'static str, case: &Case) {
-        let (count, smallest) = self.0.entry(name).or_default();
-        *count += 1;
-        let length = smallest.as_ref().map_or(usize::MAX, |s| s.file.len());
-        if case.file.len() < length {
-            *smallest = Some(case.clone());
-        }
+impl Input for Case {
+    fn file(&self) -> &[u8] {
+        &self.file
     }
 
-    fn total(&self) -> usize {
-        self.0.values().map(|(count, _)| count).sum()
+    fn text(&self) -> String {
+        let expression = dump::expression_text(&self.file);
+        format!("{expression}  result slice {}\n", self.length)
     }
-
-    /// A line for each name, and the smallest input where it has at most `most` records.
-    fn show(&self, most: usize) {
-        for (name, (count, smallest)) in &self.0 {
-            println!("{name}: {count} inputs");
-            let Some(case) = smallest else {
-                continue;
-            };
-            let records = case.file.len() / RECORD_BYTES;
-            println!("  the smallest has {records} records");
-            if records <= most {
-                println!("  {}", text(case));
-            }
-        }
-    }
-}
-
-/// The expression where it is well formed, the bytes of the file, and the length of the slice.
-fn text(case: &Case) -> String {
-    let bytes: String = case.file.iter().map(|b| format!("{b:02x}")).collect();
-    let infix = match model::refusal(&case.file) {
-        0 => published::text(&split(&case.file)),
-        _ => "refused".to_string(),
-    };
-    format!("{infix}, result slice {}\n  {bytes}", case.length)
 }
 
 pub fn run() -> Result<(), String> {
     let rng = &mut Prng::new(SEED + 2);
     let mut all = Counts::default();
-    let (mut faults, mut partings) = (Differences::default(), Differences::default());
-    partings.0.insert(MAP_ORDERS, (0, None));
+    let mut faults = Differences::none(&[]);
+    let mut partings = Differences::none(&[MAP_ORDERS]);
     println!("| hogzelt_normalize_to_semilinear | inputs | accepted | of two terms or more | 1 | 2 | 3 | 4 | 5 | 6 | 7 | 8 | 9 |");
     println!("|---|---|---|---|---|---|---|---|---|---|---|---|---|");
     for family in &FAMILIES {
@@ -129,16 +96,13 @@ pub fn run() -> Result<(), String> {
         "hogzelt_normalize_to_semilinear: {} differences",
         faults.total()
     );
-    match faults.total() {
-        0 => Ok(()),
-        n => Err(format!("{n} differences in normalising")),
-    }
+    faults.verdict("normalising")
 }
 
 /// The model's answer. Differences from it are noted.
-fn check(case: &Case, faults: &mut Differences, partings: &mut Differences) -> Written {
+fn check(case: &Case, faults: &mut Differences<Case>, partings: &mut Differences<Case>) -> Written {
     let wanted = normal_model::answer(&case.file, case.length);
-    if library::normalize(&case.file, case.length) != wanted {
+    if library::normalized(&case.file, case.length) != wanted {
         faults.add("the library differs from the model", case);
     }
     if !entry::rust_normalizes(&case.file, case.length) {
@@ -174,8 +138,7 @@ fn keeps_value(rng: &mut Prng, case: &Case, wanted: &Written) -> bool {
         return true;
     }
     let vars: Vec<u64> = (0..256).map(|_| rng.word()).collect();
-    let used = &wanted.out[..wanted.used as usize];
-    form_model::answer(used, &vars) == model::answer(&case.file, &vars)
+    form_model::answer(wanted.form(), &vars) == model::answer(&case.file, &vars)
 }
 
 /// What the Rust's answer is in document 01's bytes. A form that is too long for the slice keeps

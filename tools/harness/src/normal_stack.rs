@@ -5,7 +5,7 @@ use std::hint::black_box;
 
 use crate::collide;
 use crate::form::RESULT_BYTES;
-use crate::library;
+use crate::library_forms as library;
 use crate::measure::{stack_used, time_of};
 use crate::normal_limits::chain;
 use crate::normal_model;

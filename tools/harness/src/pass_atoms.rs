@@ -118,27 +118,43 @@ fn fill(rng: &mut Prng, form: &mut Form, more: &Form) {
     }
 }
 
-/// A term that refining cuts, and one that is flattened, beside atoms without terms: tables that the
-/// pass fills just up to one of the limits, and tables in which it passes it.
+/// A term that refining cuts, one that is flattened, and terms that are recovered and coalesced, beside
+/// atoms without terms: tables that the pass fills just up to one of the limits, and tables in which
+/// it passes it.
 pub fn edges() -> Vec<Case> {
     let (w, a) = (8, || variable(8, 0));
-    let new_atom = binary(AND, a(), literal(w, 15));
+    let masked = |mask: u64| binary(AND, a(), literal(8, mask));
+    let changed: [(Vec<(Records, u64)>, Vec<Records>); 4] = [
+        (vec![(a(), 16)], vec![masked(15)]),
+        (vec![(unary(NOT, 0, masked(15)), 1)], vec![masked(15)]),
+        (vec![(masked(15), 1), (masked(240), 2)], vec![a()]),
+        (
+            vec![(masked(1), 1), (masked(2), 1), (masked(4), 2)],
+            vec![masked(3), masked(4)],
+        ),
+    ];
     let mut all = Vec::new();
-    for (tree, coeff) in [(a(), 16), (unary(NOT, 0, new_atom.clone()), 1)] {
-        for atoms in [MAX_ATOMS - 1, MAX_ATOMS] {
-            let mut form = Form::new(w, 1);
-            for number in 1..atoms {
-                form.push(MIXED, variable(w, number as u8));
+    for (terms, new) in changed {
+        let with_terms = |mut form: Form| {
+            for (tree, coeff) in &terms {
+                form.push_term(MIXED, tree.clone(), *coeff);
             }
-            form.push_term(MIXED, tree.clone(), coeff);
-            all.push(case(&form));
-        }
-        for short in [new_atom.len(), new_atom.len() - 1] {
+            case(&form)
+        };
+        for atoms in [MAX_ATOMS - new.len(), MAX_ATOMS - new.len() + 1] {
             let mut form = Form::new(w, 1);
-            let depth = MAX_TREE_RECORDS - short - tree.len() - 1;
+            for number in terms.len()..atoms {
+                form.push(MIXED, variable(w, 1 + (number - terms.len()) as u8));
+            }
+            all.push(with_terms(form));
+        }
+        let made: usize = new.iter().map(Vec::len).sum();
+        let own: usize = terms.iter().map(|(tree, _)| tree.len()).sum();
+        for short in [made, made - 1] {
+            let mut form = Form::new(w, 1);
+            let depth = MAX_TREE_RECORDS - short - own - 1;
             form.push(MIXED, nested(&[NOT], depth, a()));
-            form.push_term(MIXED, tree.clone(), coeff);
-            all.push(case(&form));
+            all.push(with_terms(form));
         }
     }
     all

@@ -4,6 +4,7 @@
 
 use crate::cases::{normalised_form, random_form};
 use crate::columns::RESULT_WORDS;
+use crate::family::{family, Family};
 use crate::form::{Form, RESULT_BYTES};
 use crate::form_random;
 use crate::normal_cases as normal;
@@ -35,33 +36,8 @@ impl Case {
     }
 }
 
-/// A family of calls. `make` makes as many as it is asked for; a fixed list takes 0 for all of it.
-#[cfg_attr(not(feature = "library"), allow(dead_code))]
-pub struct Family {
-    pub name: &'static str,
-    /// how many are compared with the library
-    pub compared: usize,
-    /// how many are kept in the vector file
-    pub stored: usize,
-    pub make: fn(&mut Prng, usize) -> Vec<Case>,
-}
-
-const fn family(
-    name: &'static str,
-    compared: usize,
-    stored: usize,
-    make: fn(&mut Prng, usize) -> Vec<Case>,
-) -> Family {
-    Family {
-        name,
-        compared,
-        stored,
-        make,
-    }
-}
-
 /// All families.
-pub const FAMILIES: [Family; 14] = [
+pub const FAMILIES: [Family<Case>; 14] = [
     family("worked examples", 0, 0, |_, _| pass_examples::cases()),
     family("as normalising makes them", 20_000, 40, normalised),
     family("along lists of passes", 20_000, 40, along_lists),
@@ -110,8 +86,8 @@ fn made(rng: &mut Prng, count: usize, make: fn(&mut Prng, u8) -> Form) -> Vec<Ca
         .collect()
 }
 
-/// The forms of expressions that normalising accepts, with their whole tables.
-fn normalised(rng: &mut Prng, count: usize) -> Vec<Case> {
+/// An expression that normalising accepts, and its form.
+pub fn expression(rng: &mut Prng) -> (Vec<u8>, Vec<u8>) {
     let families = [
         normal_random::sums,
         normal_random::tables,
@@ -119,17 +95,24 @@ fn normalised(rng: &mut Prng, count: usize) -> Vec<Case> {
         normal_random::products,
         collide::collisions,
     ];
-    let mut all = Vec::new();
-    while all.len() < count {
+    loop {
         let make: fn(&mut Prng, usize) -> Vec<normal::Case> = rng.pick(&families);
         let expression = make(rng, 1).remove(0);
         let answer = normal_model::answer(&expression.file, expression.length);
         if answer.refusal == 0 {
-            let file = answer.out[..answer.used as usize].to_vec();
-            all.push(Case { file, excess: 0 });
+            return (expression.file, answer.form().to_vec());
         }
     }
-    all
+}
+
+/// The forms of such expressions, with their whole tables.
+fn normalised(rng: &mut Prng, count: usize) -> Vec<Case> {
+    (0..count)
+        .map(|_| Case {
+            file: expression(rng).1,
+            excess: 0,
+        })
+        .collect()
 }
 
 /// The forms on the way along random lists of passes, up to a refusal.

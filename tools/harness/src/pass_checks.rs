@@ -21,7 +21,7 @@ pub fn needed(pass: Pass, valid: &Form, wanted: &Written) -> Option<u8> {
 /// one, and it with the words turned.
 pub fn keeps_value(form: &Form, answer: &Written, vars: &[u64]) -> bool {
     let turned: Vec<u64> = vars.iter().map(|word| !word.rotate_left(7)).collect();
-    match form_model::read(&answer.out[..answer.used as usize]) {
+    match form_model::read(answer.form()) {
         Ok(after) => [vars, &turned]
             .iter()
             .all(|vars| form_model::value(&after, vars) == form_model::value(form, vars)),

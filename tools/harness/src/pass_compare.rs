@@ -1,21 +1,20 @@
-//! The passes and the columns: the static library, for what it has, beside the published Rust in the
-//! build with document 01's partings. Every difference from the build with sorted maps alone is
-//! named by the partings that it needs. Values before and after a pass are compared under random
-//! assignments, and columns with the bits of the atoms' values.
-
-use std::collections::BTreeMap;
+//! The passes and the columns: the static library beside the published Rust in the build with
+//! document 01's partings. Every difference from the build with sorted maps alone is named by the
+//! partings that it needs. Values before and after a pass are compared under random assignments, and
+//! columns with the bits of the atoms' values.
 
 use crate::bridge;
 use crate::cases::SEED;
 use crate::columns::{self, Columns};
+use crate::differences::{Differences, Input};
 use crate::dump;
 use crate::form::Form;
 use crate::form_model;
+use crate::library_forms as library;
 use crate::parted;
 use crate::pass::{self, Pass, PASSES};
 use crate::pass_cases::{Case, FAMILIES};
 use crate::pass_checks;
-use crate::pass_library as library;
 use crate::prng::Prng;
 use crate::refusal::{INPUT_LENGTH, NO_FORM, NUMBERS, RESULT_LENGTH, TABLE_FULL};
 use crate::sorted;
@@ -23,8 +22,8 @@ use crate::written::Written;
 
 const COLUMNS: &str = "compute_partitions";
 
-/// Inputs of more bytes are not printed for a parting.
-const SHOWN_BYTES: usize = 320;
+/// Inputs of more records are not printed for a parting.
+const SHOWN_RECORDS: usize = 20;
 
 /// What the cases of a family came to: for the passes and, last, the columns, the answers by their
 /// refusal, and those of them that changed something.
@@ -72,50 +71,30 @@ const HEAD: &str = "\
 | compacting | two classes or more |
 |---|---|---|---|---|---|---|---|---|---|---|---|---|---|---|---|";
 
-/// By function and name, how many inputs differ, and the smallest of them.
-#[derive(Default)]
-struct Differences(BTreeMap<(&'static str, String), (usize, Option<Case>)>);
-
-impl Differences {
-    fn add(&mut self, function: &'static str, name: String, case: &Case) {
-        let (count, smallest) = self.0.entry((function, name)).or_default();
-        *count += 1;
-        let length = smallest.as_ref().map_or(usize::MAX, |s| s.file.len());
-        if case.file.len() < length {
-            *smallest = Some(case.clone());
-        }
+impl Input for Case {
+    fn file(&self) -> &[u8] {
+        &self.file
     }
 
-    fn total(&self) -> usize {
-        self.0.values().map(|(count, _)| count).sum()
-    }
-
-    /// A line for each name, and the smallest input where it has at most `most` bytes.
-    fn show(&self, most: usize) {
-        for ((function, name), (count, smallest)) in &self.0 {
-            println!("{function}, {name}: {count} inputs");
-            let Some(case) = smallest.as_ref().filter(|case| case.file.len() <= most) else {
-                continue;
-            };
-            let hex: String = case.file.iter().map(|b| format!("{b:02x}")).collect();
-            println!("  result slice: the right length and {}", case.excess);
-            println!("{}    {hex}", dump::form_text("smallest", &case.file));
-        }
+    fn text(&self) -> String {
+        let excess = self.excess;
+        let form = dump::form_text("smallest", &self.file);
+        format!("  result slice: the right length and {excess}\n{form}")
     }
 }
 
 struct Comparison {
     rng: Prng,
-    faults: Differences,
-    partings: Differences,
+    faults: Differences<Case>,
+    partings: Differences<Case>,
 }
 
 pub fn run() -> Result<(), String> {
     let mut all = Counts::default();
     let mut comparison = Comparison {
         rng: Prng::new(SEED + 5),
-        faults: Differences::default(),
-        partings: Differences::default(),
+        faults: Differences::none(&[]),
+        partings: Differences::none(&[]),
     };
     println!("{HEAD}");
     for family in &FAMILIES {
@@ -130,23 +109,13 @@ pub fn run() -> Result<(), String> {
     println!(
         "where the build with sorted maps alone gives another answer, by the partings needed:"
     );
-    comparison.partings.show(SHOWN_BYTES);
+    comparison.partings.show(SHOWN_RECORDS);
     comparison.faults.show(usize::MAX);
-    for pass in PASSES {
-        said(pass.name(), library::has(pass));
-    }
-    said(COLUMNS, library::HAS_COLUMNS);
-    match comparison.faults.total() {
-        0 => Ok(()),
-        n => Err(format!("{n} differences in the passes and columns")),
-    }
-}
-
-fn said(function: &str, has: bool) {
-    match has {
-        true => println!("hogzelt_{function}: compared"),
-        false => println!("hogzelt_{function}: not compared, the archive does not have it"),
-    }
+    println!(
+        "the passes and the columns: {} differences",
+        comparison.faults.total()
+    );
+    comparison.faults.verdict("the passes and columns")
 }
 
 impl Comparison {
@@ -155,16 +124,20 @@ impl Comparison {
         let vars: Vec<u64> = (0..256).map(|_| self.rng.word()).collect();
         for (function, pass) in PASSES.into_iter().enumerate() {
             let wanted = self.check_pass(pass, case, &form, &vars);
-            let used = &wanted.out[..wanted.used as usize];
-            let changed = wanted.refusal == 0 && *used != case.file;
+            let changed = wanted.refusal == 0 && wanted.form() != case.file;
             counts.add(function, wanted.refusal, changed);
         }
         let columns = self.check_columns(case, &form, &vars);
         counts.add(PASSES.len(), columns.refusal, columns.classes > 1);
     }
 
-    fn fault(&mut self, function: &'static str, what: &str, case: &Case) {
-        self.faults.add(function, what.to_string(), case);
+    fn fault(&mut self, function: &str, what: &str, case: &Case) {
+        self.faults.add(&format!("{function}, {what}"), case);
+    }
+
+    fn parting(&mut self, function: &str, what: &str, case: &Case) {
+        let name = format!("{function}, parting {what}");
+        self.partings.add(&name, case);
     }
 
     /// What the Rust with the partings gives. Differences from it are noted.
@@ -176,7 +149,7 @@ impl Comparison {
         vars: &[u64],
     ) -> Written {
         let wanted = pass::answer(pass, &case.file, case.bytes());
-        if library::has(pass) && library::passed(pass, &case.file, case.bytes()) != wanted {
+        if library::passed(pass, &case.file, case.bytes()) != wanted {
             self.fault(pass.name(), "the library differs", case);
         }
         if let (Ok(form), 0) = (form, case.excess) {
@@ -193,14 +166,12 @@ impl Comparison {
         let name = pass.name();
         let passed = sorted::bridge::passed(pass, form);
         if bridge::passed(pass, form) != passed {
-            let what = "parting 4, orders of maps, by chance".to_string();
-            self.partings.add(name, what, case);
+            self.parting(name, "4, orders of maps, by chance", case);
         }
         let mut settled = passed.clone();
         settled.form.settle();
         if settled != passed {
-            let what = "parting 4, order or sum of terms".to_string();
-            self.partings.add(name, what, case);
+            self.parting(name, "4, order or sum of terms", case);
         }
         let sorted = pass::settled(passed);
         if sorted != pass::parted(pass, form, 0) {
@@ -220,22 +191,20 @@ impl Comparison {
             .filter(|number| needed >> number & 1 == 1)
             .map(|number| number.to_string())
             .collect();
-        let numbers = numbers.join(" and ");
-        self.partings.add(name, format!("parting {numbers}"), case);
+        self.parting(name, &numbers.join(" and "), case);
     }
 
     /// The columns by the same rules; the builds must agree but for the order of the classes.
     fn check_columns(&mut self, case: &Case, form: &Result<Form, u64>, vars: &[u64]) -> Columns {
         let wanted = columns::answer(&case.file, case.words());
-        if library::HAS_COLUMNS && library::columns(&case.file, case.words()) != wanted {
+        if library::columns(&case.file, case.words()) != wanted {
             self.fault(COLUMNS, "the library differs", case);
         }
         if let (Ok(form), 0) = (form, case.excess) {
             let classes = sorted::bridge::partitions(form);
             let as_is = bridge::partitions(form);
             if as_is != parted_order(form) {
-                let what = "parting 4, order of classes, by chance".to_string();
-                self.partings.add(COLUMNS, what, case);
+                self.parting(COLUMNS, "4, order of classes, by chance", case);
             }
             if columns::settled(classes) != wanted || columns::settled(as_is) != wanted {
                 self.fault(COLUMNS, "the builds differ in more than an order", case);

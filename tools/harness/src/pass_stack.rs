@@ -1,14 +1,14 @@
-//! The stack and the time of the passes and the columns, as far as the library has them, on the forms
-//! that may take the most of either.
+//! The stack and the time of the passes and the columns, on the forms that may take the most of
+//! either.
 
 use std::hint::black_box;
 
 use crate::bench_forms;
 use crate::columns::{self, RESULT_WORDS};
 use crate::form::{Form, MAX_TREE_RECORDS, MIXED, RESULT_BYTES};
+use crate::library_forms as library;
 use crate::measure::stack_used;
 use crate::pass::{self, Pass, PASSES};
-use crate::pass_library as library;
 use crate::record::{binary, literal, nested, variable, AND, NOT};
 use crate::stack::{forms, show_stack, show_time};
 use crate::written::same_bytes;
@@ -18,10 +18,9 @@ const STACK_BAR: usize = 420_000;
 
 const COLUMNS: &str = "hogzelt_compute_partitions";
 
-/// The passes that the library has, beside compaction, which stack.rs measures.
+/// The passes beside compaction, which stack.rs measures.
 fn passes() -> impl Iterator<Item = Pass> {
-    let measured = |pass: &Pass| *pass != Pass::Compact && library::has(*pass);
-    PASSES.into_iter().filter(measured)
+    PASSES.into_iter().filter(|pass| *pass != Pass::Compact)
 }
 
 fn shapes() -> Vec<(&'static str, Vec<u8>)> {
@@ -62,16 +61,14 @@ pub fn stacks() -> Result<usize, String> {
             }
             most = show_stack(&function, shape, &form, used, most);
         }
-        if library::HAS_COLUMNS {
-            let mut out = vec![1; RESULT_WORDS];
-            let mut answer = [0; 2];
-            let used = stack_used(&mut || answer = library::columns_into(&form, &mut out))?;
-            let wanted = columns::answer(&form, RESULT_WORDS);
-            if answer != [wanted.refusal, wanted.classes] || out != wanted.out {
-                return Err(format!("{COLUMNS} differs from the Rust: {shape}"));
-            }
-            most = show_stack(COLUMNS, shape, &form, used, most);
+        let mut out = vec![1; RESULT_WORDS];
+        let mut answer = [0; 2];
+        let used = stack_used(&mut || answer = library::columns_into(&form, &mut out))?;
+        let wanted = columns::answer(&form, RESULT_WORDS);
+        if answer != [wanted.refusal, wanted.classes] || out != wanted.out {
+            return Err(format!("{COLUMNS} differs from the Rust: {shape}"));
         }
+        most = show_stack(COLUMNS, shape, &form, used, most);
     }
     match most > STACK_BAR {
         true => Err(format!("a call used more than {STACK_BAR} bytes of stack")),
@@ -88,11 +85,9 @@ pub fn times() {
                 black_box(library::pass_into(pass, &form, &mut out));
             });
         }
-        if library::HAS_COLUMNS {
-            let mut out = vec![1; RESULT_WORDS];
-            show_time(COLUMNS, shape, &form, || {
-                black_box(library::columns_into(&form, &mut out));
-            });
-        }
+        let mut out = vec![1; RESULT_WORDS];
+        show_time(COLUMNS, shape, &form, || {
+            black_box(library::columns_into(&form, &mut out));
+        });
     }
 }

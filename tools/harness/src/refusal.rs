@@ -10,6 +10,8 @@ pub const SUM_IN_CONSTANT: u64 = 7;
 pub const NONLINEAR: u64 = 8;
 pub const TABLE_FULL: u64 = 9;
 pub const NO_FORM: u64 = 10;
+/// A list of calls that is none.
+pub const NO_LIST: u64 = 32;
 
 /// The names of 0, which is no refusal, and of each refusal.
 const NAMES: [&str; 11] = [
@@ -26,7 +28,7 @@ const NAMES: [&str; 11] = [
     "refusal 10",
 ];
 
-/// How many numbers there are, 0 among them.
+/// How many numbers there are up to 10, 0 among them.
 #[cfg_attr(not(feature = "library"), allow(dead_code))]
 pub const NUMBERS: usize = NAMES.len();
 
@@ -46,11 +48,27 @@ pub const OF_FORM_VALUE: &[u64] = &[INPUT_LENGTH, NO_FORM];
 pub const OF_COMPACT: &[u64] = &[INPUT_LENGTH, RESULT_LENGTH, NO_FORM];
 pub const OF_PASSES: &[u64] = &[INPUT_LENGTH, RESULT_LENGTH, TABLE_FULL, NO_FORM];
 pub const OF_COLUMNS: &[u64] = OF_COMPACT;
+/// In the order in which they are looked for.
+pub const OF_LISTS: &[u64] = &[
+    INPUT_LENGTH,
+    RESULT_LENGTH,
+    NO_LIST,
+    MALFORMED,
+    WIDTH,
+    CAST,
+    SHIFT_COUNT,
+    SUM_IN_CONSTANT,
+    NONLINEAR,
+    TABLE_FULL,
+];
 
 /// The name of a number that an answer has.
 pub fn name(refusal: u64) -> &'static str {
-    NAMES
-        .get(refusal as usize)
-        .copied()
-        .unwrap_or("another refusal")
+    match refusal {
+        NO_LIST => "refusal 32",
+        _ => NAMES
+            .get(refusal as usize)
+            .copied()
+            .unwrap_or("another refusal"),
+    }
 }

@@ -8,9 +8,12 @@ use crate::form::{Form, MAX_ATOMS, MAX_TREE_RECORDS, MIXED, RESULT_BYTES};
 use crate::form_model;
 use crate::form_random;
 use crate::library;
+use crate::library_forms::pass_into;
+use crate::list_stack;
 use crate::measure::{stack_used, time_of};
 use crate::model;
 use crate::normal_stack;
+use crate::pass::Pass;
 use crate::pass_stack;
 use crate::prng::Prng;
 use crate::random::{self, Kinds};
@@ -30,7 +33,8 @@ pub fn run() -> Result<(), String> {
     let most = expression_stacks()?
         .max(form_stacks()?)
         .max(normal_stack::stacks()?)
-        .max(pass_stack::stacks()?);
+        .max(pass_stack::stacks()?)
+        .max(list_stack::stacks()?);
     println!("stack, most: {most} bytes");
     if most > STACK_BAR {
         return Err(format!("a call used more than {STACK_BAR} bytes of stack"));
@@ -99,11 +103,11 @@ fn form_stacks() -> Result<usize, String> {
         most = show_stack("hogzelt_semilinear_value", shape, &form, used, most);
         // the result slice is the caller's and not counted
         let mut out = vec![1; RESULT_BYTES];
-        let mut answer = None;
-        let used = stack_used(&mut || answer = Some(library::compact_into(&form, &mut out)))?;
+        let mut answer = [0; 4];
+        let compact = &mut || answer = pass_into(Pass::Compact, &form, &mut out);
+        let used = stack_used(compact)?;
         let wanted = form_model::compact(&form, RESULT_BYTES);
-        let numbers = [wanted.refusal, wanted.used, wanted.terms];
-        if answer != Some(numbers) || !same_bytes(&out, &wanted.out) {
+        if answer != wanted.numbers() || !same_bytes(&out, &wanted.out) {
             return Err(format!(
                 "hogzelt_compact_atom_table differs from the model: {shape}"
             ));
@@ -182,7 +186,7 @@ fn form_times() {
         });
         let mut out = vec![1; RESULT_BYTES];
         show_time("hogzelt_compact_atom_table", shape, &form, || {
-            black_box(library::compact_into(&form, &mut out));
+            black_box(pass_into(Pass::Compact, &form, &mut out));
         });
     }
 }

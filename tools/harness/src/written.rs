@@ -20,6 +20,11 @@ impl Written {
     pub fn numbers(&self) -> [u64; 4] {
         [self.refusal, self.used, self.terms, self.flag]
     }
+
+    /// The used bytes, those of the form.
+    pub fn form(&self) -> &[u8] {
+        &self.out[..self.used as usize]
+    }
 }
 
 impl PartialEq for Written {

@@ -117,7 +117,7 @@ class StoredAnswers(unittest.TestCase):
 
     def test_stored(self):
         """Refusals 5 and 6 stand in well-formed files; 1, 3, 4 and 10 do not."""
-        seen = dict.fromkeys(range(12), 0)
+        seen = dict.fromkeys(range(15), 0)
         for sort, refusal, value, data in self.entries():
             seen[sort] += 1
             if sort == 1:
@@ -126,11 +126,11 @@ class StoredAnswers(unittest.TestCase):
                 self.assertEqual(structural_hash(read_expression(data).records), value)
             elif sort == 6:
                 self.assertEqual(self.accepted(read_form, data), refusal not in (1, 10))
-            elif sort in (7, 9, 10, 11) and refusal in (1, 10):
+            elif sort in (7, 9, 10, 11, 12, 13) and refusal in (1, 10):
                 self.assertFalse(self.accepted(read_form, data))
-            elif sort == 8 and refusal != 2:
+            elif sort in (8, 14) and refusal not in (2, 32):
                 split = len(data) - value % 2**32
                 self.assertEqual(self.accepted(read_expression, data[:split]), refusal not in (1, 3, 4))
                 if refusal == 0:
                     self.assertTrue(self.accepted(read_form, data[split:]))
-        self.assertTrue(seen[1] and seen[2] and all(seen[sort] for sort in range(6, 12)), seen)
+        self.assertTrue(seen[1] and seen[2] and all(seen[sort] for sort in range(6, 15)), seen)

@@ -1,6 +1,5 @@
 -- `find_or_create_bare` meets its contract: the number that the search finds, or that of a new atom.
 use native.Mathlib.Omega.{arith}
-use denote.Ref.{now}
 use Rattle.structure_recovery.proofs.BareFoundLaws.{atoms-inside, taken-atoms, bare-found, bare-created}
 use borrow.Author.Needs.{needs}
 use Rattle.structure_recovery.proofs.bare.find_or_create_bare.Statement.{statement}
@@ -27,7 +26,7 @@ same-length c = search needs
 returns : tie.Need-returns
 returns c =
     let pre = c .before .before .before .before .before .before .before .before .pre in
-    bare-found (pre .1) (c .before .before .row-with .ensures) (pre .0) (c .if1 .taken)
+    bare-found (pre .1) (omega arith) (c .before .before .row-with .ensures) (pre .0) (c .if1 .taken)
 
 create-row-requires : tie.Need-create-row-requires
 create-row-requires c κs = search needs
@@ -41,7 +40,7 @@ same-length-3 c = search needs
 returns-2 : tie.Need-returns-2
 returns-2 c =
     let pre = c .before .before .before .before .before .before .before .before .before .before .before .before .before .before .before .pre in
-    bare-created (pre .1) (c .before .before .before .before .before .before .before .before .before .row-with .ensures)
+    bare-created (pre .1) (omega arith) (c .before .before .before .before .before .before .before .before .before .row-with .ensures)
     (omega (arith, c .before .before .before .before .before .before .before .if1 .left)) (c .before .before .before .before .create-row .ensures)
 
 pub find-or-create-bare-spec : {M : Type 1} → statement M

@@ -1,24 +1,22 @@
 -- `row_with` meets its contract: the loop passes atoms that have another tree.
-use mathlib.Core.Path.{sym, _∙_, ap}
+use mathlib.Core.Path.{sym, _∙_}
 use Prim.Native.Nat.{_-_}
-use denote.Ref.{now}
 use native.Mathlib.Omega.{arith}
 use borrow.Author.Needs.{needs}
 use lib.ListN.{length}
 use borrow.Author.Tests.{not-true, not-false}
-use Rattle.record.specs.Lists.{eqList}
 use Rattle.structure_recovery.proofs.SearchLaws.{Passed, passed-none, passed-end, passed-found, passed-next, atom-inside}
 use Rattle.structure_recovery.proofs.bare.row_with.Statement.{statement}
 use Rattle.structure_recovery.proofs.bare.row_with.Tie as tie
 
 abbrev Inv-loop : tie.InvT-loop
-Inv-loop f t at₀ i₀ at i = Passed t f at i
+Inv-loop f t hash at₀ i₀ at i = Passed hash t f at i
 
 abbrev μ-loop : tie.MeasureT-loop
-μ-loop f t at₀ i₀ at i = length f - at
+μ-loop f t hash at₀ i₀ at i = length f - at
 
 loop-holds : tie.Need-loop-holds Inv-loop μ-loop
-loop-holds c = passed-none _ _
+loop-holds c = passed-none _ _ _
 
 rest-from-requires : tie.Need-rest-from-requires Inv-loop μ-loop
 rest-from-requires c κs = c .loop .inv .inside
@@ -28,39 +26,29 @@ is-atom-requires c κs = search needs
 
 returns : tie.Need-returns Inv-loop μ-loop
 returns c =
-    let at-loop = c .before .before .before in
-    passed-end _ _ _ _ (at-loop .loop .inv) (c .before .before .rest-from .ensures)
+    passed-end _ _ _ _ _ (c .before .before .before .loop .inv) (c .before .before .rest-from .ensures)
     (sym (c .before .is-atom .ensures) ∙ not-true _ (c .if1 .taken))
 
-tree-span-requires : tie.Need-tree-span-requires Inv-loop μ-loop
-tree-span-requires c κs = sym (c .before .is-atom .ensures) ∙ not-false _ (c .if1 .left)
-
-same-bytes-requires : tie.Need-same-bytes-requires Inv-loop μ-loop
-same-bytes-requires c κs = search needs
+has-tree-requires : tie.Need-has-tree-requires Inv-loop μ-loop
+has-tree-requires c κs = sym (c .before .is-atom .ensures) ∙ not-false _ (c .if1 .left)
 
 returns-2 : tie.Need-returns-2 Inv-loop μ-loop
 returns-2 c =
-    let at-loop = c .before .before .before .before .before .before in
-    let at-start = at-loop .before .before .before in
-    passed-found _ _ _ _ (at-loop .loop .inv) (c .before .before .before .before .before .rest-from .ensures)
-    (sym (c .before .before .before .before .is-atom .ensures) ∙ not-false _ (c .before .before .before .if1 .left))
-    (ap (λ s. eqList s (now (at-start .args .t))) (sym (c .before .before .tree-span .ensures))
-    ∙ sym (c .before .same-bytes .ensures) ∙ c .if2 .taken)
+    passed-found _ _ _ _ _ (c .before .before .before .before .before .loop .inv) (c .before .before .before .before .rest-from .ensures)
+    (sym (c .before .before .before .is-atom .ensures) ∙ not-false _ (c .before .before .if1 .left)) (sym (c .before .has-tree .ensures) ∙ c .if2 .taken)
 
 add-i : tie.Need-add-i Inv-loop μ-loop
-add-i c = omega
-    (arith, c .before .before .before .before .before .before .loop .inv .bytes, c .before .before .before .before .before .before .loop .inv .inside)
+add-i c = omega (arith, c .before .before .before .before .before .loop .inv .bytes, c .before .before .before .before .before .loop .inv .inside)
 
 atom-length-requires : tie.Need-atom-length-requires Inv-loop μ-loop
-atom-length-requires c κs = sym (c .before .before .before .before .is-atom .ensures) ∙ not-false _ (c .before .before .before .if1 .left)
+atom-length-requires c κs = sym (c .before .before .before .is-atom .ensures) ∙ not-false _ (c .before .before .if1 .left)
 
 add-at : tie.Need-add-at Inv-loop μ-loop
 add-at c =
     omega (
       arith,
-      atom-inside _ _ _ _ (c .before .before .before .before .before .before .before .loop .inv)
-          (c .before .before .before .before .before .before .rest-from .ensures)
-          (sym (c .before .before .before .before .before .is-atom .ensures) ∙ not-false _ (c .before .before .before .before .if1 .left)),
+      atom-inside _ _ _ _ _ (c .before .before .before .before .before .before .loop .inv) (c .before .before .before .before .before .rest-from .ensures)
+          (sym (c .before .before .before .before .is-atom .ensures) ∙ not-false _ (c .before .before .before .if1 .left)),
       c .atom-length .ensures .0,
     )
 
@@ -68,22 +56,18 @@ loop-less : tie.Need-loop-less Inv-loop μ-loop
 loop-less c =
     omega (
       arith,
-      atom-inside _ _ _ _ (c .before .before .before .before .before .before .before .loop .inv)
-          (c .before .before .before .before .before .before .rest-from .ensures)
-          (sym (c .before .before .before .before .before .is-atom .ensures) ∙ not-false _ (c .before .before .before .before .if1 .left)),
+      atom-inside _ _ _ _ _ (c .before .before .before .before .before .before .loop .inv) (c .before .before .before .before .before .rest-from .ensures)
+          (sym (c .before .before .before .before .is-atom .ensures) ∙ not-false _ (c .before .before .before .if1 .left)),
       c .atom-length .ensures .0,
       c .atom-length .ensures .1,
     )
 
 loop-again : tie.Need-loop-again Inv-loop μ-loop
 loop-again c =
-    let at-start = c .before .before .before .before .before .before .before .before .before .before in
     rw (c .atom-length .ensures .0)
-    (passed-next _ _ _ _ (c .before .before .before .before .before .before .before .loop .inv)
-    (c .before .before .before .before .before .before .rest-from .ensures)
-    (sym (c .before .before .before .before .before .is-atom .ensures) ∙ not-false _ (c .before .before .before .before .if1 .left))
-    (ap (λ s. eqList s (now (at-start .args .t))) (sym (c .before .before .before .tree-span .ensures))
-    ∙ sym (c .before .before .same-bytes .ensures) ∙ c .before .if2 .left))
+    (passed-next _ _ _ _ _ (c .before .before .before .before .before .before .loop .inv) (c .before .before .before .before .before .rest-from .ensures)
+    (sym (c .before .before .before .before .is-atom .ensures) ∙ not-false _ (c .before .before .before .if1 .left))
+    (sym (c .before .before .has-tree .ensures) ∙ c .before .if2 .left))
 
 pub row-with-spec : {M : Type 1} → statement M
 row-with-spec =
@@ -95,8 +79,7 @@ row-with-spec =
     rest-from-requires
     is-atom-requires
     returns
-    tree-span-requires
-    same-bytes-requires
+    has-tree-requires
     returns-2
     add-i
     atom-length-requires

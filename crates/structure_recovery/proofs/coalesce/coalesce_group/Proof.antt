@@ -5,7 +5,7 @@ use denote.Ref.{now}
 use Rattle.record.specs.Decode.{decode}
 use Rattle.group.specs.Gathered.{gathered}
 use Rattle.group.proofs.PassLaws.{few-entries}
-use Rattle.structure_recovery.proofs.NewTermsLaws.{is-full, not-full, coalesced-full}
+use Rattle.structure_recovery.proofs.NewTermsLaws.{is-full, coalesced-full}
 use Rattle.structure_recovery.proofs.CoalesceTurnLaws.{group-past, short-turn, many-turn, rewritten-turn}
 use Rattle.structure_recovery.proofs.CoalesceTurnLaws.{carried-count, atoms-below, coalesced-of}
 use borrow.Author.Needs.{needs}
@@ -49,7 +49,7 @@ returns-2 c =
     coalesced-of (a .w) (a .n) 64 (decode (now (a .b))) e
     (short-turn (a .w) (decode (now (a .b))) (at-gather .gather .result) (now (a .made)) (now (a .out)) (now (a .coeffs))
     (pre .5) (a .n) (atoms-below (now (a .f)) (now (a .views)) (a .hash) (now (a .b)) (a .n) e (pre .2))
-    (pre .0) (not-full (now (a .made)) (at-if1 .if1 .left)) (c .before .before .settle .ensures) (at-if2 .if2 .taken))
+    (pre .0) (c .before .before .settle .ensures) (at-if2 .if2 .taken))
 
 slice-aggregate-carried-of : tie.Need-slice-aggregate-carried-of
 slice-aggregate-carried-of c = search needs
@@ -89,7 +89,7 @@ returns-3 c =
     coalesced-of (a .w) (a .n) 64 (decode (now (a .b))) e
     (many-turn (a .w) (decode (now (a .b))) (at-gather .gather .result) (now (a .made)) (now (a .out)) (now (a .coeffs))
     (pre .5) (a .n) (atoms-below (now (a .f)) (now (a .views)) (a .hash) (now (a .b)) (a .n) e (pre .2))
-    (pre .0) (not-full (now (a .made)) (at-if1 .if1 .left)) (at-if2 .if2 .left) (at-carried .carried-of .ensures)
+    (pre .0) (at-if2 .if2 .left) (at-carried .carried-of .ensures)
     (c .before .before .settle2 .ensures) (omega (arith, at-if3 .if3 .taken)))
 
 slice-aggregate-put-carried : tie.Need-slice-aggregate-put-carried
@@ -139,7 +139,7 @@ returns-4 c =
     coalesced-of (a .w) (a .n) 64 (decode (now (a .b))) e
     (rewritten-turn (a .w) (decode (now (a .b))) (at-gather .gather .result) (now (a .made)) (now (a .out)) (now (a .coeffs))
     (pre .5) (a .n) (atoms-below (now (a .f)) (now (a .views)) (a .hash) (now (a .b)) (a .n) e (pre .2))
-    (pre .0) (not-full (now (a .made)) (at-if1 .if1 .left)) (at-if2 .if2 .left) (at-carried .carried-of .ensures)
+    (pre .0) (at-if2 .if2 .left) (at-carried .carried-of .ensures)
     (omega (arith, at-if3 .if3 .left)) (at-put .put-carried .ensures))
 
 pub coalesce-group-spec : {M : Type 1} → statement M

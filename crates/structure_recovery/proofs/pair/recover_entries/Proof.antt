@@ -1,8 +1,7 @@
 -- `recover_entries` meets its contract: after i turns i entries have looked; a full table ends the loop.
 use mathlib.Core.Path.{_≡_, refl, sym, _∙_}
-use Prim.Native.Nat.{_+_, _-_, _≤_}
+use Prim.Native.Nat.{_-_, _≤_}
 use native.Mathlib.Omega.{arith}
-use denote.Ref.{now}
 use Rattle.record.specs.Decode.{decode}
 use Rattle.record.specs.Loop.{forIn}
 use Rattle.structure_recovery.specs.RecoverStructure.{recoverAt}

@@ -1,5 +1,5 @@
 -- `recover_entry` meets its contract: the entry does not look, has no partner, or makes a pair.
-use mathlib.Core.Path.{_≡_, _∙_}
+use mathlib.Core.Path.{_∙_}
 use native.Mathlib.Omega.{arith}
 use denote.Ref.{now}
 use Rattle.arith.proofs.WidthLaws.{bitmask-ones}

@@ -1,5 +1,5 @@
 -- `recover_all` meets its contract: after k turns k groups are recovered; a full table ends the loop.
-use mathlib.Core.Path.{_≡_, sym, _∙_}
+use mathlib.Core.Path.{sym, _∙_}
 use mathlib.Core.List.{[]}
 use Prim.Native.Nat.{_-_, _≤_}
 use native.Mathlib.Omega.{arith}

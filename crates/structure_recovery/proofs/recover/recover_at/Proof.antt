@@ -1,6 +1,9 @@
 -- `recover_at` meets its contract: the words of the row name the basis.
-use Rattle.group.specs.Views.{viewAt, basisBytes}
+use denote.Ref.{now}
 use borrow.Author.Needs.{needs}
+use Rattle.group.specs.Views.{viewAt, basisBytes}
+use Rattle.group.proofs.LoneLaws.{own-basis}
+use Rattle.structure_recovery.proofs.GroupRecoveredLaws.{lone-recovered}
 use Rattle.structure_recovery.proofs.recover.recover_at.Statement.{statement}
 use Rattle.structure_recovery.proofs.recover.recover_at.Tie as tie
 
@@ -34,26 +37,64 @@ mul-end c = search needs
 shared-slice-read-end : tie.Need-shared-slice-read-end
 shared-slice-read-end c = search needs
 
+sub-is-lone : tie.Need-sub-is-lone
+unfolding viewAt
+sub-is-lone c = c .before .before .before .before .before .before .before .before .pre .4 .start-le
+
+part-is-lone-start : tie.Need-part-is-lone-start
+unfolding viewAt
+part-is-lone-start c = c .before .before .before .before .before .before .before .before .pre .4 .start-le
+
+part-is-lone-end : tie.Need-part-is-lone-end
+unfolding viewAt
+part-is-lone-end c = c .before .before .before .before .before .before .before .before .pre .4 .end-le
+
+is-lone-requires : tie.Need-is-lone-requires
+unfolding viewAt basisBytes
+is-lone-requires c κs =
+    let at-start = c .before .before .before .before .before .before .before .before .before in
+    let pre = at-start .pre in
+    (pre .1, pre .2, own-basis (viewAt (now (at-start .args .views)) (at-start .args .first)) (pre .4))
+
+mul-add-word : tie.Need-mul-add-word
+mul-add-word c = search needs
+
+shared-slice-read-add-word : tie.Need-shared-slice-read-add-word
+shared-slice-read-add-word c = search needs
+
+add-word-requires : tie.Need-add-word-requires
+add-word-requires c κs = search needs
+
+same-length : tie.Need-same-length
+same-length c = search needs
+
+returns : tie.Need-returns
+unfolding viewAt basisBytes
+returns c =
+    let at-if1 = c .before .before .before .before .before in
+    let at-start = at-if1 .before .before .before .before .before .before .before .before .before .before .before in
+    let lone = at-if1 .before .is-lone .ensures (at-if1 .if1 .taken) in
+    lone-recovered _ (viewAt (now (at-start .args .views)) (at-start .args .first)) _ (at-start .pre .6) (at-start .pre .0) lone
+    (c .before .before .add-word .ensures)
+
 sub-recover-group : tie.Need-sub-recover-group
 unfolding viewAt
-sub-recover-group c = c .before .before .before .before .before .before .before .before .pre .4 .start-le
+sub-recover-group c = c .before .before .before .before .before .before .before .before .before .before .before .pre .4 .start-le
 
 part-recover-group-start : tie.Need-part-recover-group-start
 unfolding viewAt
-part-recover-group-start c = c .before .before .before .before .before .before .before .before .pre .4 .start-le
+part-recover-group-start c = c .before .before .before .before .before .before .before .before .before .before .before .pre .4 .start-le
 
 part-recover-group-end : tie.Need-part-recover-group-end
 unfolding viewAt
-part-recover-group-end c = c .before .before .before .before .before .before .before .before .pre .4 .end-le
+part-recover-group-end c = c .before .before .before .before .before .before .before .before .before .before .before .pre .4 .end-le
 
 recover-group-requires : tie.Need-recover-group-requires
 unfolding viewAt basisBytes
 recover-group-requires c κs =
-    let pre = c .before .before .before .before .before .before .before .before .before .before .before .before .pre in
+    let at-if1 = c .before .before .before .before in
+    let pre = at-if1 .before .before .before .before .before .before .before .before .before .before .before .pre in
     (pre .0, pre .1, pre .3, pre .4 .basis, pre .5, pre .6)
-
-same-length : tie.Need-same-length
-same-length c = search needs
 
 same-length-2 : tie.Need-same-length-2
 same-length-2 c = search needs
@@ -61,9 +102,12 @@ same-length-2 c = search needs
 same-length-3 : tie.Need-same-length-3
 same-length-3 c = search needs
 
-returns : tie.Need-returns
+same-length-4 : tie.Need-same-length-4
+same-length-4 c = search needs
+
+returns-2 : tie.Need-returns-2
 unfolding viewAt basisBytes
-returns c = c .before .before .before .before .before .before .recover-group .ensures
+returns-2 c = c .before .before .before .before .before .before .recover-group .ensures
 
 pub recover-at-spec : {M : Type 1} → statement M
 recover-at-spec =
@@ -79,11 +123,20 @@ recover-at-spec =
     add-end
     mul-end
     shared-slice-read-end
+    sub-is-lone
+    part-is-lone-start
+    part-is-lone-end
+    is-lone-requires
+    mul-add-word
+    shared-slice-read-add-word
+    add-word-requires
+    same-length
+    returns
     sub-recover-group
     part-recover-group-start
     part-recover-group-end
     recover-group-requires
-    same-length
     same-length-2
     same-length-3
-    returns)
+    same-length-4
+    returns-2)

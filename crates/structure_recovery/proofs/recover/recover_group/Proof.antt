@@ -1,5 +1,5 @@
 -- `recover_group` meets its contract: the entries looked or there is no partner; the end settles the group.
-use mathlib.Core.Path.{_≡_, refl, sym, _∙_}
+use mathlib.Core.Path.{refl, sym, _∙_}
 use mathlib.Core.Logic.{⊎-elim}
 use native.Mathlib.Omega.{arith}
 use denote.Ref.{now}
@@ -8,7 +8,7 @@ use Rattle.record.specs.Decode.{decode}
 use Rattle.group.proofs.PassLaws.{few-entries}
 use Rattle.structure_recovery.specs.RecoverStructure.{recoverGroup}
 use Rattle.structure_recovery.specs.Recovering.{Recovered}
-use Rattle.structure_recovery.proofs.RecoveredLaws.{full-at, more-at}
+use Rattle.structure_recovery.proofs.RecoveredLaws.{full-at}
 use Rattle.structure_recovery.proofs.GroupRecoveredLaws.{recovered-none, recovered-met, group-past, group-settled}
 use borrow.Author.Needs.{needs}
 use Rattle.structure_recovery.proofs.recover.recover_group.Statement.{statement}
@@ -98,7 +98,7 @@ same-length-5 c = joined1 (c .before .before .before .before .before .before .be
 returns-2 : tie.Need-returns-2
 returns-2 c =
     let met = c .before .before .before .before .before .before .before .before .before .before in
-    group-settled _ (joined1 met) (begin1 met .pre .5) (more-at _ (c .before .before .before .before .before .before .before .before .if2 .left)) refl
+    group-settled _ (joined1 met) (begin1 met .pre .5) refl
     (c .before .before .settle .ensures)
     (gather1 met .gather .ensures)
 

@@ -1,5 +1,5 @@
 -- `recover_rows` meets its contract: the views, the bases, and then the groups.
-use mathlib.Core.Path.{ap, sym, _∙_}
+use mathlib.Core.Path.{ap, _∙_}
 use mathlib.Core.List.{[]}
 use native.Mathlib.Omega.{arith}
 use lib.ListN.{length}
