@@ -14,7 +14,7 @@ use crate::stack::{forms, show_stack, show_time};
 use crate::written::same_bytes;
 
 /// The most stack that one of these calls may use.
-const STACK_BAR: usize = 420_000;
+pub const STACK_BAR: usize = 420_000;
 
 const COLUMNS: &str = "hogzelt_compute_partitions";
 
@@ -70,10 +70,7 @@ pub fn stacks() -> Result<usize, String> {
         }
         most = show_stack(COLUMNS, shape, &form, used, most);
     }
-    match most > STACK_BAR {
-        true => Err(format!("a call used more than {STACK_BAR} bytes of stack")),
-        false => Ok(most),
-    }
+    Ok(most)
 }
 
 /// Times for each shape.

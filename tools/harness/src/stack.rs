@@ -30,14 +30,19 @@ const STACK_BAR: usize = 1 << 20;
 
 pub fn run() -> Result<(), String> {
     println!("stack, no call: {} bytes", stack_used(&mut || {})?);
+    let passes = pass_stack::stacks()?;
     let most = expression_stacks()?
         .max(form_stacks()?)
         .max(normal_stack::stacks()?)
-        .max(pass_stack::stacks()?)
-        .max(list_stack::stacks()?);
-    println!("stack, most: {most} bytes");
-    if most > STACK_BAR {
-        return Err(format!("a call used more than {STACK_BAR} bytes of stack"));
+        .max(list_stack::stacks()?)
+        .max(passes);
+    println!("stack, most: {most} bytes, of a pass or the columns: {passes} bytes");
+    for (used, bar) in [(most, STACK_BAR), (passes, pass_stack::STACK_BAR)] {
+        if used > bar {
+            return Err(format!(
+                "a call used {used} bytes of stack, more than {bar}"
+            ));
+        }
     }
     expression_times();
     form_times();
