@@ -62,5 +62,11 @@ pub fn running(bytes: &[u8], words: &[u64], used: usize, out: &mut [u8]) -> Answ
         return answer::malformed();
     }
     let n = bytes.len() - used;
-    with_spare(&bytes[..n], &words[2..], &bytes[n..], &mut out[..length], spare_len)
+    with_spare(
+        &bytes[..n],
+        &words[2..],
+        &bytes[n..],
+        &mut out[..length],
+        spare_len,
+    )
 }
