@@ -13,14 +13,14 @@ use Rattle.record.specs.Fields.{kind, amount, arity}
 use Rattle.record.specs.Span.{body, left, right}
 use Rattle.record.specs.Tree.Tree.{Unary, Binary}
 use Rattle.record.specs.Decode.{leaf, decode}
-use Rattle.record.proofs.SpanLaws.{fold-none, fold-leaf, fold-one, fold-two}
+use Rattle.record.proofs.SpanLaws.{fold-none, fold-leaf, fold-one, fold-two, body-shorter, right-shorter}
 use Rattle.record.proofs.SizedLaws.{false-true, and-true}
 use Rattle.record.proofs.FieldsLaws.{kind-of-arity-zero, arity-zero-of-lt}
 use Rattle.expr.specs.declared.bitwise.Checked.{Checked}
 use Rattle.expr.specs.Refusal.{lowest, rootRefusal, treeRefusal}
 use Rattle.expr.specs.Utils.{isArith, hasKind, hasArith, hasVarDep}
 use Rattle.expr.specs.Hash.{mixHash, tagHash, structuralHash}
-use Rattle.expr.specs.Bitwise.{bitwiseOk, refused, passing, checked, rootOk, leafChecked, oneChecked, twoChecked}
+use Rattle.expr.specs.Bitwise.{bitwiseOk, refused, passing, checked, lastChild, rootOk, leafChecked, oneChecked, twoChecked}
 use Rattle.expr.proofs.RefusalLaws.{lowest-zero, lowest-none, accepted-big, accepted-root, zero-of-root}
 use Rattle.expr.proofs.RefusalLaws.{accepted-body, accepted-left, accepted-right}
 
@@ -62,6 +62,24 @@ root-refused w t h = simp (ne-eqb (rootRefusal w t) 0 h)
 pub root-passed : (w : ℕ) (t : List ℕ) → rootRefusal w t ≡ 0 → not (isArith (kind t)) ≡ rootOk w t
 unfolding rootOk
 root-passed w t e = simp (eq-eqb (rootRefusal w t) 0 e)
+
+-- ---- the last child
+
+module _ (s : List ℕ) where
+  pub last-one : arity (kind s) ≡ 1 → lastChild s ≡ body s
+  unfolding lastChild
+  last-one e = simp (eq-eqb (arity (kind s)) 1 e)
+
+  pub last-two : (arity (kind s) ≡ 1 → ⊥) → lastChild s ≡ right s
+  unfolding lastChild
+  last-two n = simp (ne-eqb (arity (kind s)) 1 n)
+
+  pub last-shorter : 16 ≤ length s → length (lastChild s) < length s
+  last-shorter big = go (ℕ-discrete (arity (kind s)) 1)
+    where
+      go : Dec (arity (kind s) ≡ 1) → length (lastChild s) < length s
+      go (yes e) = rw (last-one e) (body-shorter s big)
+      go (no n) = rw (last-two n) (right-shorter s big)
 
 -- ---- a tree
 

@@ -5,7 +5,8 @@ use mathlib.Core.List.{List}
 use mathlib.Core.Bool.{Bool, true, false, not, _&&_, _||_}
 use lib.Dec.{eqb}
 use Rattle.record.specs.Choice.{when}
-use Rattle.record.specs.Fields.{kind}
+use Rattle.record.specs.Fields.{kind, arity}
+use Rattle.record.specs.Span.{body, right}
 use Rattle.record.specs.Decode.{leaf, decode}
 use Rattle.expr.specs.declared.bitwise.Checked.{Checked}
 use Rattle.expr.specs.Refusal.{rootRefusal, treeRefusal}
@@ -30,6 +31,10 @@ checked w t =
 
 unfoldable pub rootOk : ℕ → List ℕ → Bool
 rootOk w t = eqb (rootRefusal w t) 0 && not (isArith (kind t))
+
+-- the span of the only child, or of the right one
+unfoldable pub lastChild : List ℕ → List ℕ
+lastChild s = when (eqb (arity (kind s)) 1) (λ _. body s) (λ _. right s)
 
 unfoldable pub leafChecked : List ℕ → Checked
 leafChecked t = passing (eqb (kind t) 1) (structuralHash (leaf t))

@@ -7,7 +7,7 @@ ghost use mathlib.Core.Path.{_≡_};
 ghost use mathlib.Core.Bool.{true};
 ghost use Prim.Native.Nat.{ℕ, _≤_};
 ghost use lib.ListN.{length};
-ghost use Rattle.expr.specs.Bitwise.{rootOk, refused, leafChecked, oneChecked, twoChecked, checked};
+ghost use Rattle.expr.specs.Bitwise.{rootOk, refused, lastChild, leafChecked, oneChecked, twoChecked, checked};
 
 // Whether the tree is one without Add, Mul and Neg to which no refusal applies; if so, whether it has
 // a variable, and its hash.
@@ -82,6 +82,18 @@ fn two_checked(k: u8, x: Checked, y: Checked) -> Checked
     }
 }
 
+// The span of the only child, or of the right one: one place for both, so that a level of the walk
+// takes less stack.
+fn last_child(t: &[u8]) -> &[u8]
+    requires { ⌜ 16 ≤ length (now t) ⌝ }
+    ensures { λ r. ⌜ now r ≡ lastChild (now (t .entry)) ⌝ }
+{
+    if record::root_arity(t) == 1 {
+        return record::body(t);
+    }
+    record::right(t)
+}
+
 // The tree of t at width w.
 pub fn check_bitwise(t: &[u8], w: u8) -> Checked
     ensures { λ r. ⌜ r ≡ checked w (now (t .entry)) ⌝ }
@@ -96,12 +108,11 @@ pub fn check_bitwise(t: &[u8], w: u8) -> Checked
     if children == 0 {
         return leaf_checked(t);
     }
+    let last = check_bitwise(last_child(t), w);
     let k = record::kind(t);
     if children == 1 {
-        let a = record::amount(t);
-        return one_checked(k, a, check_bitwise(record::body(t), w));
+        return one_checked(k, record::amount(t), last);
     }
     let first = check_bitwise(record::left(t), w);
-    let second = check_bitwise(record::right(t), w);
-    two_checked(k, first, second)
+    two_checked(k, first, last)
 }
