@@ -7,3 +7,4 @@ pub mod FirstVarsLaws
 mod WordTableLaws
 pub mod KeyLaws
 mod HalvesLaws
+mod PassedLaws

@@ -4,9 +4,10 @@ pub mod key;
 
 ghost use mathlib.Core.Path.{_≡_};
 ghost use mathlib.Core.Bool.{true};
-ghost use Prim.Native.Nat.{ℕ, _/_, _%_, _<_, _≤_};
+ghost use Prim.Native.Nat.{ℕ, _-_, _^_, _/_, _%_, _<_, _≤_};
 ghost use lib.ListN.{length};
 ghost use Rattle.arith.specs.Bit.{bitAt};
+ghost use Rattle.record.specs.Choice.{when};
 ghost use Rattle.record.specs.Span.{sized};
 ghost use Rattle.record.specs.Tree.Tree.{Variable};
 ghost use Rattle.record.specs.Decode.{leaf, decode};
@@ -78,34 +79,52 @@ fn join_rows(k: u8, x: u64, y: u64) -> u64
     }
 }
 
+// The complement of rows, or the rows.
+fn complement(flip: bool, x: u64) -> u64
+    ensures { λ r. ⌜ r ≡ when flip (λ _. 2 ^ 64 - 1 - x) (λ _. x) ⌝ }
+{
+    if flip {
+        return !x;
+    }
+    x
+}
+
 // The rows of the tree of t, over the variables of a list, at the place and the width that are the
-// low and the high half of `at`: a recursion of 3,072 levels carries one number less. A shift reads a
-// higher place, and is 0 from the width on. Corresponds to `eval_atom_at_bit`.
+// low and the high half of `at`: a recursion of 1,536 levels carries one number less. A loop passes
+// Not and Shr: `flip` says whether the rows below are complemented. A shift reads a higher place,
+// and is 0 from the width on. Corresponds to `eval_atom_at_bit`.
 fn rows_in(t: &[u8], vars: &[u64], at: u64) -> u64
     requires { ⌜ sized (now t) ≡ true ⌝ }
     ensures { λ r. ⌜ r ≡ tableF 64 (at / 4294967296) (at % 4294967296) (now (vars .entry))
         (decode (now (t .entry))) ⌝ }
 {
-    let children = record::root_arity(t);
-    if children == 0 {
-        return leaf_rows(t, vars, (at % 0x1_0000_0000) as u32);
-    }
-    let k = record::kind(t);
-    if children == 1 {
+    let mut s = t;
+    let mut here = at;
+    let mut flip = false;
+    loop {
+        let children = record::root_arity(s);
+        if children == 0 {
+            return complement(flip, leaf_rows(s, vars, (here % 0x1_0000_0000) as u32));
+        }
+        let k = record::kind(s);
+        if children != 1 {
+            let x = rows_in(record::left(s), vars, here);
+            let y = rows_in(record::right(s), vars, here);
+            return complement(flip, join_rows(k, x, y));
+        }
         if k == 7 {
-            let x = rows_in(record::body(t), vars, at);
-            return !x;
+            flip = !flip;
+        } else {
+            let a = record::amount(s);
+            let source = here % 0x1_0000_0000 + a;
+            if here / 0x1_0000_0000 <= source {
+                return complement(flip, 0);
+            }
+            here += a;
         }
-        let a = record::amount(t);
-        let source = at % 0x1_0000_0000 + a;
-        if at / 0x1_0000_0000 <= source {
-            return 0;
-        }
-        return rows_in(record::body(t), vars, at + a);
+        let end = s.len() - 16;
+        s = &s[..end];
     }
-    let x = rows_in(record::left(t), vars, at);
-    let y = rows_in(record::right(t), vars, at);
-    join_rows(k, x, y)
 }
 
 // The rows of the tree of t at a place of w, over the variables of a list.

@@ -1,26 +1,29 @@
--- `rows_in` meets its contract: the law of the rows at a root without children, at a Not, at a shift and at a root with
--- two children.
+-- `rows_in` meets its contract: the loop keeps that the rows of t are those of s, complemented or as they are; at a
+-- root without children and at one with two the law of the rows there.
 use Rattle.record.proofs.SizedLaws.{sized-big}
-use Rattle.record.proofs.DecodeLaws.{decode-leaf, decode-one, decode-two, child-body, child-left, child-right}
-use Rattle.record.specs.Fields.{size, kind, amount}
-use Rattle.truth.proofs.RowsLaws.{rows-not, rows-shift, rows-past, rows-join}
-use Rattle.truth.proofs.HalvesLaws.{halves-shift}
+use Rattle.record.proofs.DecodeLaws.{decode-leaf, decode-two, child-body, child-left, child-right}
+use Rattle.record.specs.Fields.{size}
+use Rattle.record.specs.Span.{body}
+use Rattle.truth.proofs.RowsLaws.{rows-join}
+use Rattle.truth.proofs.PassedLaws.{Passed, passed-none, passed-not, passed-shift, passed-past}
 use denote.Ref.{now}
-use mathlib.Core.Path.{refl, ap, sym, _∙_}
+use mathlib.Core.Path.{refl, sym, _∙_}
+use mathlib.Core.Logic.{⊎-elim}
+use lib.ListN.{length, length-take}
 use native.Mathlib.Omega.{arith}
 use borrow.Author.Needs.{needs}
-use Prim.Native.Nat.{ℕ, _+_, _/_, _%_, _<_}
+use Prim.Native.Nat.{ℕ, _-_, _/_, _<_}
 use borrow.Fn.Kinds.{In}
 use borrow.Fn.PlainCycle.{Measures, is, falls, and}
 use Rattle.truth.proofs.rows_in.Reads as rows-in
 use Rattle.truth.proofs.rows_in.Kinds as rows-in-kinds
 use Rattle.truth.proofs.+rows_in.Lts-rows_in as rows-in-lts
 use Rattle.record.proofs.amount.Reads as amount-reads
-use Rattle.record.proofs.body.Reads as body-reads
 use Rattle.record.proofs.kind.Reads as kind-reads
 use Rattle.record.proofs.left.Reads as left-reads
 use Rattle.record.proofs.right.Reads as right-reads
 use Rattle.record.proofs.root_arity.Reads as root-arity-reads
+use Rattle.truth.proofs.complement.Reads as complement-reads
 use Rattle.truth.proofs.join_rows.Reads as join-rows-reads
 use Rattle.truth.proofs.leaf_rows.Reads as leaf-rows-reads
 use Rattle.truth.proofs.+rows_in.{statement}
@@ -35,184 +38,227 @@ rows-in-at t = and 2 rows-in-kinds.ps (is 2 rows-in-kinds.ps μ-rows-in t) rows-
 abbrev rows-in-below : ℕ → In 2 rows-in-kinds.ps
 rows-in-below t = and 2 rows-in-kinds.ps (falls 2 rows-in-kinds.ps _<_ μ-rows-in t) rows-in.Pre
 
+abbrev rows-in-Inv-loop : rows-in-lts.InvT-loop
+rows-in-Inv-loop t vars at s₀ here₀ flip₀ s here flip = Passed vars t at s here flip
+
+abbrev rows-in-μ-loop : rows-in-lts.MeasureT-loop
+rows-in-μ-loop t vars at s₀ here₀ flip₀ s here flip = size s
+
 abbrev claims : ℕ → rows-in-lts.Claims
 claims t = (
   root-arity-reads.Asked,
   root-arity-reads.Learnt,
   leaf-rows-reads.Asked,
   leaf-rows-reads.Learnt,
+  complement-reads.Asked,
+  complement-reads.Learnt,
   kind-reads.Asked,
   kind-reads.Learnt,
-  body-reads.Asked,
-  body-reads.Learnt,
-  rows-in-below t,
-  rows-in.Post,
-  amount-reads.Asked,
-  amount-reads.Learnt,
   left-reads.Asked,
   left-reads.Learnt,
+  rows-in-below t,
+  rows-in.Post,
   right-reads.Asked,
   right-reads.Learnt,
   join-rows-reads.Asked,
   join-rows-reads.Learnt,
+  amount-reads.Asked,
+  amount-reads.Learnt,
 )
 
-rows-in-root-arity-requires : (t : ℕ) → rows-in-lts.Need-root-arity-requires (claims t) (rows-in-at t) rows-in.Post
-rows-in-root-arity-requires t c κs = sized-big _ (c .before .before .pre .1)
+rows-in-loop-holds :
+    (t : ℕ) → rows-in-lts.Need-loop-holds (claims t) (rows-in-at t) rows-in.Post rows-in-Inv-loop rows-in-μ-loop
+rows-in-loop-holds t c = passed-none _ _ _ (omega arith) (c .before .before .pre .1)
 
-rows-in-cast-leaf-rows : (t : ℕ) → rows-in-lts.Need-cast-leaf-rows (claims t) (rows-in-at t) rows-in.Post
+rows-in-root-arity-requires :
+    (t : ℕ)
+    → rows-in-lts.Need-root-arity-requires (claims t) (rows-in-at t) rows-in.Post rows-in-Inv-loop rows-in-μ-loop
+rows-in-root-arity-requires t c κs = sized-big _ (c .loop .inv .ok)
+
+rows-in-cast-leaf-rows :
+    (t : ℕ) → rows-in-lts.Need-cast-leaf-rows (claims t) (rows-in-at t) rows-in.Post rows-in-Inv-loop rows-in-μ-loop
 rows-in-cast-leaf-rows t c = omega arith
 
-rows-in-leaf-rows-requires : (t : ℕ) → rows-in-lts.Need-leaf-rows-requires (claims t) (rows-in-at t) rows-in.Post
-rows-in-leaf-rows-requires t c κs = sized-big _ (c .before .before .before .before .pre .1)
+rows-in-leaf-rows-requires :
+    (t : ℕ) → rows-in-lts.Need-leaf-rows-requires (claims t) (rows-in-at t) rows-in.Post rows-in-Inv-loop rows-in-μ-loop
+rows-in-leaf-rows-requires t c κs = sized-big _ (c .before .before .loop .inv .ok)
 
-rows-in-returns : (t : ℕ) → rows-in-lts.Need-returns (claims t) (rows-in-at t) rows-in.Post
+rows-in-complement-requires :
+    (t : ℕ)
+    → rows-in-lts.Need-complement-requires (claims t) (rows-in-at t) rows-in.Post rows-in-Inv-loop rows-in-μ-loop
+rows-in-complement-requires t c κs = tt
+
+rows-in-returns :
+    (t : ℕ) → rows-in-lts.Need-returns (claims t) (rows-in-at t) rows-in.Post rows-in-Inv-loop rows-in-μ-loop
 rows-in-returns t c =
-    let at-start = c .before .before .before .before .before in
-    rw
-    (decode-leaf (now (at-start .args .t)) (at-start .pre .1) (c .before .before .root-arity .ensures)
-    (c .before .if1 .taken)) (c .leaf-rows .ensures (at-start .args .at / 4294967296))
+    let at-if1 = c .before .before in
+    let at-arity = at-if1 .before in
+    let at-loop = at-arity .before in
+    let here = at-loop .loop .here in
+    c .complement .ensures
+    ∙ at-loop .loop .inv .rows
+    (rw (decode-leaf _ (at-loop .loop .inv .ok) (at-arity .root-arity .ensures) (at-if1 .if1 .taken))
+    (c .before .leaf-rows .ensures (here / 4294967296)))
 
-rows-in-kind-requires : (t : ℕ) → rows-in-lts.Need-kind-requires (claims t) (rows-in-at t) rows-in.Post
-rows-in-kind-requires t c κs = sized-big _ (c .before .before .before .before .pre .1)
+rows-in-kind-requires :
+    (t : ℕ) → rows-in-lts.Need-kind-requires (claims t) (rows-in-at t) rows-in.Post rows-in-Inv-loop rows-in-μ-loop
+rows-in-kind-requires t c κs = sized-big _ (c .before .before .loop .inv .ok)
 
-rows-in-body-requires : (t : ℕ) → rows-in-lts.Need-body-requires (claims t) (rows-in-at t) rows-in.Post
-rows-in-body-requires t c κs = tt
-
-rows-in-rows-in-requires : (t : ℕ) → rows-in-lts.Need-rows-in-requires (claims t) (rows-in-at t) rows-in.Post
-rows-in-rows-in-requires t c κs =
-    let at-root-arity = c .before .before .before .before .before in
-    let at-start = at-root-arity .before .before .before in
-    let r =
-    child-body (now (at-start .args .t)) (at-start .pre .1) (at-root-arity .root-arity .ensures)
-    (c .before .before .if2 .taken) (c .body .ensures) in
-    (omega (arith, r .falls), r .ok)
-
-rows-in-returns-2 : (t : ℕ) → rows-in-lts.Need-returns-2 (claims t) (rows-in-at t) rows-in.Post
-rows-in-returns-2 t c =
-    let at-kind = c .before .before .before .before in
-    let at-root-arity = at-kind .before .before in
-    let at-start = at-root-arity .before .before .before in
-    let s = now (at-start .args .t) in
-    rw
-    (decode-one s (at-start .pre .1) (at-root-arity .root-arity .ensures) (c .before .before .before .if2 .taken)
-    (c .before .body .ensures))
-    (rows-not 64 _ _ _ (kind s) (amount s) _ (sym (at-kind .kind .ensures) ∙ c .before .before .if3 .taken)
-    (c .rows-in .ensures))
-
-rows-in-amount-requires : (t : ℕ) → rows-in-lts.Need-amount-requires (claims t) (rows-in-at t) rows-in.Post
-rows-in-amount-requires t c κs = sized-big _ (c .before .before .before .before .before .before .before .pre .1)
-
-rows-in-add-source : (t : ℕ) → rows-in-lts.Need-add-source (claims t) (rows-in-at t) rows-in.Post
-rows-in-add-source t c = omega (arith, c .amount .ensures .1)
-
-rows-in-returns-3 : (t : ℕ) → rows-in-lts.Need-returns-3 (claims t) (rows-in-at t) rows-in.Post
-rows-in-returns-3 t c =
-    let at-kind = c .before .before .before .before in
-    let at-root-arity = at-kind .before .before in
-    let at-start = at-root-arity .before .before .before in
-    let s = now (at-start .args .t) in
-    rw
-    (decode-one s (at-start .pre .1) (at-root-arity .root-arity .ensures) (c .before .before .before .if2 .taken) refl)
-    (rows-past 64 _ _ _ (kind s) (amount s) _ (λ e. c .before .before .if3 .left (at-kind .kind .ensures ∙ e))
-    (omega (arith, c .before .amount .ensures .0)))
-
-rows-in-body-requires-2 : (t : ℕ) → rows-in-lts.Need-body-requires-2 (claims t) (rows-in-at t) rows-in.Post
-rows-in-body-requires-2 t c κs = tt
-
-rows-in-add-rows-in : (t : ℕ) → rows-in-lts.Need-add-rows-in (claims t) (rows-in-at t) rows-in.Post
-rows-in-add-rows-in t c = omega arith
-
-rows-in-rows-in-requires-2 : (t : ℕ) → rows-in-lts.Need-rows-in-requires-2 (claims t) (rows-in-at t) rows-in.Post
-rows-in-rows-in-requires-2 t c κs =
-    let at-if2 = c .before .before .before .before in
-    let at-root-arity = at-if2 .before .before .before in
-    let at-start = at-root-arity .before .before .before in
-    let r =
-    child-body (now (at-start .args .t)) (at-start .pre .1) (at-root-arity .root-arity .ensures) (at-if2 .if2 .taken)
-    (c .body2 .ensures) in
-    (omega (arith, r .falls), r .ok)
-
-rows-in-returns-4 : (t : ℕ) → rows-in-lts.Need-returns-4 (claims t) (rows-in-at t) rows-in.Post
-rows-in-returns-4 t c =
-    let at-amount = c .before .before .before in
-    let at-kind = at-amount .before .before .before in
-    let at-root-arity = at-kind .before .before in
-    let at-start = at-root-arity .before .before .before in
-    let s = now (at-start .args .t) in
-    let placed = halves-shift (at-start .args .at) (at-amount .amount .result) (omega arith) in
-    rw
-    (decode-one s (at-start .pre .1) (at-root-arity .root-arity .ensures) (at-amount .before .before .if2 .taken)
-    (c .before .body2 .ensures))
-    (rows-shift 64 _ _ _ (kind s) (amount s) _ (λ e. at-amount .before .if3 .left (at-kind .kind .ensures ∙ e))
-    (placed .1 ∙ ap (λ (x : ℕ). at-start .args .at % 4294967296 + x) (at-amount .amount .ensures .0))
-    (omega (arith, placed .1)) (rw (placed .0) at (c .rows-in2 .ensures)))
-
-rows-in-left-requires : (t : ℕ) → rows-in-lts.Need-left-requires (claims t) (rows-in-at t) rows-in.Post
+rows-in-left-requires :
+    (t : ℕ) → rows-in-lts.Need-left-requires (claims t) (rows-in-at t) rows-in.Post rows-in-Inv-loop rows-in-μ-loop
 rows-in-left-requires t c κs = tt
 
-rows-in-rows-in-requires-3 : (t : ℕ) → rows-in-lts.Need-rows-in-requires-3 (claims t) (rows-in-at t) rows-in.Post
-rows-in-rows-in-requires-3 t c κs =
-    let at-root-arity = c .before .before .before .before in
-    let at-start = at-root-arity .before .before .before in
+rows-in-rows-in-requires :
+    (t : ℕ) → rows-in-lts.Need-rows-in-requires (claims t) (rows-in-at t) rows-in.Post rows-in-Inv-loop rows-in-μ-loop
+rows-in-rows-in-requires t c κs =
+    let at-if1 = c .before .before .before in
+    let at-arity = at-if1 .before in
+    let at-loop = at-arity .before in
+    let at-start = at-loop .before .before .before in
     let r =
-    child-left (now (at-start .args .t)) (at-start .pre .1) (at-root-arity .root-arity .ensures)
-    (c .before .before .before .if1 .left) (c .before .if2 .left) (c .left .ensures) in
-    (omega (arith, r .falls), r .ok)
+    child-left _ (at-loop .loop .inv .ok) (at-arity .root-arity .ensures) (at-if1 .if1 .left) (c .before .if2 .taken)
+    (c .left .ensures) in
+    (omega (arith, r .falls, at-loop .loop .inv .falls, at-start .pre .0), r .ok)
 
-rows-in-right-requires : (t : ℕ) → rows-in-lts.Need-right-requires (claims t) (rows-in-at t) rows-in.Post
+rows-in-right-requires :
+    (t : ℕ) → rows-in-lts.Need-right-requires (claims t) (rows-in-at t) rows-in.Post rows-in-Inv-loop rows-in-μ-loop
 rows-in-right-requires t c κs = tt
 
-rows-in-rows-in-requires-4 : (t : ℕ) → rows-in-lts.Need-rows-in-requires-4 (claims t) (rows-in-at t) rows-in.Post
-rows-in-rows-in-requires-4 t c κs =
+rows-in-rows-in-requires-2 :
+    (t : ℕ) → rows-in-lts.Need-rows-in-requires-2 (claims t) (rows-in-at t) rows-in.Post rows-in-Inv-loop rows-in-μ-loop
+rows-in-rows-in-requires-2 t c κs =
     let at-if2 = c .before .before .before in
     let at-if1 = at-if2 .before .before in
-    let at-start = at-if1 .before .before .before .before in
+    let at-arity = at-if1 .before in
+    let at-loop = at-arity .before in
+    let at-start = at-loop .before .before .before in
     let r =
-    child-right (now (at-start .args .t)) (at-start .pre .1) (at-if1 .before .root-arity .ensures) (at-if1 .if1 .left)
-    (at-if2 .if2 .left) (c .right .ensures) in
-    (omega (arith, r .falls), r .ok)
+    child-right _ (at-loop .loop .inv .ok) (at-arity .root-arity .ensures) (at-if1 .if1 .left) (at-if2 .if2 .taken)
+    (c .right .ensures) in
+    (omega (arith, r .falls, at-loop .loop .inv .falls, at-start .pre .0), r .ok)
 
-rows-in-join-rows-requires : (t : ℕ) → rows-in-lts.Need-join-rows-requires (claims t) (rows-in-at t) rows-in.Post
+rows-in-join-rows-requires :
+    (t : ℕ) → rows-in-lts.Need-join-rows-requires (claims t) (rows-in-at t) rows-in.Post rows-in-Inv-loop rows-in-μ-loop
 rows-in-join-rows-requires t c κs = tt
 
-rows-in-returns-5 : (t : ℕ) → rows-in-lts.Need-returns-5 (claims t) (rows-in-at t) rows-in.Post
-rows-in-returns-5 t c =
-    let at-left = c .before .before .before .before in
-    let at-kind = at-left .before .before in
+rows-in-complement-requires-2 :
+    (t : ℕ)
+    → rows-in-lts.Need-complement-requires-2 (claims t) (rows-in-at t) rows-in.Post rows-in-Inv-loop rows-in-μ-loop
+rows-in-complement-requires-2 t c κs = tt
+
+rows-in-returns-2 :
+    (t : ℕ) → rows-in-lts.Need-returns-2 (claims t) (rows-in-at t) rows-in.Post rows-in-Inv-loop rows-in-μ-loop
+rows-in-returns-2 t c =
+    let at-right = c .before .before .before in
+    let at-left = at-right .before .before in
+    let at-if2 = at-left .before in
+    let at-kind = at-if2 .before in
     let at-if1 = at-kind .before in
-    let at-start = at-if1 .before .before .before .before in
-    let s = now (at-start .args .t) in
-    rw (
-      decode-two s (at-start .pre .1) (at-if1 .before .root-arity .ensures) (at-if1 .if1 .left)
-          (at-left .before .if2 .left) (at-left .left .ensures) (c .before .before .right .ensures),
+    let at-arity = at-if1 .before in
+    let at-loop = at-arity .before in
+    let ok = at-loop .loop .inv .ok in
+    c .complement2 .ensures
+    ∙ at-loop .loop .inv .rows
+    (rw (
+      decode-two _ ok (at-arity .root-arity .ensures) (at-if1 .if1 .left) (at-if2 .if2 .taken)
+          (at-left .left .ensures) (at-right .right .ensures),
       ← at-kind .kind .ensures,
     )
-    (rows-join 64 _ _ _ _ _ _ (c .before .before .before .rows-in3 .ensures) (c .before .rows-in4 .ensures)
-    (c .join-rows .result) (search needs) (c .join-rows .ensures))
+    (rows-join 64 _ _ _ _ _ _ (at-right .before .rows-in .ensures) (c .before .before .rows-in2 .ensures)
+    (c .before .join-rows .result) (search needs) (c .before .join-rows .ensures)))
+
+rows-in-amount-requires :
+    (t : ℕ) → rows-in-lts.Need-amount-requires (claims t) (rows-in-at t) rows-in.Post rows-in-Inv-loop rows-in-μ-loop
+rows-in-amount-requires t c κs = sized-big _ (c .before .before .before .before .before .loop .inv .ok)
+
+rows-in-add-source :
+    (t : ℕ) → rows-in-lts.Need-add-source (claims t) (rows-in-at t) rows-in.Post rows-in-Inv-loop rows-in-μ-loop
+rows-in-add-source t c = omega (arith, c .amount .ensures .1)
+
+rows-in-complement-requires-3 :
+    (t : ℕ)
+    → rows-in-lts.Need-complement-requires-3 (claims t) (rows-in-at t) rows-in.Post rows-in-Inv-loop rows-in-μ-loop
+rows-in-complement-requires-3 t c κs = tt
+
+rows-in-returns-3 :
+    (t : ℕ) → rows-in-lts.Need-returns-3 (claims t) (rows-in-at t) rows-in.Post rows-in-Inv-loop rows-in-μ-loop
+rows-in-returns-3 t c =
+    let at-amount = c .before .before in
+    let at-if3 = at-amount .before in
+    let at-if2 = at-if3 .before in
+    let at-kind = at-if2 .before in
+    let at-arity = at-kind .before .before in
+    let at-loop = at-arity .before in
+    c .complement3 .ensures
+    ∙ passed-past (at-loop .loop .inv) (at-arity .root-arity .ensures) (at-if2 .if2 .left)
+    (λ e. at-if3 .if3 .left (at-kind .kind .ensures ∙ e)) (omega (arith, at-amount .amount .ensures .0))
+
+rows-in-add-here :
+    (t : ℕ) → rows-in-lts.Need-add-here (claims t) (rows-in-at t) rows-in.Post rows-in-Inv-loop rows-in-μ-loop
+rows-in-add-here t c = omega (arith, c .before .before .before .before .before .before .before .loop .inv .fits)
+
+rows-in-sub-end :
+    (t : ℕ) → rows-in-lts.Need-sub-end (claims t) (rows-in-at t) rows-in.Post rows-in-Inv-loop rows-in-μ-loop
+rows-in-sub-end t c = sized-big _ (c .before .before .before .before .before .loop .inv .ok)
+
+rows-in-slice-aggregate-s :
+    (t : ℕ) → rows-in-lts.Need-slice-aggregate-s (claims t) (rows-in-at t) rows-in.Post rows-in-Inv-loop rows-in-μ-loop
+rows-in-slice-aggregate-s t c =
+    let s = c .before .before .before .before .before .before .loop .s .now in
+    omega (arith, length-take (length s - 16) s)
+
+rows-in-loop-less :
+    (t : ℕ) → rows-in-lts.Need-loop-less (claims t) (rows-in-at t) rows-in.Post rows-in-Inv-loop rows-in-μ-loop
+unfolding body
+rows-in-loop-less t c =
+    let at-if2 = c .before .before in
+    let at-arity = at-if2 .before .before .before in
+    child-body _ (at-arity .before .loop .inv .ok) (at-arity .root-arity .ensures) (at-if2 .if2 .left) refl .falls
+
+rows-in-loop-again :
+    (t : ℕ) → rows-in-lts.Need-loop-again (claims t) (rows-in-at t) rows-in.Post rows-in-Inv-loop rows-in-μ-loop
+unfolding body
+rows-in-loop-again t c =
+    let at-if2 = c .before .before in
+    let at-kind = at-if2 .before in
+    let at-arity = at-kind .before .before in
+    let at-loop = at-arity .before in
+    let passed = at-loop .loop .inv in
+    let arity-is = at-arity .root-arity .ensures in
+    let one = at-if2 .if2 .left in
+    ⊎-elim
+    (λ q. rw (q .1, q .2) (passed-not passed arity-is one (sym (at-kind .kind .ensures) ∙ q .0 .taken) refl))
+    (λ q.
+    rw (q .3, q .4)
+    (passed-shift passed arity-is one (λ e. q .0 .left (at-kind .kind .ensures ∙ e)) _ (q .1 .ensures .0)
+    (omega (arith, q .2 .left)) refl)) (c .before .if3 .came)
 
 pub +rows-in-spec : {M : Type 1} → statement M
 +rows-in-spec = close μ-rows-in λ t. rows-in-lts.spec (claims t)
     (rows-in-at t)
     rows-in.Post
+    rows-in-Inv-loop
+    rows-in-μ-loop
+    (rows-in-loop-holds t)
     (rows-in-root-arity-requires t)
     (rows-in-cast-leaf-rows t)
     (rows-in-leaf-rows-requires t)
+    (rows-in-complement-requires t)
     (rows-in-returns t)
     (rows-in-kind-requires t)
-    (rows-in-body-requires t)
+    (rows-in-left-requires t)
     (rows-in-rows-in-requires t)
+    (rows-in-right-requires t)
+    (rows-in-rows-in-requires-2 t)
+    (rows-in-join-rows-requires t)
+    (rows-in-complement-requires-2 t)
     (rows-in-returns-2 t)
     (rows-in-amount-requires t)
     (rows-in-add-source t)
+    (rows-in-complement-requires-3 t)
     (rows-in-returns-3 t)
-    (rows-in-body-requires-2 t)
-    (rows-in-add-rows-in t)
-    (rows-in-rows-in-requires-2 t)
-    (rows-in-returns-4 t)
-    (rows-in-left-requires t)
-    (rows-in-rows-in-requires-3 t)
-    (rows-in-right-requires t)
-    (rows-in-rows-in-requires-4 t)
-    (rows-in-join-rows-requires t)
-    (rows-in-returns-5 t)
+    (rows-in-add-here t)
+    (rows-in-sub-end t)
+    (rows-in-slice-aggregate-s t)
+    (rows-in-loop-less t)
+    (rows-in-loop-again t)
