@@ -27,6 +27,7 @@ mod WholeLaws
 mod DescentLaws
 mod AddLaws
 mod WayOnLaws
+mod WayDownLaws
 mod PutSpanLaws
 mod IndexLaws
 mod SlotLaws

@@ -58,7 +58,7 @@ module _ (w : ℕ) (file marks : List ℕ) (k c : ℕ) (l r : Tree) (hc : eqb c 
 
   -- a product
   root-mul : k ≡ 3 → {b : Side} {d : ℕ} → SideOf w file marks l r b → d ≡ modMul c (b .value) w
-      → WayOf w file marks k c root (record { found = b .found; masked = false; coeff = d; child = b })
+      → WayOf w file marks k c root (record { found = b .found; more = false; coeff = d; child = b })
   root-mul e (SideOf.neither f hl hr) ed = WayOf.ends f (mul-both w c hc k l r add e hl hr)
   root-mul e {b} {d} (SideOf.at-right f hl tree ev side) ed =
       WayOf.goes f refl side (subst (λ (t : Tree). sizeOf t < sizeOf root) (sym tree) (size-right k l r))
@@ -81,7 +81,7 @@ module _ (w : ℕ) (file marks : List ℕ) (k c : ℕ) (l r : Tree) (hc : eqb c 
     root-arith h f = WayOf.ends f (arith-whole w c hc k l r add plain (ne-eqb k 3 mul) (ne-eqb k 4 and) hv h)
 
     root-masked : hasArith root ≡ false → {b : Side} → SideOf w file marks l r b
-        → WayOf w file marks k c root (record { found = b .found; masked = true; coeff = c; child = b })
+        → WayOf w file marks k c root (record { found = b .found; more = true; coeff = c; child = b })
     root-masked h (SideOf.neither f hl hr) =
         WayOf.ends f (both-whole w c hc k l r add plain (ne-eqb k 3 mul) (ne-eqb k 4 and) hl hr h)
     root-masked h {b} (SideOf.at-right f hl tree ev side) =
@@ -131,7 +131,7 @@ module _ {w : ℕ} {file marks : List ℕ} {x : Spot} (at : AtSpot w file marks 
   over {b} h = subst (λ (t : Tree). There t b) tree-is h
 
   pub way-mul : k ≡ 3 → {b : Side} {d : ℕ} → SideOf w file marks l r b → d ≡ modMul (x .coeff) (b .value) w
-      → There (treeAt file x) (record { found = b .found; masked = false; coeff = d; child = b })
+      → There (treeAt file x) (record { found = b .found; more = false; coeff = d; child = b })
   way-mul e side ed = over (root-mul w file marks k (x .coeff) l r hc sides add e side ed)
 
   pub way-and : k ≡ 4 → {b : Way} → b .found ≡ false → There (treeAt file x) b
@@ -145,7 +145,7 @@ module _ {w : ℕ} {file marks : List ℕ} {x : Spot} (at : AtSpot w file marks 
         {b = b} f)
 
     pub way-masked : hasArith (treeAt file x) ≡ false → {b : Side} → SideOf w file marks l r b
-        → There (treeAt file x) (record { found = b .found; masked = true; coeff = x .coeff; child = b })
+        → There (treeAt file x) (record { found = b .found; more = true; coeff = x .coeff; child = b })
     way-masked h side =
         over
         (root-masked w file marks k (x .coeff) l r hc sides add (kinds .0) (kinds .1) mul and (ap hasArith tree-is ∙ h)
@@ -206,7 +206,7 @@ module _ {w : ℕ} {file marks : List ℕ} {x : Spot} (at : AtSpot w file marks 
 
   pub way-neg : kind span ≡ 8 → Here (record {
     found = true;
-    masked = false;
+    more = false;
     coeff = modNeg (x .coeff) w;
     child =
         record { found = true; start = x .start; end = x .end - 16; from = 0; to = length marks - 1; value = 0 };

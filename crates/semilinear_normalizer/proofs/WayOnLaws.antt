@@ -16,7 +16,6 @@ use Rattle.semilinear_normalizer.specs.Collect.{Collected, linear, joinC
 use Rattle.semilinear_normalizer.specs.Spots.{Accepted, Collects, Ready}
 use Rattle.semilinear_normalizer.specs.Sides.{treeAt, AtSpot, sideTree, WayOf, ends, goes, masks, collectWhole}
 use Rattle.semilinear_normalizer.specs.Sides.{collectLiteral}
-use Rattle.semilinear_normalizer.proofs.SideLaws.{spot-marks, spot-some}
 use Rattle.semilinear_normalizer.proofs.CollectsLaws.{collects-as, collects-more, collects-then, collects-stop}
 use Rattle.semilinear_normalizer.proofs.CollectsLaws.{ready-after, ready-less}
 use Rattle.semilinear_normalizer.proofs.DescentLaws.{Down}
@@ -39,13 +38,12 @@ module _ {w : ℕ} {file marks : List ℕ} {x : Spot} (at : AtSpot w file marks 
       go (masks f m s small c v q l) = record { side = s; smaller = small }
 
   -- the descent ends here
-  pub way-ends : b .found ≡ false → {a : List ℕ} {d : Descent} {c : List ℕ} {r : Descent}
-      → Collects w file 1 (collectWhole w (x .coeff) (treeAt file x)) a d c r → Done a d c r
-  way-ends e {a} {d} {c} {r} h = go way
+  pub way-whole : b .found ≡ false
+      → collectTerms w (x .coeff) (treeAt file x) ≡ collectWhole w (x .coeff) (treeAt file x)
+  way-whole e = go way
     where
-      go : Here → Done a d c r
-      go (ends f q) =
-          collects-more (sizeOf (treeAt file x)) (omega (arith, spot-marks at, spot-some at)) (collects-as q h)
+      go : Here → collectTerms w (x .coeff) (treeAt file x) ≡ collectWhole w (x .coeff) (treeAt file x)
+      go (ends f q) = q
       go (goes f m s small q) = false-true (sym e ∙ f)
       go (masks f m s small same v q l) = false-true (sym e ∙ f)
 
@@ -65,7 +63,7 @@ module _ {w : ℕ} {file marks : List ℕ} {x : Spot} (at : AtSpot w file marks 
         let c : y .coeff ≡ b .coeff = ap (λ (z : Spot). z .coeff) ey in
         rw (same, c) at first
 
-    pub way-goes : b .masked ≡ false → Done a d f e
+    pub way-goes : b .more ≡ false → Done a d f e
     way-goes plain = go way
       where
         go : Here → Done a d f e
@@ -74,7 +72,7 @@ module _ {w : ℕ} {file marks : List ℕ} {x : Spot} (at : AtSpot w file marks 
         go (masks f m s small c v q l) = false-true (sym plain ∙ m)
 
     -- and then to the And of it and a literal
-    module _ (masked : b .masked ≡ true) where
+    module _ (masked : b .more ≡ true) where
       abbrev literal : Collected
       literal = collectLiteral w k (x .coeff) here (b .child .value)
 

@@ -10,7 +10,7 @@ use Rattle.arith.specs.Width.{modMul}
 use Rattle.record.specs.Choice.{when}
 use Rattle.record.specs.Tree.{Tree, sizeOf}
 use Rattle.record.specs.Tree.Tree.{Constant, Variable, Unary, Binary}
-use Rattle.record.specs.Fields.{size}
+use Rattle.record.specs.Fields.{kind, size}
 use Rattle.record.specs.Span.{cut, left}
 use Rattle.record.specs.Decode.{decode}
 use Rattle.expr.specs.Utils.{hasVarDep, hasArith}
@@ -123,12 +123,27 @@ collectWhole w c (Binary k l r) =
 -- ends there, or goes to one child, or to one child and then to the And of it and a literal
 pub data WayOf (w : ℕ) (file marks : List ℕ) (k c : ℕ) (t : Tree) (b : Way) : Type 0 where
   ends : b .found ≡ false → collectTerms w c t ≡ collectWhole w c t → WayOf w file marks k c t b
-  goes : b .found ≡ true → b .masked ≡ false → SideAt w file marks (b .child)
+  goes : b .found ≡ true → b .more ≡ false → SideAt w file marks (b .child)
       → sizeOf (sideTree file (b .child)) < sizeOf t
       → collectTerms w c t ≡ collectTerms w (b .coeff) (sideTree file (b .child)) → WayOf w file marks k c t b
-  masks : b .found ≡ true → b .masked ≡ true → SideAt w file marks (b .child)
+  masks : b .found ≡ true → b .more ≡ true → SideAt w file marks (b .child)
       → sizeOf (sideTree file (b .child)) < sizeOf t → b .coeff ≡ c → hasVarDep (sideTree file (b .child)) ≡ true
       → collectTerms w c t
       ≡ joinCollected w (collectTerms w c (sideTree file (b .child)))
       (collectLiteral w k c (sideTree file (b .child)) (b .child .value))
       → b .child .value < 2 ^ w → WayOf w file marks k c t b
+
+-- at a tree with a variable under a coefficient other than 0 the descent ends
+abbrev pub Ends : ℕ → ℕ → Tree → Type 0
+Ends w c t = eqb c 0 ≡ false → hasVarDep t ≡ true → collectTerms w c t ≡ collectWhole w c t
+
+-- how the descent goes on at any spot: it ends there, or goes to the left side of an Add and then to the right one, or
+-- as at a root that is no Add
+pub data WayDown (w : ℕ) (file marks : List ℕ) (x : Spot) (b : Way) : Type 0 where
+  none : b .found ≡ false → Ends w (x .coeff) (treeAt file x) → WayDown w file marks x b
+  sum : kind (spanOf file (x .start) (x .end)) ≡ 2 → eqb (x .coeff) 0 ≡ false → hasVarDep (treeAt file x) ≡ true
+      → b ≡ record { found = true; more = true; coeff = x .coeff; child = leftSide file x } → WayDown w file marks x b
+  other : eqb (kind (spanOf file (x .start) (x .end))) 2 ≡ false → eqb (x .coeff) 0 ≡ false
+      → hasVarDep (treeAt file x) ≡ true
+      → WayOf w file marks (kind (spanOf file (x .start) (x .end))) (x .coeff) (treeAt file x) b
+      → WayDown w file marks x b

@@ -18,7 +18,7 @@ ghost use Rattle.semilinear_normalizer.specs.Collect.{collectAnd, andCoe
 ghost use Rattle.semilinear_normalizer.specs.Spots.{Accepted, Collects, Ready, Pushed};
 ghost use Rattle.semilinear_normalizer.specs.Sides.{treeAt, AtSpot, sideTree, leftOf};
 ghost use Rattle.semilinear_normalizer.specs.Sides.{rightOf, IsAnd, collectWhole};
-ghost use Rattle.semilinear_normalizer.specs.Sides.{collectLiteral};
+ghost use Rattle.semilinear_normalizer.specs.Sides.{collectLiteral, Ends};
 
 // A descent on its way: whether all was linear so far, the constant, and how many atoms there are.
 pub struct Descent {
@@ -202,7 +202,34 @@ impl Descent {
         self.push_spot(x, 0, 0, spots)
     }
 
+    // Where the descent ends: nothing under the coefficient 0, the value of a tree without a
+    // variable, or the tree as it stands.
+    fn collect_end(self, x: Spot, file: &[u8], marks: &[u8], w: u32, spots: &mut [u64]) -> Self
+        requires { ⌜ AtSpot w (now file) (now marks) x
+            × Ready w (sizeOf (treeAt (now file) x)) (now spots) self
+            × Ends w (x .coeff) (treeAt (now file) x) ⌝ }
+        ensures { λ r. ⌜ Collects w (now (file .entry)) (sizeOf (treeAt (now (file .entry)) x))
+            (collectTerms w (x .coeff) (treeAt (now (file .entry)) x))
+            (now (spots .entry)) self (now (spots .exit)) r ⌝ }
+    {
+        let coeff = x.coeff;
+        if coeff == 0 {
+            return self;
+        }
+        let start = x.start;
+        let end = x.end;
+        let last = marks.len() - 1;
+        if !marks::has_variable(marks[last]) {
+            let t = side::span_of(file, start, end);
+            return self.add_constant(coeff, semilinear::decompose::constant_value(t, w), w);
+        }
+        self.collect_whole(x, file, marks, w, spots)
+    }
+
     // What the subtree of x comes to, times its coefficient, added to what was collected before it.
+    // The loop goes below a Neg and a product by a constant, and to the right side of a sum. The
+    // left side of a sum, and what stands in an Or or Xor beside a literal, are calls; they are one
+    // call in the code, since each has its own arguments in the frame.
     // Corresponds to `collect_terms`.
     pub fn collect_terms(
         self,
@@ -218,42 +245,38 @@ impl Descent {
             (collectTerms w (x .coeff) (treeAt (now (file .entry)) x))
             (now (spots .entry)) self (now (spots .exit)) r ⌝ }
     {
-        let coeff = x.coeff;
-        if coeff == 0 {
-            return self;
-        }
-        let start = x.start;
-        let end = x.end;
-        let t = side::span_of(file, start, end);
-        let last = marks.len() - 1;
-        if !marks::has_variable(marks[last]) {
-            return self.add_constant(coeff, semilinear::decompose::constant_value(t, w), w);
-        }
-        let k = record::kind(t);
-        if k == 2 {
-            let l = side::left_side(x, file);
-            let left = side::side_spot(coeff, l);
-            let first = self.collect_terms(left, file, side::side_marks(marks, l), w, spots);
-            if !first.linear {
-                return first;
+        let mut done = self;
+        let mut here = x;
+        let mut seen = marks;
+        loop {
+            let way = side::way_down(here, file, seen, w);
+            if !way.found {
+                return done.collect_end(here, file, seen, w, spots);
             }
-            let r = side::right_side(x, file, marks);
-            let right = side::side_spot(coeff, r);
-            return first.collect_terms(right, file, side::side_marks(marks, r), w, spots);
+            let child = way.child;
+            let from = child.from;
+            let to = child.to;
+            let next = side::side_spot(way.coeff, child);
+            if !way.more {
+                here = next;
+                seen = &seen[from..to];
+                continue;
+            }
+            done = done.collect_terms(next, file, &seen[from..to], w, spots);
+            if !done.linear {
+                return done;
+            }
+            let start = here.start;
+            let end = here.end;
+            let k = record::kind(side::span_of(file, start, end));
+            if k != 2 {
+                return done.collect_masked(k, here.coeff, child, file, w, spots);
+            }
+            let right = side::right_side(here, file, seen);
+            let cut = right.from;
+            let last = right.to;
+            here = side::side_spot(here.coeff, right);
+            seen = &seen[cut..last];
         }
-        let way = side::way_on(x, file, marks, w);
-        if !way.found {
-            return self.collect_whole(x, file, marks, w, spots);
-        }
-        let side = way.child;
-        let child = side::side_spot(way.coeff, side);
-        let under = self.collect_terms(child, file, side::side_marks(marks, side), w, spots);
-        if !way.masked {
-            return under;
-        }
-        if !under.linear {
-            return under;
-        }
-        under.collect_masked(k, coeff, side, file, w, spots)
     }
 }

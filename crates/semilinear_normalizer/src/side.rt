@@ -12,7 +12,7 @@ ghost use Rattle.expr.specs.Utils.{hasVarDep};
 ghost use Rattle.semilinear_normalizer.specs.Spots.{spanOf};
 ghost use Rattle.semilinear_normalizer.specs.Sides.{treeAt, AtSpot, isBinary, leftOf};
 ghost use Rattle.semilinear_normalizer.specs.Sides.{rightOf, leftSide, rightSide, SideOf};
-ghost use Rattle.semilinear_normalizer.specs.Sides.{WayOf};
+ghost use Rattle.semilinear_normalizer.specs.Sides.{WayOf, WayDown};
 
 // A coefficient, and the bytes of the file that hold a subtree.
 pub struct Spot {
@@ -32,11 +32,11 @@ pub struct Side {
     pub value: u64,
 }
 
-// Where the descent goes on from a root: to one child with this coefficient, and then, where it is
-// masked, to the child and a literal; or nowhere.
+// Where the descent goes on from a root: to one child with this coefficient, and, where there is
+// more, then to the right side of a sum or to the child and a literal; or nowhere.
 pub struct Way {
     pub found: bool,
-    pub masked: bool,
+    pub more: bool,
     pub coeff: u64,
     pub child: Side,
 }
@@ -92,14 +92,6 @@ pub fn side_spot(coeff: u64, side: Side) -> Spot
         start: side.start,
         end: side.end,
     }
-}
-
-// The marks of a side.
-pub fn side_marks(marks: &[u8], side: Side) -> &[u8]
-    requires { ⌜ (side .from ≤ side .to) × (side .to ≤ length (now marks)) ⌝ }
-    ensures { λ m. ⌜ now m ≡ spanOf (now (marks .entry)) (side .from) (side .to) ⌝ }
-{
-    span_of(marks, side.from, side.to)
 }
 
 // No side without a variable.
@@ -161,7 +153,7 @@ fn nowhere() -> Way
 {
     Way {
         found: false,
-        masked: false,
+        more: false,
         coeff: 0,
         child: no_side(),
     }
@@ -172,7 +164,7 @@ fn way_neg(x: Spot, marks: &[u8], w: u32) -> Way
     requires { ⌜ (16 ≤ x .end) × (1 ≤ length (now marks)) ⌝ }
     ensures { λ b. ⌜ b ≡ record {
       found = true;
-      masked = false;
+      more = false;
       coeff = modNeg (x .coeff) w;
       child = record {
         found = true;
@@ -196,7 +188,7 @@ fn way_neg(x: Spot, marks: &[u8], w: u32) -> Way
     };
     Way {
         found: true,
-        masked: false,
+        more: false,
         coeff: arith::mod_neg(x.coeff, w),
         child: child,
     }
@@ -216,7 +208,7 @@ fn way_two(x: Spot, k: u8, file: &[u8], marks: &[u8], w: u32) -> Way
         let side = side_of(x, file, marks, w);
         return Way {
             found: side.found,
-            masked: false,
+            more: false,
             coeff: arith::mod_mul(x.coeff, side.value, w),
             child: side,
         };
@@ -231,7 +223,7 @@ fn way_two(x: Spot, k: u8, file: &[u8], marks: &[u8], w: u32) -> Way
     let side = side_of(x, file, marks, w);
     Way {
         found: side.found,
-        masked: true,
+        more: true,
         coeff: x.coeff,
         child: side,
     }
@@ -257,4 +249,32 @@ pub fn way_on(x: Spot, file: &[u8], marks: &[u8], w: u32) -> Way
         return nowhere();
     }
     way_two(x, k, file, marks, w)
+}
+
+// The way on from any root: none under the coefficient 0 or without a variable, the left side of an
+// Add, and of another root as above.
+pub fn way_down(x: Spot, file: &[u8], marks: &[u8], w: u32) -> Way
+    requires { ⌜ AtSpot w (now file) (now marks) x × (w ≤ 64) ⌝ }
+    ensures { λ b. ⌜ WayDown w (now (file .entry)) (now (marks .entry)) x b ⌝ }
+{
+    let coeff = x.coeff;
+    if coeff == 0 {
+        return nowhere();
+    }
+    let last = marks.len() - 1;
+    if !marks::has_variable(marks[last]) {
+        return nowhere();
+    }
+    let start = x.start;
+    let end = x.end;
+    if record::kind(span_of(file, start, end)) == 2 {
+        let child = left_side(x, file);
+        return Way {
+            found: true,
+            more: true,
+            coeff: coeff,
+            child: child,
+        };
+    }
+    way_on(x, file, marks, w)
 }
