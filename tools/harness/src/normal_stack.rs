@@ -10,8 +10,8 @@ use crate::measure::{stack_used, time_of};
 use crate::normal_limits::chain;
 use crate::normal_model;
 use crate::record::{
-    balanced, binary, bytes, left_chain, literal, nested, right_chain, variable, Records, ADD, AND,
-    MAX_RECORDS, MUL, NEG, NOT, OR, SHR, XOR,
+    balanced, binary, bytes, left_chain, left_turns, literal, nested, right_chain, right_turns,
+    unary, variable, Records, ADD, AND, MAX_RECORDS, MUL, NEG, NOT, OR, SHR, XOR,
 };
 use crate::stack::{show_stack, show_time};
 use crate::written::same_bytes;
@@ -79,6 +79,7 @@ fn shapes() -> Vec<(&'static str, Records)> {
         0 => leaf(0),
         _ => literal(64, 3),
     };
+    let negated_product = |tree: Records| binary(MUL, unary(NEG, 0, tree), literal(64, 3));
     let atom = |i: usize| binary(AND, leaf(i), literal(64, i as u64));
     let of_one_hash = |i: usize| collide::with_hash(atom(i), 0);
     vec![
@@ -89,6 +90,19 @@ fn shapes() -> Vec<(&'static str, Records)> {
         ("nested Not and Shr", nested(&[NOT, SHR], depth, leaf(0))),
         ("left chain of Add", left_chain(ADD, 512, leaf)),
         ("right chain of Add", right_chain(ADD, 512, leaf)),
+        (
+            "Neg and Add by turns, left",
+            left_turns(NEG, ADD, 341, leaf(0)),
+        ),
+        (
+            "Neg and Add by turns, right",
+            right_turns(NEG, ADD, 341, leaf(0)),
+        ),
+        (
+            "Neg and a product by turns",
+            (0..341).fold(leaf(0), |tree, _| negated_product(tree)),
+        ),
+        ("Not and And by turns", left_turns(NOT, AND, 341, leaf(0))),
         ("balanced sum", balanced(ADD, 0, 512, &leaf)),
         (
             "balanced sum of one variable",

@@ -13,9 +13,6 @@ use crate::record::{binary, literal, nested, variable, AND, NOT};
 use crate::stack::{forms, show_stack, show_time};
 use crate::written::same_bytes;
 
-/// The most stack that one of these calls may use.
-pub const STACK_BAR: usize = 420_000;
-
 const COLUMNS: &str = "hogzelt_compute_partitions";
 
 /// The passes beside compaction, which stack.rs measures.

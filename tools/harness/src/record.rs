@@ -139,6 +139,20 @@ pub fn right_chain(kind: u8, leaves: usize, leaf: impl Fn(usize) -> Records) -> 
     (1..leaves).fold(leaf(0), |right, i| binary(kind, leaf(i), right))
 }
 
+/// `count` records of a binary kind over one of a unary kind each, whose left children grow.
+pub fn left_turns(one: u8, two: u8, count: usize, leaf: Records) -> Records {
+    (0..count).fold(leaf.clone(), |left, _| {
+        binary(two, unary(one, 0, left), leaf.clone())
+    })
+}
+
+/// The same, whose right children grow.
+pub fn right_turns(one: u8, two: u8, count: usize, leaf: Records) -> Records {
+    (0..count).fold(leaf.clone(), |right, _| {
+        binary(two, leaf.clone(), unary(one, 0, right))
+    })
+}
+
 /// A balanced expression over the leaves `first` to `first + leaves - 1`.
 pub fn balanced(kind: u8, first: usize, leaves: usize, leaf: &dyn Fn(usize) -> Records) -> Records {
     if leaves == 1 {

@@ -18,31 +18,28 @@ use crate::pass_stack;
 use crate::prng::Prng;
 use crate::random::{self, Kinds};
 use crate::record::{
-    balanced, bytes, left_chain, nested, right_chain, unary, variable, Records, ADD, AND,
-    MAX_RECORDS, NEG, NOT, RECORD_BYTES, SHR,
+    balanced, bytes, left_chain, left_turns, nested, right_chain, right_turns, unary, variable,
+    Records, ADD, AND, MAX_RECORDS, NEG, NOT, RECORD_BYTES, SHR,
 };
 use crate::written::same_bytes;
 
 const VARS: [u64; 3] = [1, 2, 3];
 
-/// The most stack that a call may use.
-const STACK_BAR: usize = 1 << 20;
+/// The most stack that a call of any exported function may use.
+const STACK_BAR: usize = 400_000;
 
 pub fn run() -> Result<(), String> {
     println!("stack, no call: {} bytes", stack_used(&mut || {})?);
-    let passes = pass_stack::stacks()?;
     let most = expression_stacks()?
         .max(form_stacks()?)
         .max(normal_stack::stacks()?)
         .max(list_stack::stacks()?)
-        .max(passes);
-    println!("stack, most: {most} bytes, of a pass or the columns: {passes} bytes");
-    for (used, bar) in [(most, STACK_BAR), (passes, pass_stack::STACK_BAR)] {
-        if used > bar {
-            return Err(format!(
-                "a call used {used} bytes of stack, more than {bar}"
-            ));
-        }
+        .max(pass_stack::stacks()?);
+    println!("stack, most: {most} bytes");
+    if most > STACK_BAR {
+        return Err(format!(
+            "a call used {most} bytes of stack, more than {STACK_BAR}"
+        ));
     }
     expression_times();
     form_times();
@@ -86,6 +83,14 @@ fn expressions() -> Vec<(&'static str, Vec<u8>)> {
         ("nested Shr", chain(SHR)),
         ("left chain of Add", left_chain(ADD, 512, leaf)),
         ("right chain of Add", right_chain(ADD, 512, leaf)),
+        (
+            "Neg and Add by turns, left",
+            left_turns(NEG, ADD, 341, leaf(0)),
+        ),
+        (
+            "Neg and Add by turns, right",
+            right_turns(NEG, ADD, 341, leaf(0)),
+        ),
         ("balanced sum", balanced(ADD, 0, 512, &leaf)),
         ("nested Neg, wrong deepest size", damaged),
     ];
@@ -126,7 +131,8 @@ fn form_stacks() -> Result<usize, String> {
 pub fn forms() -> Vec<(&'static str, Vec<u8>)> {
     let leaf = |i: usize| variable(64, i as u8);
     let leaves = MAX_TREE_RECORDS / 2;
-    let trees: [(&'static str, Records); 4] = [
+    let turns = (MAX_TREE_RECORDS - 1) / 3;
+    let trees: [(&'static str, Records); 6] = [
         ("nested Not", nested(&[NOT], MAX_TREE_RECORDS - 1, leaf(0))),
         ("nested Shr", nested(&[SHR], MAX_TREE_RECORDS - 1, leaf(0))),
         (
@@ -136,6 +142,14 @@ pub fn forms() -> Vec<(&'static str, Vec<u8>)> {
         (
             "Not of a right chain of And",
             unary(NOT, 0, right_chain(AND, leaves, leaf)),
+        ),
+        (
+            "Not and And by turns, left",
+            left_turns(NOT, AND, turns, leaf(0)),
+        ),
+        (
+            "Not and And by turns, right",
+            right_turns(NOT, AND, turns, leaf(0)),
         ),
     ];
     let mut forms = Vec::new();
