@@ -56,9 +56,11 @@ slips =
     ∷ refines (term 128 1 ∷ term 64 5 ∷ []) (term 128 0 ∷ term 64 0 ∷ term 192 1 ∷ [])
     -- where only the first can be, it is, and the pair has the second's
     ∷ refines (term 128 1 ∷ term 1 3 ∷ []) (term 128 0 ∷ term 1 0 ∷ term 129 3 ∷ [])
-    -- entries of one coefficient are joined by rising coefficient, not by first entry
+    -- entries of one coefficient are joined by rising coefficient, not by first or by second entry
     ∷ refines (term 1 2 ∷ term 2 1 ∷ term 4 1 ∷ term 8 2 ∷ [])
     (term 1 0 ∷ term 2 0 ∷ term 4 0 ∷ term 8 0 ∷ term 6 1 ∷ term 9 2 ∷ [])
+    ∷ refines (term 1 2 ∷ term 8 2 ∷ term 2 1 ∷ term 4 1 ∷ [])
+    (term 1 0 ∷ term 8 0 ∷ term 2 0 ∷ term 4 0 ∷ term 6 1 ∷ term 9 2 ∷ [])
     -- one by one, to the mask joined so far; each time there is an atom
     ∷ refines (term 1 1 ∷ term 2 1 ∷ term 4 1 ∷ []) (term 1 0 ∷ term 2 0 ∷ term 4 0 ∷ term 3 0 ∷ term 7 1 ∷ [])
     -- the third entry of a collapse may stand before the other two

@@ -37,8 +37,9 @@ widePasses w top high =
     pass refineForm (form w 0 (term 3 high ∷ [])) (form w 0 (term 3 0 ∷ term 1 high ∷ []))
     -- the highest place takes the coefficient 2 ^ w - 1, without a new atom
     ∷ pass refineForm (form w 0 (term high 1 ∷ [])) (form w 0 (term high top ∷ []))
-    -- entries of the highest coefficient are joined too
-    ∷ pass refineForm (form w 0 (term 1 top ∷ term 2 top ∷ [])) (form w 0 (term 1 0 ∷ term 2 0 ∷ term 3 top ∷ []))
+    -- entries of the highest coefficient are joined with all of one coefficient, and not with the pairs: 4 with 1 first
+    ∷ pass refineForm (form w 0 (term 5 top ∷ term 1 top ∷ term 4 top ∷ term 2 top ∷ []))
+    (form w 0 (term 5 0 ∷ term 1 0 ∷ term 4 0 ∷ term 2 0 ∷ term 5 top ∷ term 7 top ∷ []))
     -- all places: the basis alone, made by And in refining and Mixed in coalescing
     ∷ pass refineForm (form w 0 (halves 1)) (form w 0 (halves 0 ++ (row 0 a 1 ∷ [])))
     ∷ pass coalesceForm (form w 0 (halves 1)) (form w 0 (halves 0 ++ (row 4 a 1 ∷ [])))

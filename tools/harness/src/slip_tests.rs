@@ -107,6 +107,17 @@ fn refined() {
         ],
     );
     refined(
+        &[low(1, 2), low(8, 2), low(2, 1), low(4, 1)],
+        &[
+            low(1, 0),
+            low(8, 0),
+            low(2, 0),
+            low(4, 0),
+            low(6, 1),
+            low(9, 2),
+        ],
+    );
+    refined(
         &[low(4, 3), low(1, 1), low(2, 2)],
         &[low(4, 0), low(1, 0), low(2, 0), low(5, 1), low(6, 2)],
     );
@@ -206,8 +217,15 @@ fn passed_wide() {
         wide(w, &[mask(high, 1)], &[mask(high, top)], Pass::Refine);
         wide(
             w,
-            &[mask(1, top), mask(2, top)],
-            &[mask(1, 0), mask(2, 0), mask(3, top)],
+            &[mask(5, top), mask(1, top), mask(4, top), mask(2, top)],
+            &[
+                mask(5, 0),
+                mask(1, 0),
+                mask(4, 0),
+                mask(2, 0),
+                mask(5, top),
+                mask(7, top),
+            ],
             Pass::Refine,
         );
         let halves = [mask(high - 1, 1), mask(high, 1)];
