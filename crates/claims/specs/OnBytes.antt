@@ -2,11 +2,12 @@
 -- definitions of the entry points give (w = 8, a is v0, b is v1). Starred puzzles of each kind, document 01's examples
 -- of refusals, and two lists of calls.
 use Prim.Native.Nat.{ℕ}
-use mathlib.Core.List.{List, [], _∷_}
+use mathlib.Core.List.{List, [], _∷_, _++_}
 use mathlib.Core.Bool.{Bool, true, false}
+use lib.ListN.{replicate}
 use Rattle.record.specs.Tree.{Tree, recordBytes, encode}
 use Rattle.record.specs.Tree.Tree.{Constant, Variable, Unary, Binary}
-use Rattle.semilinear.specs.Form.{Row, Form, encodeForm}
+use Rattle.semilinear.specs.Form.{Row, Form, atomsBytes, termBytes, sumBytes, encodeForm}
 use Rattle.semilinear.specs.Outcome.{Outcome, accepted, refused, formOutcome}
 use Rattle.semilinear_normalizer.specs.Normalize.{normalizeToSemilinear}
 use Rattle.bit_partitioner.specs.Partition.{computePartitions}
@@ -63,14 +64,17 @@ onBytes =
     (form 8 9 (row 4 b 2 ∷ xor 3 1 ∷ [])) false
     ∷ []
 
--- a form that is none: its coefficient is 2 ^ 8
+-- 15 bytes; and a form that is none: its term has the coefficient 0
+abbrev fifteen : List ℕ
+fifteen = replicate 15 0
+
 abbrev none : List ℕ
-none = encodeForm (sheet (term 15 256 ∷ []))
+none = (atomsBytes 8 (term 15 1 ∷ []) ++ termBytes 8 0 0) ++ sumBytes 8 0
 
 unfoldable pub refusals : List Example
 refusals =
     -- 1, also where the slice has another length too; 2, also where the file is refused by 3 too
-    refuses (0 ∷ []) short 1
+    refuses fifteen short 1
     ∷ refuses (recordBytes 2 0 1 8 0) short 2
     -- one Add of size 1; one literal of width 65; Trunc of v0; v0 >> 64
     ∷ refuses (recordBytes 2 0 1 8 0) whole 3
@@ -81,7 +85,7 @@ refusals =
     ∷ refuses (encode 8 (Binary 4 (Constant 3) (Binary 2 (Constant 1) (Constant 2)))) whole 7
     ∷ refuses (encode 8 (Binary 3 a b)) whole 8
     -- a pass: 1 before 2, 2 before 10, and 10
-    ∷ stops refine-terms (0 ∷ []) short 1
+    ∷ stops refine-terms fifteen short 1
     ∷ stops recover-structure none short 2
     ∷ stops coalesce-terms none whole 10
     ∷ []
