@@ -1,7 +1,7 @@
 #!/usr/bin/env bash
-# Holds the documents to the files: every file and every path:name of docs/CLAIMS.md is there, and every
-# relative link of README.md and docs/ leads to a file. Prints one line and ends with 0, or a line for
-# each fault and ends with 1.
+# Holds the documents to the files: every file and every path:name of docs/CLAIMS.md is there, every relative
+# link of README.md and docs/ leads to a file, and the lines that docs/CLAIMS.md counts are those of the files
+# (tools/cone_lines.sh). Prints one line and ends with 0, or a line for each fault and ends with 1.
 #
 # A claims table begins with the line '| No. | Claim | Stated at | Proved at | Edits |'. A row has five
 # cells: C and a number; a sentence (a bar in it is written \|); one or more path:name; the same; must-fail
@@ -247,6 +247,8 @@ documents=$(find README.md docs -name '*.md' -type f | sort)
 while IFS= read -r doc; do
     check_links "$doc"
 done <<< "$documents"
+
+tools/cone_lines.sh > /dev/null || fault "$claims: tools/cone_lines.sh finds a fault"
 
 if [ "$faults" -gt 0 ]; then
     printf 'check_docs: faults: %d\n' "$faults" >&2

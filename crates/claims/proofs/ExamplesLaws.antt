@@ -7,6 +7,10 @@ use Rattle.arith.specs.Effective.{effectiveMask, reduceMask, canChangeCoefficie
 use Rattle.arith.specs.Width.{bitmask, modAdd, modSub, modMul, modNeg}
 use Rattle.record.specs.Lists.{eqList}
 use Rattle.record.specs.Tree.{sizeOf, recordBytes, encode}
+use Rattle.record.specs.Fields.{u16, u32, u64, kind, byte1, varIndex, amount, size, width, spare, literal, arity}
+use Rattle.record.specs.Span.{cut, body, left, right, step, stepsF, fold}
+use Rattle.record.specs.Decode.{leaf}
+use Rattle.expr.specs.Refusal.{lowest, usesByte1, fieldsOk, sizeOk, formOk, widthOk, rootRefusal, exprRefusal}
 use Rattle.expr.specs.Hash.{mixHash, tagHash, varHash, structuralHash}
 use Rattle.expr.specs.Utils.{hasKind, isArith, isBitwise, hasArith, hasConstantArith}
 use Rattle.expr.specs.Value.{unary, binary, value}
@@ -16,6 +20,12 @@ use Rattle.truth.specs.Truth.{hasShift, bitBinary, bitOf, rowBits, tableF, tabl
 use Rattle.semilinear.specs.Decompose.{decomposeAnd, decomposeAtom}
 use Rattle.semilinear.specs.Form.{termCount, atomBytes, atomsBytes, termBytes, termsBytes, sumBytes, encodeForm}
 use Rattle.semilinear.specs.Form.{eqTree, treeRecords, fitsTable}
+use Rattle.semilinear.specs.Items.{frontKind, provenance, frontNumber, frontWidth, frontSpare, frontWord}
+use Rattle.semilinear.specs.Items.{atomLength, isAtom, treeSpan, afterAtom, atomsF, foldAtoms, isTerm}
+use Rattle.semilinear.specs.Valid.{atomTreeOk, treeOk, atomOk, termOk, termsOkF, termsOk, sumOk, frontOk}
+use Rattle.semilinear.specs.Valid.{isSemilinear, lengthRefused}
+use Rattle.semilinear.specs.DecodeForm.{hasTerm, coeffAt, afterTerm, rowAt, rowsF, rowsOf, decodeForm}
+use Rattle.semilinear.specs.Compact.{usedRows, compactForm, passOutcome, limitOutcome, compactAtomTable}
 use Rattle.group.specs.Group.{at, putEntry, emptyGroup, pushEntry, isLive, consumed, work, createRow, maskedTree}
 use Rattle.group.specs.Group.{createMasked, viewRow, anyBasis, variableBasis, insertBasis, basesOf, groupOf}
 use Rattle.group.specs.Group.{ungrouped, addCoeff, settleAt, settle}
@@ -24,26 +34,33 @@ use Rattle.semilinear.specs.Outcome.{formOutcome}
 use Rattle.semilinear_normalizer.specs.Collect.{joinCollected, collectAtom, collectConstant, isNot, operand}
 use Rattle.semilinear_normalizer.specs.Collect.{collectNot, isMaskedNot, collectAnd, andCoeff, collectMasked}
 use Rattle.semilinear_normalizer.specs.Collect.{collectTerms}
-use Rattle.semilinear_normalizer.specs.Normalize.{collectedForm, collectedOutcome, normalizeTree}
+use Rattle.semilinear_normalizer.specs.Normalize.{collectedForm, collectedOutcome, normalizeTree, normalizeToSemilinear}
 use Rattle.semilinear_normalizer.specs.Register.{familyOf, detectProvenance, sameSlot, newestRow}
 use Rattle.semilinear_normalizer.specs.Register.{firstRow, hasTree, sharedRow, addRow, registerAtom, registerAll}
 use Rattle.group.specs.Collapse.{thirdFits, findThird, secondFits, findSecond, firstFits, findFirst}
 use Rattle.group.specs.Collapse.{collapseAt, threeTermCollapse}
-use Rattle.term_refiner.specs.RefineTerms.{refineGroup, refineAll, refineForm}
+use Rattle.term_refiner.specs.RefineTerms.{refineGroup, refineAll, refineForm, refineTerms}
 use Rattle.group.specs.Steps.{remasked, cutAt, cutMasks, dropAt, dropZero, joinAt, slotFits, placeAt, leastAt}
 use Rattle.group.specs.Steps.{leastCoeff, sweepTurn, bucketMerge, pairAt, pairMerge, negateAt, toMinusOne}
 use Rattle.structure_recovery.specs.CoalesceTerms.{bitCoeffAt, bitCoeff, carry, carryAt, carriedOf, carriedRows}
-use Rattle.structure_recovery.specs.CoalesceTerms.{coalesceGroup, coalesceAll, coalesceForm}
+use Rattle.structure_recovery.specs.CoalesceTerms.{coalesceGroup, coalesceAll, coalesceForm, coalesceTerms}
 use Rattle.structure_recovery.specs.FlattenComplexAtoms.{isPlain, isComplex, atZero, atOnes, flatRow, flattenRow}
 use Rattle.structure_recovery.specs.FlattenComplexAtoms.{flattenRows, keptRows, flattened, flattenForm}
+use Rattle.structure_recovery.specs.FlattenComplexAtoms.{flattenComplexAtoms}
 use Rattle.structure_recovery.specs.RecoverStructure.{rowWith, withBare, recoverXor, eliminateMask, recoverPair}
 use Rattle.structure_recovery.specs.RecoverStructure.{isPartner, partnerOf, recoverAt, recoverGroup, recoverAll}
-use Rattle.structure_recovery.specs.RecoverStructure.{recoverForm}
+use Rattle.structure_recovery.specs.RecoverStructure.{recoverForm, recoverStructure}
 use Rattle.bit_partitioner.specs.Partition.{isOpaque, opaqueWord, profileWord, profileFrom, joinClass, classesF}
-use Rattle.bit_partitioner.specs.Partition.{classesOf, classWords, partitionsOutcome}
-use Rattle.claims.specs.Examples.{sameOutcome, allHold, starred, tricky}
+use Rattle.bit_partitioner.specs.Partition.{classesOf, classWords, partitionsOutcome, computePartitions}
+use Rattle.claims.specs.Calls.{passGives, useOf, afterCall, inUse}
+use Rattle.claims.specs.Example.{sameOutcome, allHold}
+use Rattle.claims.specs.Examples.{starred, tricky}
+use Rattle.claims.specs.Slips.{slips}
+use Rattle.claims.specs.Wide.{wideNormal, widePasses, wide}
+use Rattle.claims.specs.OnBytes.{onBytes, refusals, orders}
 
-starred-hold : allHold starred ≡ true
+-- all that computing an example opens
+opened : Unit {0}
 unfolding trailingZeros ones onesIn bitAt effectiveMask reduceMask canChangeCoefficientTo bitmask modAdd modSub
     modMul modNeg eqList sizeOf recordBytes encode mixHash tagHash varHash structuralHash hasKind isArith isBitwise
     hasArith hasConstantArith unary binary value nextVar supportF support sameVars decomposeAnd decomposeAtom
@@ -59,24 +76,44 @@ unfolding trailingZeros ones onesIn bitAt effectiveMask reduceMask canChangeCoef
     carriedRows coalesceGroup coalesceAll coalesceForm isPlain isComplex atZero atOnes flatRow flattenRow
     flattenRows keptRows flattened flattenForm rowWith withBare recoverXor eliminateMask recoverPair isPartner
     partnerOf recoverAt recoverGroup recoverAll recoverForm isOpaque opaqueWord profileWord profileFrom joinClass
-    classesF classesOf classWords partitionsOutcome sameOutcome allHold starred
+    classesF classesOf classWords partitionsOutcome
+    sameOutcome allHold
+opened = tt
+
+starred-hold : allHold starred ≡ true
+unfolding opened starred
 starred-hold = refl
 
 tricky-hold : allHold tricky ≡ true
-unfolding trailingZeros ones onesIn bitAt effectiveMask reduceMask canChangeCoefficientTo bitmask modAdd modSub
-    modMul modNeg eqList sizeOf recordBytes encode mixHash tagHash varHash structuralHash hasKind isArith isBitwise
-    hasArith hasConstantArith unary binary value nextVar supportF support sameVars decomposeAnd decomposeAtom
-    termCount atomBytes atomsBytes termBytes termsBytes sumBytes encodeForm eqTree treeRecords fitsTable at putEntry
-    emptyGroup pushEntry isLive consumed work createRow maskedTree createMasked viewRow anyBasis variableBasis
-    insertBasis basesOf groupOf ungrouped addCoeff settleAt settle turnsF forIn firstF firstIn formOutcome
-    joinCollected collectAtom collectConstant isNot operand collectNot isMaskedNot collectAnd andCoeff collectMasked
-    collectTerms collectedForm collectedOutcome normalizeTree familyOf detectProvenance isPure sameTable sameSlot
-    newestRow firstRow hasTree sharedRow addRow registerAtom registerAll hasShift bitBinary bitOf rowBits tableF
-    table thirdFits findThird secondFits findSecond firstFits findFirst collapseAt threeTermCollapse refineGroup
-    refineAll refineForm remasked cutAt cutMasks dropAt dropZero joinAt slotFits placeAt leastAt leastCoeff
-    sweepTurn bucketMerge pairAt pairMerge negateAt toMinusOne bitCoeffAt bitCoeff carry carryAt carriedOf
-    carriedRows coalesceGroup coalesceAll coalesceForm isPlain isComplex atZero atOnes flatRow flattenRow
-    flattenRows keptRows flattened flattenForm rowWith withBare recoverXor eliminateMask recoverPair isPartner
-    partnerOf recoverAt recoverGroup recoverAll recoverForm isOpaque opaqueWord profileWord profileFrom joinClass
-    classesF classesOf classWords partitionsOutcome sameOutcome allHold tricky
+unfolding opened tricky
 tricky-hold = refl
+
+slips-hold : allHold slips ≡ true
+unfolding opened slips
+slips-hold = refl
+
+wide-hold : allHold wide ≡ true
+unfolding opened wideNormal widePasses wide
+wide-hold = refl
+
+-- what reading and writing bytes opens besides
+openedBytes : Unit {0}
+unfolding opened u16 u32 u64 kind byte1 varIndex amount size width spare literal arity cut body left right step stepsF
+    fold leaf lowest usesByte1 fieldsOk sizeOk formOk widthOk rootRefusal exprRefusal frontKind provenance frontNumber
+    frontWidth frontSpare frontWord atomLength isAtom treeSpan afterAtom atomsF foldAtoms isTerm atomTreeOk treeOk
+    atomOk termOk termsOkF termsOk sumOk frontOk isSemilinear lengthRefused hasTerm coeffAt afterTerm rowAt rowsF
+    rowsOf decodeForm usedRows compactForm passOutcome limitOutcome compactAtomTable normalizeToSemilinear
+    refineTerms coalesceTerms flattenComplexAtoms recoverStructure computePartitions passGives useOf afterCall inUse
+openedBytes = tt
+
+on-bytes-hold : allHold onBytes ≡ true
+unfolding openedBytes onBytes
+on-bytes-hold = refl
+
+refusals-hold : allHold refusals ≡ true
+unfolding openedBytes refusals
+refusals-hold = refl
+
+orders-hold : allHold orders ≡ true
+unfolding openedBytes orders
+orders-hold = refl

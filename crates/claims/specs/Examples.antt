@@ -1,64 +1,13 @@
 -- Worked examples (document 01, "Starred puzzles"; w = 8 unless said, a is v0, b is v1), each computed on the
 -- definitions of the normaliser, the passes and the columns. Tables keep the atoms that lost their term.
-use Prim.Native.Nat.{ℕ}
 use mathlib.Core.List.{List, [], _∷_}
-use mathlib.Core.Bool.{Bool, true, false, _&&_}
-use lib.Dec.{eqb}
-use Rattle.record.specs.Lists.{eqList}
+use mathlib.Core.Bool.{true}
 use Rattle.record.specs.Tree.{Tree}
 use Rattle.record.specs.Tree.Tree.{Constant, Variable, Unary, Binary}
-use Rattle.semilinear.specs.Form.{Row, Form}
-use Rattle.semilinear.specs.Outcome.{Outcome, accepted, refused, formOutcome}
-use Rattle.semilinear_normalizer.specs.Normalize.{normalizeTree}
 use Rattle.term_refiner.specs.RefineTerms.{refineForm}
 use Rattle.structure_recovery.specs.RecoverStructure.{recoverForm}
 use Rattle.structure_recovery.specs.CoalesceTerms.{coalesceForm}
-use Rattle.structure_recovery.specs.FlattenComplexAtoms.{flattened, flattenForm}
-use Rattle.bit_partitioner.specs.Partition.{partitionsOutcome}
-
--- what a definition gives, and what it should give
-pub record Example : Type 0 where
-  pub got : Outcome
-  pub want : Outcome
-
-unfoldable pub sameOutcome : Outcome → Outcome → Bool
-sameOutcome (accepted l ns) (accepted m ks) = eqList l m && eqList ns ks
-sameOutcome (accepted l ns) (refused k) = false
-sameOutcome (refused n) (accepted m ks) = false
-sameOutcome (refused n) (refused k) = eqb n k
-
-unfoldable pub allHold : List Example → Bool
-allHold [] = true
-allHold (x ∷ l) = sameOutcome (x .got) (x .want) && allHold l
-
--- ---- how the examples are written
-
-abbrev a : Tree
-a = Variable 0
-
-abbrev b : Tree
-b = Variable 1
-
-abbrev mask : Tree → ℕ → Tree
-mask t m = Binary 4 t (Constant m)
-
--- a row: provenance (And 0, Xor 2, Not 3, Mixed 4), tree, coefficient
-abbrev row : ℕ → Tree → ℕ → Row
-row p t c = record { provenance = p; tree = t; coeff = c }
-
-abbrev form : ℕ → ℕ → List Row → Form
-form w c l = record { bitwidth = w; constant = c; rows = l }
-
--- normalising t at w bits gives the constant c and the rows l, or the refusal n
-abbrev normal : ℕ → Tree → ℕ → List Row → Example
-normal w t c l = record { got = normalizeTree w t; want = formOutcome (form w c l) false }
-
-abbrev refusal : ℕ → Tree → ℕ → Example
-refusal w t n = record { got = normalizeTree w t; want = refused n }
-
--- a pass makes the form f of the form e, at 8 bits
-abbrev pass : (Form → Form) → Form → Form → Example
-pass p e f = record { got = formOutcome (p e) false; want = formOutcome f false }
+use Rattle.claims.specs.Example.{Example, a, b, mask, row, form, normal, refusal, pass, flat, columns}
 
 -- ---- the starred puzzles, in document 01's order
 
@@ -82,16 +31,13 @@ starred =
     (form 8 0 (row 0 (mask a 252) 1 ∷ row 0 (mask a 3) 255 ∷ row 0 (mask a 0) 255 ∷ []))
     (form 8 253
     (row 0 (mask a 252) 0 ∷ row 0 (mask a 3) 0 ∷ row 0 (mask a 0) 255 ∷ row 2 (Binary 6 (Constant 3) a) 1 ∷ []))
-    ∷ record {
-      got = partitionsOutcome (form 8 0 (row 0 (mask a 15) 1 ∷ []));
-      want = accepted (15 ∷ 2 ∷ 240 ∷ 0 ∷ []) (2 ∷ []);
-    }
+    ∷ columns (form 8 0 (row 0 (mask a 15) 1 ∷ [])) (15 ∷ 2 ∷ 240 ∷ 0 ∷ []) 2
     ∷ []
 
 -- ---- cases that are easy to get wrong
 
-abbrev vanishing : Form
-vanishing = form 8 7 (row 4 (Binary 4 a (Unary 7 0 a)) 3 ∷ [])
+abbrev a&~a : Tree
+a&~a = Binary 4 a (Unary 7 0 a)
 
 abbrev a^b : Tree
 a^b = Binary 6 a b
@@ -139,8 +85,5 @@ tricky =
     -- a group of one is left alone even at mask 0
     ∷ pass coalesceForm (form 8 0 (row 0 (mask a 0) 1 ∷ [])) (form 8 0 (row 0 (mask a 0) 1 ∷ []))
     -- a & ~a: the term vanishes and the flag is set
-    ∷ record {
-      got = formOutcome (flattenForm vanishing) (flattened vanishing .flag);
-      want = formOutcome (form 8 7 (row 4 (Binary 4 a (Unary 7 0 a)) 0 ∷ [])) true;
-    }
+    ∷ flat (form 8 7 (row 4 a&~a 3 ∷ [])) (form 8 7 (row 4 a&~a 0 ∷ [])) true
     ∷ []

@@ -1,5 +1,10 @@
--- The worked examples of document 01 (starred puzzles), cases that are easy to get wrong, and any list of calls.
+-- The worked examples of document 01 (starred puzzles), cases that are easy to get wrong, at 63 and 64 bits and on
+-- bytes, and any list of calls.
+pub mod Example
 pub mod Examples
+pub mod Slips
+pub mod Wide
+pub mod OnBytes
 pub mod Calls
 pub mod Normalized
 pub mod Atoms

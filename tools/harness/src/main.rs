@@ -79,6 +79,8 @@ mod published;
 mod random;
 mod record;
 mod refusal;
+#[cfg(test)]
+mod slip_tests;
 #[cfg(feature = "library")]
 mod stack;
 #[cfg(test)]

@@ -32,7 +32,8 @@ fn of(mut form: Form, constant: u64, terms: &[(u16, u64)]) -> Form {
     form
 }
 
-fn check(pass: Pass, before: &Form, after: &Form, flag: u64) {
+/// The pass makes `after` of `before`, and returns the flag.
+pub fn check(pass: Pass, before: &Form, after: &Form, flag: u64) {
     let answer = pass::answer(pass, &before.bytes(), RESULT_BYTES);
     assert_eq!([answer.refusal, answer.flag], [0, flag], "{before:?}");
     let wanted = written(after);

@@ -1,0 +1,122 @@
+-- Worked examples on bytes: an expression file or the bytes of a form in, and the bytes, numbers or refusal that the
+-- definitions of the entry points give (w = 8, a is v0, b is v1). Starred puzzles of each kind, document 01's examples
+-- of refusals, and two lists of calls.
+use Prim.Native.Nat.{ℕ}
+use mathlib.Core.List.{List, [], _∷_, _++_}
+use mathlib.Core.Bool.{Bool, true, false}
+use lib.ListN.{replicate}
+use Rattle.record.specs.Tree.{Tree, recordBytes, encode}
+use Rattle.record.specs.Tree.Tree.{Constant, Variable, Unary, Binary}
+use Rattle.semilinear.specs.Form.{Row, Form, atomsBytes, termBytes, sumBytes, encodeForm}
+use Rattle.semilinear.specs.Outcome.{Outcome, accepted, refused, formOutcome}
+use Rattle.semilinear_normalizer.specs.Normalize.{normalizeToSemilinear}
+use Rattle.bit_partitioner.specs.Partition.{computePartitions}
+use Rattle.claims.specs.Calls.{Pass, Call, passGives, useOf, inUse}
+use Rattle.claims.specs.Calls.Pass.{refine-terms, recover-structure, coalesce-terms, flatten-complex-atoms}
+use Rattle.claims.specs.Calls.Pass.{compact-atom-table}
+use Rattle.claims.specs.Example.{Example, a, b, mask, row, term, form}
+
+-- the length of a result slice, and one less
+abbrev whole : ℕ
+whole = 57360
+
+abbrev short : ℕ
+short = 57359
+
+-- the bytes of t at 8 bits are normalised to those of the form f, or refused by n
+abbrev normalizes : Tree → Form → Example
+normalizes t f = record { got = normalizeToSemilinear (encode 8 t) whole; want = formOutcome f false }
+
+abbrev refuses : List ℕ → ℕ → ℕ → Example
+refuses s len n = record { got = normalizeToSemilinear s len; want = refused n }
+
+-- the pass p makes the bytes of f of those of e, and returns the flag; or refuses the bytes s by n
+abbrev makes : Pass → Form → Form → Bool → Example
+makes p e f flag = record { got = passGives p (encodeForm e) whole; want = formOutcome f flag }
+
+abbrev stops : Pass → List ℕ → ℕ → ℕ → Example
+stops p s len n = record { got = passGives p s len; want = refused n }
+
+-- 8 bits and the constant 0
+abbrev sheet : List Row → Form
+sheet l = form 8 0 l
+
+abbrev xor : ℕ → ℕ → Row
+xor m c = row 2 (Binary 6 (Constant m) a) c
+
+unfoldable pub onBytes : List Example
+onBytes =
+    -- the starred puzzles of normalising, refining, recovering and the columns
+    normalizes (Binary 6 a (Constant 15)) (form 8 15 (row 4 a 1 ∷ term 15 254 ∷ []))
+    ∷ makes refine-terms (sheet (term 255 16 ∷ [])) (sheet (term 255 0 ∷ term 15 16 ∷ [])) false
+    ∷ makes refine-terms (sheet (term 15 1 ∷ term 240 1 ∷ [])) (sheet (term 15 0 ∷ term 240 0 ∷ row 0 a 1 ∷ [])) false
+    ∷ makes recover-structure (sheet (term 252 1 ∷ term 3 255 ∷ term 0 255 ∷ []))
+    (form 8 253 (term 252 0 ∷ term 3 0 ∷ term 0 255 ∷ xor 3 1 ∷ [])) false
+    ∷ record {
+      got = computePartitions (encodeForm (sheet (term 15 1 ∷ []))) 16448;
+      want = accepted (15 ∷ 2 ∷ 240 ∷ 0 ∷ []) (2 ∷ []);
+    }
+    -- coalescing, flattening with its flag, and compaction, which numbers the atoms anew
+    ∷ makes coalesce-terms (sheet (term 15 1 ∷ term 240 1 ∷ [])) (sheet (term 15 0 ∷ term 240 0 ∷ row 4 a 1 ∷ [])) false
+    ∷ makes flatten-complex-atoms (form 8 7 (row 3 (Unary 7 0 b) 3 ∷ []))
+    (form 8 4 (row 3 (Unary 7 0 b) 0 ∷ row 0 b 253 ∷ [])) true
+    ∷ makes compact-atom-table (form 8 9 (term 15 0 ∷ row 4 b 2 ∷ term 240 0 ∷ xor 3 1 ∷ []))
+    (form 8 9 (row 4 b 2 ∷ xor 3 1 ∷ [])) false
+    ∷ []
+
+-- 15 bytes; and a form that is none: its term has the coefficient 0
+abbrev fifteen : List ℕ
+fifteen = replicate 15 0
+
+abbrev none : List ℕ
+none = (atomsBytes 8 (term 15 1 ∷ []) ++ termBytes 8 0 0) ++ sumBytes 8 0
+
+unfoldable pub refusals : List Example
+refusals =
+    -- 1, also where the slice has another length too; 2, also where the file is refused by 3 too
+    refuses fifteen short 1
+    ∷ refuses (recordBytes 2 0 1 8 0) short 2
+    -- one Add of size 1; one literal of width 65; Trunc of v0; v0 >> 64
+    ∷ refuses (recordBytes 2 0 1 8 0) whole 3
+    ∷ refuses (encode 65 (Constant 0)) whole 4
+    ∷ refuses (encode 8 (Unary 12 4 a)) whole 5
+    ∷ refuses (encode 8 (Unary 9 64 a)) whole 6
+    -- 3 & (1 + 2); v0 × v1
+    ∷ refuses (encode 8 (Binary 4 (Constant 3) (Binary 2 (Constant 1) (Constant 2)))) whole 7
+    ∷ refuses (encode 8 (Binary 3 a b)) whole 8
+    -- a pass: 1 before 2, 2 before 10, and 10
+    ∷ stops refine-terms fifteen short 1
+    ∷ stops recover-structure none short 2
+    ∷ stops coalesce-terms none whole 10
+    ∷ []
+
+-- ---- any list of calls
+
+-- 128 · (a & 15) + 128 · (a & 240), and the bytes that normalising gives for it
+abbrev expression : Tree
+expression =
+    Binary 2 (Binary 3 (Constant 128) (mask a 15)) (Binary 3 (Constant 128) (mask a 240))
+
+abbrev start : List ℕ
+start = useOf [] (normalizeToSemilinear (encode 8 expression) whole)
+
+-- a pass, then a compaction that is refused for the length of its slice, then another pass
+abbrev calls : Pass → Pass → List Call
+calls p q =
+    record { pass = p; len = whole } ∷ record { pass = compact-atom-table; len = short }
+    ∷ record { pass = q; len = whole } ∷ []
+
+-- the bytes in use after the calls are those of f
+abbrev leaves : List Call → Form → Example
+leaves l f = record { got = accepted (inUse l start) []; want = accepted (encodeForm f) [] }
+
+-- refining and recovering in the two orders give forms of one value and of unlike bytes; a refused call that had its
+-- way would take the atoms without a term, one whose zeros were taken would leave no form
+unfoldable pub orders : List Example
+orders =
+    leaves [] (sheet (term 15 128 ∷ term 240 128 ∷ []))
+    ∷ leaves (calls refine-terms recover-structure)
+    (sheet (term 15 0 ∷ term 240 0 ∷ term 1 128 ∷ term 0 0 ∷ []))
+    ∷ leaves (calls recover-structure refine-terms)
+    (form 8 128 (term 15 0 ∷ term 240 0 ∷ xor 15 128 ∷ []))
+    ∷ []
