@@ -45,9 +45,11 @@ slips =
     -- recovering: an entry whose mask became the full one is not found by the mask 0
     ∷ pass recoverForm (form 8 0 (term 15 3 ∷ term 0 2 ∷ term 240 1 ∷ []))
     (form 8 0 (term 15 2 ∷ term 0 2 ∷ term 240 0 ∷ row 4 a 1 ∷ []))
-    -- coalescing: by rising coefficient, not by place; a masked atom is made though the table has it; a mask 0 counts
+    -- coalescing: by rising coefficient, not by place; a masked atom is made though the table has it
     ∷ coalesces (term 1 2 ∷ term 2 2 ∷ term 4 1 ∷ term 0 1 ∷ [])
     (term 1 0 ∷ term 2 0 ∷ term 4 0 ∷ term 0 0 ∷ term 4 1 ∷ term 3 2 ∷ [])
+    -- a term of mask 0 counts as an entry
+    ∷ coalesces (term 3 1 ∷ term 0 2 ∷ []) (term 3 0 ∷ term 0 0 ∷ term 3 1 ∷ [])
     -- as many coefficients as entries: nothing is done
     ∷ coalesces (term 3 1 ∷ term 2 1 ∷ []) (term 3 1 ∷ term 2 1 ∷ [])
     -- the basis must be a variable

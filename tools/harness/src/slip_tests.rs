@@ -81,6 +81,11 @@ fn coalesced() {
             low(3, 2),
         ],
     );
+    becomes(
+        Pass::Coalesce,
+        &[low(3, 1), low(0, 2)],
+        &[low(3, 0), low(0, 0), low(3, 1)],
+    );
     let two = [low(3, 1), low(2, 1)];
     becomes(Pass::Coalesce, &two, &two);
     let both = |mask: u64| (FROM_AND, and(binary(XOR, a(), b()), mask), 1);
