@@ -1,7 +1,7 @@
 -- The worked examples hold, by computing.
 use mathlib.Core.Path.{_≡_, refl}
 use mathlib.Core.Bool.{true}
-use lib.Count.{trailingZeros, ones, onesIn}
+use lib.Count.{trailingZeros, onesIn}
 use Rattle.arith.specs.Bit.{bitAt}
 use Rattle.arith.specs.Effective.{effectiveMask, reduceMask, canChangeCoefficientTo}
 use Rattle.arith.specs.Width.{bitmask, modAdd, modSub, modMul, modNeg}
@@ -16,11 +16,12 @@ use Rattle.truth.specs.Truth.{hasShift, bitBinary, bitOf, rowBits, tableF, tabl
 use Rattle.semilinear.specs.Decompose.{decomposeAnd, decomposeAtom}
 use Rattle.semilinear.specs.Form.{termCount, atomBytes, atomsBytes, termBytes, termsBytes, sumBytes, encodeForm}
 use Rattle.semilinear.specs.Form.{eqTree, treeRecords, fitsTable}
-use Rattle.group.specs.Group.{at, putEntry, emptyGroup, pushEntry, isLive, consumed, work, createRow, maskedTree}
-use Rattle.group.specs.Group.{createMasked, viewRow, anyBasis, variableBasis, insertBasis, basesOf, groupOf}
+use Rattle.group.specs.Group.{at, putEntry, emptyGroup, pushEntry, isLive, consumed, work, onGroup, createRow}
+use Rattle.group.specs.Group.{maskedTree, createMasked, viewRow, anyBasis, variableBasis, insertBasis, basesOf, groupOf}
 use Rattle.group.specs.Group.{ungrouped, addCoeff, settleAt, settle}
 use Rattle.record.specs.Loop.{turnsF, forIn, firstF, firstIn}
 use Rattle.semilinear.specs.Outcome.{formOutcome}
+use Rattle.semilinear.specs.PassOutcome.{limitOutcome}
 use Rattle.semilinear_normalizer.specs.Collect.{joinCollected, collectAtom, collectConstant, isNot, operand}
 use Rattle.semilinear_normalizer.specs.Collect.{collectNot, isMaskedNot, collectAnd, andCoeff, collectMasked}
 use Rattle.semilinear_normalizer.specs.Collect.{collectTerms}
@@ -30,10 +31,11 @@ use Rattle.semilinear_normalizer.specs.Register.{firstRow, hasTree, sharedRow, 
 use Rattle.group.specs.Collapse.{thirdFits, findThird, secondFits, findSecond, firstFits, findFirst}
 use Rattle.group.specs.Collapse.{collapseAt, threeTermCollapse}
 use Rattle.term_refiner.specs.RefineTerms.{refineGroup, refineAll, refineForm}
-use Rattle.group.specs.Steps.{remasked, cutAt, cutMasks, dropAt, dropZero, joinAt, slotFits, placeAt, leastAt}
-use Rattle.group.specs.Steps.{leastCoeff, sweepTurn, bucketMerge, pairAt, pairMerge, negateAt, toMinusOne}
-use Rattle.structure_recovery.specs.CoalesceTerms.{bitCoeffAt, bitCoeff, carry, carryAt, carriedOf, carriedRows}
-use Rattle.structure_recovery.specs.CoalesceTerms.{coalesceGroup, coalesceAll, coalesceForm}
+use Rattle.group.specs.Steps.{remasked, cutAt, cutMasks, dropAt, dropZero, joinAt, slotFits, placeAt}
+use Rattle.group.specs.Steps.{placeBucket, insertKey, keyAt, bucketKeys, placeBuckets, bucketMerge, pairAt, pairMerge}
+use Rattle.group.specs.Steps.{minusOneAt, toMinusOne}
+use Rattle.structure_recovery.specs.Carried.{bitCoeffAt, bitCoeff, carry, carryAt, carriedOf}
+use Rattle.structure_recovery.specs.CoalesceTerms.{carriedRows, coalesceGroup, coalesceAll, coalesceForm}
 use Rattle.structure_recovery.specs.FlattenComplexAtoms.{isPlain, isComplex, atZero, atOnes, flatRow, flattenRow}
 use Rattle.structure_recovery.specs.FlattenComplexAtoms.{flattenRows, keptRows, flattened, flattenForm}
 use Rattle.structure_recovery.specs.RecoverStructure.{rowWith, withBare, recoverXor, eliminateMask, recoverPair}
@@ -44,38 +46,38 @@ use Rattle.bit_partitioner.specs.Partition.{classesOf, classWords, partitionsOu
 use Rattle.claims.specs.Examples.{sameOutcome, allHold, starred, tricky}
 
 starred-hold : allHold starred ≡ true
-unfolding trailingZeros ones onesIn bitAt effectiveMask reduceMask canChangeCoefficientTo bitmask modAdd modSub
+unfolding trailingZeros onesIn bitAt effectiveMask reduceMask canChangeCoefficientTo bitmask modAdd modSub
     modMul modNeg eqList sizeOf recordBytes encode mixHash tagHash varHash structuralHash hasKind isArith isBitwise
     hasArith hasConstantArith unary binary value nextVar supportF support sameVars decomposeAnd decomposeAtom
     termCount atomBytes atomsBytes termBytes termsBytes sumBytes encodeForm eqTree treeRecords fitsTable at putEntry
-    emptyGroup pushEntry isLive consumed work createRow maskedTree createMasked viewRow anyBasis variableBasis
-    insertBasis basesOf groupOf ungrouped addCoeff settleAt settle turnsF forIn firstF firstIn formOutcome
+    emptyGroup pushEntry isLive consumed work onGroup createRow maskedTree createMasked viewRow anyBasis variableBasis
+    insertBasis basesOf groupOf ungrouped addCoeff settleAt settle turnsF forIn firstF firstIn formOutcome limitOutcome
     joinCollected collectAtom collectConstant isNot operand collectNot isMaskedNot collectAnd andCoeff collectMasked
     collectTerms collectedForm collectedOutcome normalizeTree familyOf detectProvenance isPure sameTable sameSlot
     newestRow firstRow hasTree sharedRow addRow registerAtom registerAll hasShift bitBinary bitOf rowBits tableF
     table thirdFits findThird secondFits findSecond firstFits findFirst collapseAt threeTermCollapse refineGroup
-    refineAll refineForm remasked cutAt cutMasks dropAt dropZero joinAt slotFits placeAt leastAt leastCoeff
-    sweepTurn bucketMerge pairAt pairMerge negateAt toMinusOne bitCoeffAt bitCoeff carry carryAt carriedOf
-    carriedRows coalesceGroup coalesceAll coalesceForm isPlain isComplex atZero atOnes flatRow flattenRow
+    refineAll refineForm remasked cutAt cutMasks dropAt dropZero joinAt slotFits placeAt placeBucket insertKey keyAt
+    bucketKeys placeBuckets bucketMerge pairAt pairMerge minusOneAt toMinusOne bitCoeffAt bitCoeff carry carryAt
+    carriedOf carriedRows coalesceGroup coalesceAll coalesceForm isPlain isComplex atZero atOnes flatRow flattenRow
     flattenRows keptRows flattened flattenForm rowWith withBare recoverXor eliminateMask recoverPair isPartner
     partnerOf recoverAt recoverGroup recoverAll recoverForm isOpaque opaqueWord profileWord profileFrom joinClass
     classesF classesOf classWords partitionsOutcome sameOutcome allHold starred
 starred-hold = refl
 
 tricky-hold : allHold tricky ≡ true
-unfolding trailingZeros ones onesIn bitAt effectiveMask reduceMask canChangeCoefficientTo bitmask modAdd modSub
+unfolding trailingZeros onesIn bitAt effectiveMask reduceMask canChangeCoefficientTo bitmask modAdd modSub
     modMul modNeg eqList sizeOf recordBytes encode mixHash tagHash varHash structuralHash hasKind isArith isBitwise
     hasArith hasConstantArith unary binary value nextVar supportF support sameVars decomposeAnd decomposeAtom
     termCount atomBytes atomsBytes termBytes termsBytes sumBytes encodeForm eqTree treeRecords fitsTable at putEntry
-    emptyGroup pushEntry isLive consumed work createRow maskedTree createMasked viewRow anyBasis variableBasis
-    insertBasis basesOf groupOf ungrouped addCoeff settleAt settle turnsF forIn firstF firstIn formOutcome
+    emptyGroup pushEntry isLive consumed work onGroup createRow maskedTree createMasked viewRow anyBasis variableBasis
+    insertBasis basesOf groupOf ungrouped addCoeff settleAt settle turnsF forIn firstF firstIn formOutcome limitOutcome
     joinCollected collectAtom collectConstant isNot operand collectNot isMaskedNot collectAnd andCoeff collectMasked
     collectTerms collectedForm collectedOutcome normalizeTree familyOf detectProvenance isPure sameTable sameSlot
     newestRow firstRow hasTree sharedRow addRow registerAtom registerAll hasShift bitBinary bitOf rowBits tableF
     table thirdFits findThird secondFits findSecond firstFits findFirst collapseAt threeTermCollapse refineGroup
-    refineAll refineForm remasked cutAt cutMasks dropAt dropZero joinAt slotFits placeAt leastAt leastCoeff
-    sweepTurn bucketMerge pairAt pairMerge negateAt toMinusOne bitCoeffAt bitCoeff carry carryAt carriedOf
-    carriedRows coalesceGroup coalesceAll coalesceForm isPlain isComplex atZero atOnes flatRow flattenRow
+    refineAll refineForm remasked cutAt cutMasks dropAt dropZero joinAt slotFits placeAt placeBucket insertKey keyAt
+    bucketKeys placeBuckets bucketMerge pairAt pairMerge minusOneAt toMinusOne bitCoeffAt bitCoeff carry carryAt
+    carriedOf carriedRows coalesceGroup coalesceAll coalesceForm isPlain isComplex atZero atOnes flatRow flattenRow
     flattenRows keptRows flattened flattenForm rowWith withBare recoverXor eliminateMask recoverPair isPartner
     partnerOf recoverAt recoverGroup recoverAll recoverForm isOpaque opaqueWord profileWord profileFrom joinClass
     classesF classesOf classWords partitionsOutcome sameOutcome allHold tricky

@@ -56,7 +56,7 @@ normal w t c l = record { got = normalizeTree w t; want = formOutcome (form w c 
 abbrev refusal : ℕ → Tree → ℕ → Example
 refusal w t n = record { got = normalizeTree w t; want = refused n }
 
--- a pass makes the form f of the form e, at 8 bits
+-- a pass makes the form f of the form e
 abbrev pass : (Form → Form) → Form → Form → Example
 pass p e f = record { got = formOutcome (p e) false; want = formOutcome f false }
 
@@ -143,4 +143,14 @@ tricky =
       got = formOutcome (flattenForm vanishing) (flattened vanishing .flag);
       want = formOutcome (form 8 7 (row 4 (Binary 4 a (Unary 7 0 a)) 0 ∷ [])) true;
     }
+    -- the mask of fewer ones is the literal: the second entry's at 64 bits, the first's at 63
+    ∷ pass recoverForm
+    (form 64 0 (row 0 (mask a 18446744073709551612) 1 ∷ row 0 (mask a 3) 18446744073709551615 ∷ []))
+    (form 64 18446744073709551613
+    (row 0 (mask a 18446744073709551612) 0 ∷ row 0 (mask a 3) 0 ∷ row 2 (Binary 6 (Constant 3) a) 1 ∷ []))
+    ∷ pass recoverForm
+    (form 63 0 (row 0 (mask a 5) 3 ∷ row 0 (mask a 9223372036854775802) 9223372036854775805 ∷ []))
+    (form 63 15
+    (row 0 (mask a 5) 0 ∷ row 0 (mask a 9223372036854775802) 0
+    ∷ row 2 (Binary 6 (Constant 5) a) 9223372036854775805 ∷ []))
     ∷ []
