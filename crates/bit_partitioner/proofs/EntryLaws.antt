@@ -16,7 +16,7 @@ use Rattle.semilinear.specs.Items.{atomCount, afterAtoms}
 use Rattle.semilinear.specs.Valid.{isSemilinear}
 use Rattle.semilinear.specs.DecodeForm.{decodeForm}
 use Rattle.semilinear.specs.Outcome.{Outcome, refusalOf, numbersOf, writtenOf, Gives}
-use Rattle.semilinear.specs.Compact.{openOutcome}
+use Rattle.semilinear.specs.PassOutcome.{openOutcome}
 use Rattle.semilinear.proofs.ValidLaws.{semilinear-parts}
 use Rattle.semilinear.proofs.AcceptLaws.{form-valid}
 use Rattle.semilinear.proofs.ReadLaws.{Opened, Read, read-given, read-refused, read-cases, opened, shut, open-zeros}

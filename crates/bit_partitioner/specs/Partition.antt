@@ -13,7 +13,7 @@ use Rattle.expr.specs.Vars.{support}
 use Rattle.truth.specs.Truth.{hasShift, table}
 use Rattle.semilinear.specs.Form.{Row, Form}
 use Rattle.semilinear.specs.Outcome.{Outcome, accepted}
-use Rattle.semilinear.specs.Compact.{readOutcome}
+use Rattle.semilinear.specs.PassOutcome.{readOutcome}
 
 -- the most variables of an atom whose profile word is its table
 abbrev pub columnVars : ℕ

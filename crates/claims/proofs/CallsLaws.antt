@@ -9,7 +9,8 @@ use Rattle.expr.specs.ExprValue.{exprValue}
 use Rattle.semilinear.specs.Form.{Form, encodeForm, validForm}
 use Rattle.semilinear.specs.Outcome.{Outcome, accepted, refused, formOutcome}
 use Rattle.semilinear.specs.Value.{semilinearValue}
-use Rattle.semilinear.specs.Compact.{limitOutcome, compactAtomTable}
+use Rattle.semilinear.specs.Compact.{compactAtomTable}
+use Rattle.semilinear.specs.PassOutcome.{limitOutcome}
 use Rattle.semilinear.proofs.FormLaws.{form-not-refused}
 use Rattle.semilinear.proofs.PassLaws.{pass-slice}
 use Rattle.semilinear.proofs.ValueLaws.{encoded-value}

@@ -1,7 +1,7 @@
 -- The worked examples hold, by computing.
 use mathlib.Core.Path.{_≡_, refl}
 use mathlib.Core.Bool.{true}
-use lib.Count.{trailingZeros, ones, onesIn}
+use lib.Count.{trailingZeros, onesIn}
 use Rattle.arith.specs.Bit.{bitAt}
 use Rattle.arith.specs.Effective.{effectiveMask, reduceMask, canChangeCoefficientTo}
 use Rattle.arith.specs.Width.{bitmask, modAdd, modSub, modMul, modNeg}
@@ -25,12 +25,13 @@ use Rattle.semilinear.specs.Items.{atomLength, isAtom, treeSpan, afterAtom, ato
 use Rattle.semilinear.specs.Valid.{atomTreeOk, treeOk, atomOk, termOk, termsOkF, termsOk, sumOk, frontOk}
 use Rattle.semilinear.specs.Valid.{isSemilinear, lengthRefused}
 use Rattle.semilinear.specs.DecodeForm.{hasTerm, coeffAt, afterTerm, rowAt, rowsF, rowsOf, decodeForm}
-use Rattle.semilinear.specs.Compact.{usedRows, compactForm, passOutcome, limitOutcome, compactAtomTable}
-use Rattle.group.specs.Group.{at, putEntry, emptyGroup, pushEntry, isLive, consumed, work, createRow, maskedTree}
-use Rattle.group.specs.Group.{createMasked, viewRow, anyBasis, variableBasis, insertBasis, basesOf, groupOf}
+use Rattle.semilinear.specs.Compact.{usedRows, compactForm, compactAtomTable}
+use Rattle.group.specs.Group.{at, putEntry, emptyGroup, pushEntry, isLive, consumed, work, onGroup, createRow}
+use Rattle.group.specs.Group.{maskedTree, createMasked, viewRow, anyBasis, variableBasis, insertBasis, basesOf, groupOf}
 use Rattle.group.specs.Group.{ungrouped, addCoeff, settleAt, settle}
 use Rattle.record.specs.Loop.{turnsF, forIn, firstF, firstIn}
 use Rattle.semilinear.specs.Outcome.{formOutcome}
+use Rattle.semilinear.specs.PassOutcome.{passOutcome, limitOutcome}
 use Rattle.semilinear_normalizer.specs.Collect.{joinCollected, collectAtom, collectConstant, isNot, operand}
 use Rattle.semilinear_normalizer.specs.Collect.{collectNot, isMaskedNot, collectAnd, andCoeff, collectMasked}
 use Rattle.semilinear_normalizer.specs.Collect.{collectTerms}
@@ -40,10 +41,11 @@ use Rattle.semilinear_normalizer.specs.Register.{firstRow, hasTree, sharedRow, 
 use Rattle.group.specs.Collapse.{thirdFits, findThird, secondFits, findSecond, firstFits, findFirst}
 use Rattle.group.specs.Collapse.{collapseAt, threeTermCollapse}
 use Rattle.term_refiner.specs.RefineTerms.{refineGroup, refineAll, refineForm, refineTerms}
-use Rattle.group.specs.Steps.{remasked, cutAt, cutMasks, dropAt, dropZero, joinAt, slotFits, placeAt, leastAt}
-use Rattle.group.specs.Steps.{leastCoeff, sweepTurn, bucketMerge, pairAt, pairMerge, negateAt, toMinusOne}
-use Rattle.structure_recovery.specs.CoalesceTerms.{bitCoeffAt, bitCoeff, carry, carryAt, carriedOf, carriedRows}
-use Rattle.structure_recovery.specs.CoalesceTerms.{coalesceGroup, coalesceAll, coalesceForm, coalesceTerms}
+use Rattle.group.specs.Steps.{remasked, cutAt, cutMasks, dropAt, dropZero, joinAt, slotFits, placeAt}
+use Rattle.group.specs.Steps.{placeBucket, insertKey, keyAt, bucketKeys, placeBuckets, bucketMerge, pairAt, pairMerge}
+use Rattle.group.specs.Steps.{minusOneAt, toMinusOne}
+use Rattle.structure_recovery.specs.Carried.{bitCoeffAt, bitCoeff, carry, carryAt, carriedOf}
+use Rattle.structure_recovery.specs.CoalesceTerms.{carriedRows, coalesceGroup, coalesceAll, coalesceForm, coalesceTerms}
 use Rattle.structure_recovery.specs.FlattenComplexAtoms.{isPlain, isComplex, atZero, atOnes, flatRow, flattenRow}
 use Rattle.structure_recovery.specs.FlattenComplexAtoms.{flattenRows, keptRows, flattened, flattenForm}
 use Rattle.structure_recovery.specs.FlattenComplexAtoms.{flattenComplexAtoms}
@@ -61,19 +63,19 @@ use Rattle.claims.specs.OnBytes.{onBytes, refusals, orders}
 
 -- all that computing an example opens
 opened : Unit {0}
-unfolding trailingZeros ones onesIn bitAt effectiveMask reduceMask canChangeCoefficientTo bitmask modAdd modSub
+unfolding trailingZeros onesIn bitAt effectiveMask reduceMask canChangeCoefficientTo bitmask modAdd modSub
     modMul modNeg eqList sizeOf recordBytes encode mixHash tagHash varHash structuralHash hasKind isArith isBitwise
     hasArith hasConstantArith unary binary value nextVar supportF support sameVars decomposeAnd decomposeAtom
     termCount atomBytes atomsBytes termBytes termsBytes sumBytes encodeForm eqTree treeRecords fitsTable at putEntry
-    emptyGroup pushEntry isLive consumed work createRow maskedTree createMasked viewRow anyBasis variableBasis
-    insertBasis basesOf groupOf ungrouped addCoeff settleAt settle turnsF forIn firstF firstIn formOutcome
+    emptyGroup pushEntry isLive consumed work onGroup createRow maskedTree createMasked viewRow anyBasis variableBasis
+    insertBasis basesOf groupOf ungrouped addCoeff settleAt settle turnsF forIn firstF firstIn formOutcome limitOutcome
     joinCollected collectAtom collectConstant isNot operand collectNot isMaskedNot collectAnd andCoeff collectMasked
     collectTerms collectedForm collectedOutcome normalizeTree familyOf detectProvenance isPure sameTable sameSlot
     newestRow firstRow hasTree sharedRow addRow registerAtom registerAll hasShift bitBinary bitOf rowBits tableF
     table thirdFits findThird secondFits findSecond firstFits findFirst collapseAt threeTermCollapse refineGroup
-    refineAll refineForm remasked cutAt cutMasks dropAt dropZero joinAt slotFits placeAt leastAt leastCoeff
-    sweepTurn bucketMerge pairAt pairMerge negateAt toMinusOne bitCoeffAt bitCoeff carry carryAt carriedOf
-    carriedRows coalesceGroup coalesceAll coalesceForm isPlain isComplex atZero atOnes flatRow flattenRow
+    refineAll refineForm remasked cutAt cutMasks dropAt dropZero joinAt slotFits placeAt placeBucket insertKey keyAt
+    bucketKeys placeBuckets bucketMerge pairAt pairMerge minusOneAt toMinusOne bitCoeffAt bitCoeff carry carryAt
+    carriedOf carriedRows coalesceGroup coalesceAll coalesceForm isPlain isComplex atZero atOnes flatRow flattenRow
     flattenRows keptRows flattened flattenForm rowWith withBare recoverXor eliminateMask recoverPair isPartner
     partnerOf recoverAt recoverGroup recoverAll recoverForm isOpaque opaqueWord profileWord profileFrom joinClass
     classesF classesOf classWords partitionsOutcome
@@ -102,7 +104,7 @@ unfolding opened u16 u32 u64 kind byte1 varIndex amount size width spare literal
     fold leaf lowest usesByte1 fieldsOk sizeOk formOk widthOk rootRefusal exprRefusal frontKind provenance frontNumber
     frontWidth frontSpare frontWord atomLength isAtom treeSpan afterAtom atomsF foldAtoms isTerm atomTreeOk treeOk
     atomOk termOk termsOkF termsOk sumOk frontOk isSemilinear lengthRefused hasTerm coeffAt afterTerm rowAt rowsF
-    rowsOf decodeForm usedRows compactForm passOutcome limitOutcome compactAtomTable normalizeToSemilinear
+    rowsOf decodeForm usedRows compactForm passOutcome compactAtomTable normalizeToSemilinear
     refineTerms coalesceTerms flattenComplexAtoms recoverStructure computePartitions passGives useOf afterCall inUse
 openedBytes = tt
 

@@ -48,6 +48,9 @@ widePasses w top high =
     -- recovering: a mask of w bits and its complement
     ∷ pass recoverForm (form w 0 (term 15 3 ∷ term (top - 15) 1 ∷ []))
     (form w 0 (term 15 2 ∷ term (top - 15) 0 ∷ row 4 a 1 ∷ []))
+    -- the mask of fewer ones becomes the literal of an Xor
+    ∷ pass recoverForm (form w 0 (term (top - 15) 1 ∷ term 15 top ∷ []))
+    (form w (top - 14) (term (top - 15) 0 ∷ term 15 0 ∷ row 2 (Binary 6 (Constant 15) a) 1 ∷ []))
     -- flattening: every bit is inverted, by a literal that is cut at 63 bits; the constant is 3 · (2 ^ w - 1)
     ∷ flat (form w 0 (row 2 inverted 3 ∷ [])) (form w (top - 2) (row 2 inverted 0 ∷ row 0 a (top - 2) ∷ [])) true
     -- columns: the highest place is in a class of its own; a literal's bit 63 counts at 64 bits alone

@@ -11,7 +11,7 @@ use Rattle.record.specs.Tree.{Tree}
 use Rattle.expr.specs.Value.{value}
 use Rattle.group.specs.declared.Group.{Group}
 use Rattle.semilinear.specs.Form.{Row, rowsOk}
-use Rattle.semilinear.specs.Decompose.{Decomposed, opaque, masked}
+use Rattle.semilinear.specs.Decompose.{Decomposed, noBasis, masked}
 use Rattle.group.specs.Group.{viewRow, ungrouped}
 use Rattle.semilinear.proofs.HoldsLaws.{bareRows}
 use Rattle.semilinear.proofs.FormLaws.{Good, good-row, rows-cons}
@@ -62,7 +62,7 @@ module _ (only : Tree → Bool) (w : ℕ) where
   head x l = go (viewRow only w x) refl
     where
       go : (d : Decomposed) → viewRow only w x ≡ d → Head x l
-      go opaque e = record { first = x; rest = simp e; tree-same = refl; bare-same = refl; good = λ g. g }
+      go noBasis e = record { first = x; rest = simp e; tree-same = refl; bare-same = refl; good = λ g. g }
       go (masked b m) e =
           record {
             first = bare x;

@@ -19,9 +19,9 @@ use Rattle.group.specs.Views.{viewAt, basisBytes, blankRow, Views, hasBa
 use Rattle.group.specs.Gathered.{gatherAt, gathered}
 use Rattle.group.proofs.EntryLaws.{Sized, sized-push, sized-empty, at-push, at-push-other}
 use Rattle.group.proofs.TotalLaws.{len-push}
-use Rattle.group.proofs.GroupOfLaws.{group-opaque, group-same, group-other}
-use Rattle.group.proofs.ViewsLaws.{row-opaque, row-masked}
-use Rattle.group.proofs.HasBasisLaws.{basis-opaque, basis-tree}
+use Rattle.group.proofs.GroupOfLaws.{group-no-basis, group-same, group-other}
+use Rattle.group.proofs.ViewsLaws.{row-no-basis, row-masked}
+use Rattle.group.proofs.HasBasisLaws.{basis-ungrouped, basis-tree}
 use Rattle.group.proofs.FirstRowsLaws.{rows-loop}
 
 module _ (f views : List ℕ) (hash : ℕ) (b : List ℕ) where
@@ -121,9 +121,9 @@ module _ (f views : List ℕ) (hash : ℕ) (b : List ℕ) where
             → groupOf only w (decode b) k (getD rows k blankRow ∷ l) g
             ≡ groupOf only w (decode b) (k + 1) l (gatherAt f views hash b k g)
         go (yes z) y e =
-            group-opaque only w (decode b) k x l g (row-opaque only w f (viewAt views k) x (h .each k lt) z)
+            group-no-basis only w (decode b) k x l g (row-no-basis only w f (viewAt views k) x (h .each k lt) z)
             ∙ ap (groupOf only w (decode b) (k + 1) l)
-            (sym (gather-same k g (basis-opaque f (viewAt views k) hash b z)))
+            (sym (gather-same k g (basis-ungrouped f (viewAt views k) hash b z)))
         go (no n) true e =
             let same = basis-tree f (viewAt views k) hash b w (h .each k lt .in-group n) o n in
             group-same only w (decode b) k x l g (row-masked only w f (viewAt views k) x (h .each k lt) n) e

@@ -12,7 +12,7 @@ use Rattle.expr.specs.Refusal.{isExpr}
 use Rattle.expr.specs.Value.{value}
 use Rattle.group.specs.declared.Group.{Group}
 use Rattle.semilinear.specs.Form.{Row, eqTree, rowsOk}
-use Rattle.semilinear.specs.Decompose.{Decomposed, opaque, masked}
+use Rattle.semilinear.specs.Decompose.{Decomposed, noBasis, masked}
 use Rattle.group.specs.Group.{Entry, at, emptyGroup, pushEntry, viewRow, groupOf}
 use Rattle.semilinear.proofs.FormLaws.{Good, rows-cons}
 use Rattle.semilinear.proofs.AtomLaws.{tree-atom, eq-of-eq-tree}
@@ -20,7 +20,7 @@ use Rattle.group.proofs.ViewLaws.{View, Seen, seen-row}
 use Rattle.group.proofs.EntryLaws.{Sized, sized-push, sized-empty, at-push, at-push-other}
 use Rattle.group.proofs.TotalLaws.{total, len-push, total-push, total-empty}
 use Rattle.group.proofs.WorkLaws.{rowValue}
-use Rattle.group.proofs.GroupsLaws.{shareOf, basisSum}
+use Rattle.group.proofs.GroupsLaws.{shareOf, basisSum, termValue}
 
 -- an entry as it comes from a row
 pub record Fresh (w : ℕ) (vars : List ℕ) (b : Tree) (rows : List Row) (e : Entry) : Type 0 where
@@ -42,10 +42,10 @@ record Tail (w : ℕ) (vars : List ℕ) (rows : List Row) (i : ℕ) (l : List Ro
 
 -- a row of no basis, of this one and of another
 module _ (only : Tree → Bool) (w : ℕ) (b : Tree) where
-  pub group-opaque : (i : ℕ) (x : Row) (l : List Row) (g : Group) → viewRow only w x ≡ opaque
+  pub group-no-basis : (i : ℕ) (x : Row) (l : List Row) (g : Group) → viewRow only w x ≡ noBasis
       → groupOf only w b i (x ∷ l) g ≡ groupOf only w b (i + 1) l g
   unfolding groupOf
-  group-opaque i x l g e = simp e
+  group-no-basis i x l g e = simp e
 
   pub group-same : (i : ℕ) (x : Row) (l : List Row) (g : Group) {c : Tree} {m : ℕ} → viewRow only w x ≡ masked c m
       → eqTree w c b ≡ true → groupOf only w b i (x ∷ l) g ≡ groupOf only w b (i + 1) l (pushEntry g (x .coeff) m i)
@@ -72,25 +72,25 @@ module _ (only : Tree → Bool) (w : ℕ) (vars : List ℕ) (b : Tree) (eb : isE
   unfolding rowValue
   tail-head i x l t = ap (rowValue w vars rows) (let e : i ≡ i + 0 = omega arith in e) ∙ t .valued 0
 
-  sum-opaque : (x : Row) (l : List Row) → viewRow only w x ≡ opaque
-      → basisSum only w vars b (x ∷ l) ≡ basisSum only w vars b l
+  sum-no-basis : (x : Row) (l : List Row) → viewRow only w x ≡ noBasis
+      → basisSum only w (termValue w vars) b (x ∷ l) ≡ basisSum only w (termValue w vars) b l
   unfolding basisSum shareOf
-  sum-opaque x l e = simp e (omega arith)
+  sum-no-basis x l e = simp e (omega arith)
 
   sum-same : (x : Row) (l : List Row) {c : Tree} {m : ℕ} → viewRow only w x ≡ masked c m → eqTree w c b ≡ true
-      → basisSum only w vars b (x ∷ l) ≡ x .coeff * value w vars (x .tree) + basisSum only w vars b l
+      → basisSum only w (termValue w vars) b (x ∷ l) ≡ x .coeff * value w vars (x .tree) + basisSum only w (termValue w vars) b l
   unfolding basisSum shareOf
   sum-same x l e q = simp (e, q)
 
   sum-other : (x : Row) (l : List Row) {c : Tree} {m : ℕ} → viewRow only w x ≡ masked c m → eqTree w c b ≡ false
-      → basisSum only w vars b (x ∷ l) ≡ basisSum only w vars b l
+      → basisSum only w (termValue w vars) b (x ∷ l) ≡ basisSum only w (termValue w vars) b l
   unfolding basisSum shareOf
   sum-other x l e q = simp (e, q) (omega arith)
 
   -- what is gathered of the rows l on top of g
   record Over (l : List Row) (g h : Group) : Type 0 where
     good : Gathered w vars b rows (length rows) h
-    sum : total (value w vars b) h ≡ total (value w vars b) g + basisSum only w vars b l
+    sum : total (value w vars b) h ≡ total (value w vars b) g + basisSum only w (termValue w vars) b l
 
   later : {i : ℕ} {g : Group} → Gathered w vars b rows i g → Gathered w vars b rows (i + 1) g
   later {i} {g} h = record { sized = h .sized; few = omega (arith, h .few); fresh = h .fresh }
@@ -158,17 +158,17 @@ module _ (only : Tree → Bool) (w : ℕ) (vars : List ℕ) (b : Tree) (eb : isE
       go : Good w x → (d : Decomposed) → viewRow only w x ≡ d → Seen w (x .tree) d
           → ((g′ : Group) → Gathered w vars b rows (i + 1) g′ → Over l g′ (groupOf only w b (i + 1) l g′))
           → Over (x ∷ l) g (groupOf only w b i (x ∷ l) g)
-      go ok opaque e v below =
+      go ok noBasis e v below =
           let o = below g (later h) in
-          subst (Over (x ∷ l) g) (sym (group-opaque only w b i x l g e))
-          (record { good = o .good; sum = omega (arith, o .sum, sum-opaque x l e) })
+          subst (Over (x ∷ l) g) (sym (group-no-basis only w b i x l g e))
+          (record { good = o .good; sum = omega (arith, o .sum, sum-no-basis x l e) })
       go ok (masked c m) e v below = by-test ok c m e v below (eqTree w c b) refl
 
   -- the group of the basis b among valid rows
   pub record Group-of (g : Group) : Type 0 where
     pub sized : Sized g
     pub fresh : (k : ℕ) → k < g .len → Fresh w vars b rows (at g k)
-    pub sum : total (value w vars b) g ≡ basisSum only w vars b rows
+    pub sum : total (value w vars b) g ≡ basisSum only w (termValue w vars) b rows
 
   pub group-of : rowsOk w rows ≡ true → Group-of (groupOf only w b 0 rows emptyGroup)
   unfolding emptyGroup

@@ -1,5 +1,5 @@
--- The groups of a form share it out (specs/Group.antt): its sum is that of the rows in no group and of the groups, each
--- basis once.
+-- The groups of a form share it out (specs/Group.antt), by any weight of a row that is 0 where its coefficient is: the sum
+-- over all rows is that over the rows in no group and over the groups, each basis once. The value is such a sum.
 use mathlib.Core.Path.{_≡_, refl, sym, ap, _∙_, subst}
 use Prim.Native.Nat.{ℕ, _+_, _*_, _≤_}
 use native.Mathlib.Omega.{arith}
@@ -13,7 +13,7 @@ use Rattle.record.proofs.SizedLaws.{and-true}
 use Rattle.expr.specs.Refusal.{isExpr}
 use Rattle.expr.specs.Value.{value}
 use Rattle.semilinear.specs.Form.{Row, sumRows, eqTree, rowsOk}
-use Rattle.semilinear.specs.Decompose.{Decomposed, opaque, masked}
+use Rattle.semilinear.specs.Decompose.{Decomposed, noBasis, masked}
 use Rattle.group.specs.Group.{viewRow, insertBasis, basesOf, ungrouped}
 use Rattle.semilinear.proofs.FormLaws.{rows-cons}
 use Rattle.semilinear.proofs.AtomLaws.{Atom, tree-atom, eq-of-eq-tree}
@@ -22,98 +22,112 @@ use Rattle.group.proofs.BasesLaws.{hits, risingFrom, inserted}
 
 -- ---- the sums
 
+-- what the rows come to, each by its weight
+unfoldable pub weightSum : (Row → ℕ) → List Row → ℕ
+weightSum weight [] = 0
+weightSum weight (x ∷ l) = weight x + weightSum weight l
+
 -- v where the basis is b
 unfoldable pub shareOf : ℕ → Tree → ℕ → Decomposed → ℕ
-shareOf w b v opaque = 0
+shareOf w b v noBasis = 0
 shareOf w b v (masked c m) = when (eqTree w c b) (λ _. v) (λ _. 0)
 
 -- what the rows of the basis b come to
-unfoldable pub basisSum : (Tree → Bool) → ℕ → List ℕ → Tree → List Row → ℕ
-basisSum only w vars b [] = 0
-basisSum only w vars b (x ∷ l) =
-    shareOf w b (x .coeff * value w vars (x .tree)) (viewRow only w x) + basisSum only w vars b l
+unfoldable pub basisSum : (Tree → Bool) → ℕ → (Row → ℕ) → Tree → List Row → ℕ
+basisSum only w weight b [] = 0
+basisSum only w weight b (x ∷ l) = shareOf w b (weight x) (viewRow only w x) + basisSum only w weight b l
 
 -- and those of all bases
-unfoldable pub basesSum : (Tree → Bool) → ℕ → List ℕ → List Tree → List Row → ℕ
-basesSum only w vars [] rows = 0
-basesSum only w vars (b ∷ l) rows = basisSum only w vars b rows + basesSum only w vars l rows
+unfoldable pub basesSum : (Tree → Bool) → ℕ → (Row → ℕ) → List Tree → List Row → ℕ
+basesSum only w weight [] rows = 0
+basesSum only w weight (b ∷ l) rows = basisSum only w weight b rows + basesSum only w weight l rows
+
+-- what a row adds to the value
+abbrev pub termValue : ℕ → List ℕ → Row → ℕ
+termValue w vars x = x .coeff * value w vars (x .tree)
+
+value-weight : (w : ℕ) (vars : List ℕ) (rows : List Row) → sumRows w vars rows ≡ weightSum (termValue w vars) rows
+unfolding sumRows weightSum
+value-weight w vars [] = refl
+value-weight w vars (x ∷ l) = omega (arith, value-weight w vars l)
 
 -- every row's basis is among the bases once
 unfoldable pub coverOf : ℕ → List Tree → Decomposed → Bool
-coverOf w bases opaque = true
+coverOf w bases noBasis = true
 coverOf w bases (masked c m) = eqb (hits w c bases) 1
 
 unfoldable pub covers : (Tree → Bool) → ℕ → List Tree → List Row → Bool
 covers only w bases [] = true
 covers only w bases (x ∷ l) = coverOf w bases (viewRow only w x) && covers only w bases l
 
-module _ (only : Tree → Bool) (w : ℕ) (vars : List ℕ) where
-  bases-none : (bases : List Tree) → basesSum only w vars bases [] ≡ 0
+module _ (only : Tree → Bool) (w : ℕ) (weight : Row → ℕ) (none : (x : Row) → x .coeff ≡ 0 → weight x ≡ 0) where
+  bases-none : (bases : List Tree) → basesSum only w weight bases [] ≡ 0
   unfolding basesSum basisSum
   bases-none [] = refl
   bases-none (b ∷ l) = omega (arith, bases-none l)
 
-  bases-opaque : (x : Row) (rows : List Row) → viewRow only w x ≡ opaque → (bases : List Tree)
-      → basesSum only w vars bases (x ∷ rows) ≡ basesSum only w vars bases rows
+  bases-no-basis : (x : Row) (rows : List Row) → viewRow only w x ≡ noBasis → (bases : List Tree)
+      → basesSum only w weight bases (x ∷ rows) ≡ basesSum only w weight bases rows
   unfolding basesSum basisSum shareOf
-  bases-opaque x rows e [] = refl
-  bases-opaque x rows e (b ∷ l) = simp e (omega (arith, bases-opaque x rows e l))
+  bases-no-basis x rows e [] = refl
+  bases-no-basis x rows e (b ∷ l) = simp e (omega (arith, bases-no-basis x rows e l))
 
   share-masked : (x : Row) (rows : List Row) (b : Tree) {c : Tree} {m : ℕ} {p : Bool} → viewRow only w x ≡ masked c m
       → eqTree w c b ≡ p
-      → basisSum only w vars b (x ∷ rows)
-      ≡ when p (λ _. x .coeff * value w vars (x .tree)) (λ _. 0) + basisSum only w vars b rows
+      → basisSum only w weight b (x ∷ rows)
+      ≡ when p (λ _. weight x) (λ _. 0) + basisSum only w weight b rows
   unfolding basisSum shareOf
   share-masked x rows b e q = simp (e, q)
 
   bases-masked : (x : Row) (rows : List Row) {c : Tree} {m : ℕ} → viewRow only w x ≡ masked c m → (bases : List Tree)
-      → basesSum only w vars bases (x ∷ rows)
-      ≡ hits w c bases * (x .coeff * value w vars (x .tree)) + basesSum only w vars bases rows
+      → basesSum only w weight bases (x ∷ rows)
+      ≡ hits w c bases * weight x + basesSum only w weight bases rows
   unfolding basesSum hits
   bases-masked x rows e [] = omega arith
   bases-masked x rows {c} {m} e (b ∷ l) =
       by-test (eqTree w c b) refl (share-masked x rows b e refl) (bases-masked x rows e l)
     where
       v : ℕ
-      v = x .coeff * value w vars (x .tree)
+      v = weight x
 
       by-test : (p : Bool) → eqTree w c b ≡ p
-          → basisSum only w vars b (x ∷ rows) ≡ when p (λ _. v) (λ _. 0) + basisSum only w vars b rows
-          → basesSum only w vars l (x ∷ rows) ≡ hits w c l * v + basesSum only w vars l rows
-          → basesSum only w vars (b ∷ l) (x ∷ rows) ≡ hits w c (b ∷ l) * v + basesSum only w vars (b ∷ l) rows
+          → basisSum only w weight b (x ∷ rows) ≡ when p (λ _. v) (λ _. 0) + basisSum only w weight b rows
+          → basesSum only w weight l (x ∷ rows) ≡ hits w c l * v + basesSum only w weight l rows
+          → basesSum only w weight (b ∷ l) (x ∷ rows) ≡ hits w c (b ∷ l) * v + basesSum only w weight (b ∷ l) rows
       by-test true q s below = simp q (omega (arith, s, below))
       by-test false q s below = simp q (omega (arith, s, below))
 
   -- ---- the sum of all rows
 
-  ungrouped-opaque : (x : Row) (rows : List Row) → viewRow only w x ≡ opaque
-      → sumRows w vars (ungrouped only w (x ∷ rows))
-      ≡ x .coeff * value w vars (x .tree) + sumRows w vars (ungrouped only w rows)
-  unfolding ungrouped sumRows
-  ungrouped-opaque x rows e = simp e
+  ungrouped-no-basis : (x : Row) (rows : List Row) → viewRow only w x ≡ noBasis
+      → weightSum weight (ungrouped only w (x ∷ rows))
+      ≡ weight x + weightSum weight (ungrouped only w rows)
+  unfolding ungrouped weightSum
+  ungrouped-no-basis x rows e = simp e
 
   ungrouped-masked : (x : Row) (rows : List Row) {c : Tree} {m : ℕ} → viewRow only w x ≡ masked c m
-      → sumRows w vars (ungrouped only w (x ∷ rows)) ≡ sumRows w vars (ungrouped only w rows)
-  unfolding ungrouped sumRows
-  ungrouped-masked x rows e = simp e (omega arith)
+      → weightSum weight (ungrouped only w (x ∷ rows)) ≡ weightSum weight (ungrouped only w rows)
+  unfolding ungrouped weightSum
+  ungrouped-masked x rows e =
+      simp e (omega (arith, none (record { provenance = x .provenance; tree = x .tree; coeff = 0 }) refl))
 
   pub shared-out : (bases : List Tree) (rows : List Row) → covers only w bases rows ≡ true
-      → sumRows w vars rows ≡ sumRows w vars (ungrouped only w rows) + basesSum only w vars bases rows
-  unfolding covers coverOf sumRows ungrouped
+      → weightSum weight rows ≡ weightSum weight (ungrouped only w rows) + basesSum only w weight bases rows
+  unfolding covers coverOf weightSum ungrouped
   shared-out bases [] h = omega (arith, bases-none bases)
   shared-out bases (x ∷ l) h =
       let p = and-true (coverOf w bases (viewRow only w x)) (covers only w bases l) h in
       go (viewRow only w x) refl (p .0) (shared-out bases l (p .1))
     where
       go : (d : Decomposed) → viewRow only w x ≡ d → coverOf w bases d ≡ true
-          → sumRows w vars l ≡ sumRows w vars (ungrouped only w l) + basesSum only w vars bases l
-          → sumRows w vars (x ∷ l)
-          ≡ sumRows w vars (ungrouped only w (x ∷ l)) + basesSum only w vars bases (x ∷ l)
-      go opaque e c below = omega (arith, below, ungrouped-opaque x l e, bases-opaque x l e bases)
+          → weightSum weight l ≡ weightSum weight (ungrouped only w l) + basesSum only w weight bases l
+          → weightSum weight (x ∷ l)
+          ≡ weightSum weight (ungrouped only w (x ∷ l)) + basesSum only w weight bases (x ∷ l)
+      go noBasis e c below = omega (arith, below, ungrouped-no-basis x l e, bases-no-basis x l e bases)
       go (masked b m) e c below =
           let one : hits w b bases ≡ 1 = eqb-true (hits w b bases) 1 c in
           let all = bases-masked x l e bases in
-          let v = ap (λ (n : ℕ). n * (x .coeff * value w vars (x .tree))) one in
+          let v = ap (λ (n : ℕ). n * weight x) one in
           omega (arith, below, ungrouped-masked x l e, all, v)
 
 -- ---- the bases of the rows
@@ -124,10 +138,10 @@ module _ (only : Tree → Bool) (w : ℕ) where
     pub rising : risingFrom 0 bases ≡ true
     pub once : (c : Tree) → isExpr c ≡ true → hits w c bases ≤ 1
 
-  pub bases-of-opaque : (x : Row) (rows : List Row) (found : List Tree) → viewRow only w x ≡ opaque
+  pub bases-of-no-basis : (x : Row) (rows : List Row) (found : List Tree) → viewRow only w x ≡ noBasis
       → basesOf only w (x ∷ rows) found ≡ basesOf only w rows found
   unfolding basesOf
-  bases-of-opaque x rows found e = simp e
+  bases-of-no-basis x rows found e = simp e
 
   pub bases-of-masked : (x : Row) (rows : List Row) (found : List Tree) {c : Tree} {m : ℕ} → viewRow only w x ≡ masked c
       m
@@ -165,10 +179,10 @@ module _ (only : Tree → Bool) (w : ℕ) where
         grows = λ c ec. f c ec .0;
       }
 
-  covers-opaque : (x : Row) (l : List Row) (bases : List Tree) → viewRow only w x ≡ opaque
+  covers-no-basis : (x : Row) (l : List Row) (bases : List Tree) → viewRow only w x ≡ noBasis
       → covers only w bases l ≡ true → covers only w bases (x ∷ l) ≡ true
   unfolding covers coverOf
-  covers-opaque x l bases e h = simp (e, h)
+  covers-no-basis x l bases e h = simp (e, h)
 
   covers-masked : (x : Row) (l : List Row) (bases : List Tree) {c : Tree} {m : ℕ} → viewRow only w x ≡ masked c m
       → hits w c bases ≡ 1 → covers only w bases l ≡ true → covers only w bases (x ∷ l) ≡ true
@@ -192,10 +206,10 @@ module _ (only : Tree → Bool) (w : ℕ) where
       go : (d : Decomposed) → viewRow only w x ≡ d → Seen w (x .tree) d
           → ((f : List Tree) → Once f → Found f (basesOf only w l f) l)
           → Found found (basesOf only w (x ∷ l) found) (x ∷ l)
-      go opaque e v below =
+      go noBasis e v below =
           let b = below found o in
-          subst (λ (u : List Tree). Found found u (x ∷ l)) (sym (bases-of-opaque x l found e))
-          (record { still = b .still; grows = b .grows; covered = covers-opaque x l _ e (b .covered) })
+          subst (λ (u : List Tree). Found found u (x ∷ l)) (sym (bases-of-no-basis x l found e))
+          (record { still = b .still; grows = b .grows; covered = covers-no-basis x l _ e (b .covered) })
       go (masked t m) e v below =
           let et = v .basis .expr in
           let i = more t (v .basis) found o in
@@ -214,11 +228,21 @@ module _ (only : Tree → Bool) (w : ℕ) where
   once-none = record { rising = refl; once = λ c ec. omega arith }
 
   -- the groups of valid rows share them out
-  pub groups-share : (vars : List ℕ) (rows : List Row) → rowsOk w rows ≡ true
+  pub groups-share : (weight : Row → ℕ) → ((x : Row) → x .coeff ≡ 0 → weight x ≡ 0) → (rows : List Row)
+      → rowsOk w rows ≡ true
+      → weightSum weight rows
+      ≡ weightSum weight (ungrouped only w rows) + basesSum only w weight (basesOf only w rows []) rows
+  groups-share weight none rows ok =
+      shared-out only w weight none (basesOf only w rows []) rows (found-all rows ok [] once-none .covered)
+
+  -- so does their value
+  pub groups-value : (vars : List ℕ) (rows : List Row) → rowsOk w rows ≡ true
       → sumRows w vars rows
-      ≡ sumRows w vars (ungrouped only w rows) + basesSum only w vars (basesOf only w rows []) rows
-  groups-share vars rows ok =
-      shared-out only w vars (basesOf only w rows []) rows (found-all rows ok [] once-none .covered)
+      ≡ sumRows w vars (ungrouped only w rows)
+      + basesSum only w (termValue w vars) (basesOf only w rows []) rows
+  groups-value vars rows ok =
+      let share = groups-share (termValue w vars) (λ x z. ap (λ (c : ℕ). c * value w vars (x .tree)) z ∙ omega arith) rows ok in
+      omega (arith, share, value-weight w vars rows, value-weight w vars (ungrouped only w rows))
 
   -- and every basis is an atom
   pub bases-rising : (rows : List Row) → rowsOk w rows ≡ true → risingFrom 0 (basesOf only w rows []) ≡ true

@@ -56,8 +56,8 @@ module _ (f : List ℕ) (v : View) (hash : ℕ) (b : List ℕ) where
   basis-same e n = simp (eq-eqb (v .hash) hash e, ne-eqb (v .end) 0 n)
 
   -- a row in no group has no basis
-  pub basis-opaque : v .end ≡ 0 → hasBasis f v hash b ≡ false
-  basis-opaque z = go (ℕ-discrete (v .hash) hash)
+  pub basis-ungrouped : v .end ≡ 0 → hasBasis f v hash b ≡ false
+  basis-ungrouped z = go (ℕ-discrete (v .hash) hash)
     where
       go : Dec (v .hash ≡ hash) → hasBasis f v hash b ≡ false
       go (yes e) = basis-none e z

@@ -15,6 +15,7 @@ pub mod CutLaws
 pub mod DropLaws
 pub mod NegateLaws
 pub mod PairLaws
+pub mod KeysLaws
 pub mod BucketLaws
 pub mod StagesLaws
 pub mod SearchLaws

@@ -12,7 +12,7 @@ use Rattle.arith.specs.Effective.{canChangeCoefficientTo}
 use Rattle.record.specs.Choice.{when}
 use Rattle.group.specs.declared.Group.{Group}
 use Rattle.group.specs.Group.{Entry, at, putEntry, isLive}
-use Rattle.group.specs.Steps.{negateAt, toMinusOne}
+use Rattle.group.specs.Steps.{minusOneAt, toMinusOne}
 use Rattle.group.specs.Made.{negatesOf}
 use Rattle.record.proofs.LoopLaws.{when-both, for-same, for-keeps}
 
@@ -55,8 +55,8 @@ module _ (w i : ℕ) (g : Group) where
   unfolding at
   entry-negates = test-negates w (getD (g .marks) i 0) (getD (g .coeffs) i 0) (getD (g .masks) i 0)
 
-  pub negate-at-same : negatesEntry w g i ≡ false → negateAt w i g ≡ g
-  unfolding negateAt isLive
+  pub negate-at-same : negatesEntry w g i ≡ false → minusOneAt w i g ≡ g
+  unfolding minusOneAt isLive
   negate-at-same h = simp (entry-negates ∙ h)
 
   -- the group with this coefficient, as the code has it
@@ -79,18 +79,18 @@ module _ (w i : ℕ) (g : Group) where
   put-negated = simp set-getD
 
   pub negate-at-negate : w ≤ 64 → {minus : ℕ} → minus ≡ bitmask w → negatesEntry w g i ≡ true
-      → negateAt w i g ≡ negateGroup minus
-  unfolding negateAt isLive
+      → minusOneAt w i g ≡ negateGroup minus
+  unfolding minusOneAt isLive
   negate-at-negate hw e h =
-      let done : negateAt w i g ≡ putEntry g i negated = simp (entry-negates ∙ h) in
+      let done : minusOneAt w i g ≡ putEntry g i negated = simp (entry-negates ∙ h) in
       done ∙ put-negated ∙ ap negateGroup (sym (e ∙ bitmask-ones w hw))
 
 pub negate-none : (w : ℕ) (g : Group) → ((i : ℕ) → i < g .len → negatesEntry w g i ≡ false) → g ≡ toMinusOne w g
 unfolding toMinusOne
-negate-none w g h = sym (for-same (negateAt w) 0 (g .len) g (λ i _ u. negate-at-same w i g (h i u)))
+negate-none w g h = sym (for-same (minusOneAt w) 0 (g .len) g (λ i _ u. negate-at-same w i g (h i u)))
 
-len-negate-at : (w i : ℕ) (r : Group) → negateAt w i r .len ≡ r .len
-unfolding negateAt putEntry
+len-negate-at : (w i : ℕ) (r : Group) → minusOneAt w i r .len ≡ r .len
+unfolding minusOneAt putEntry
 len-negate-at w i r =
     let e = at r i in
     when-both (λ (k : Group). k .len ≡ r .len)
@@ -100,4 +100,4 @@ len-negate-at w i r =
 pub len-to-minus-one : (w : ℕ) (g : Group) → toMinusOne w g .len ≡ g .len
 unfolding toMinusOne
 len-to-minus-one w g =
-    for-keeps (λ (r : Group). r .len ≡ g .len) (negateAt w) 0 (g .len) g (λ i r _ _ e. len-negate-at w i r ∙ e) refl
+    for-keeps (λ (r : Group). r .len ≡ g .len) (minusOneAt w) 0 (g .len) g (λ i r _ _ e. len-negate-at w i r ∙ e) refl

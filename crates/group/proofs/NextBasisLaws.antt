@@ -12,7 +12,7 @@ use Rattle.record.specs.Decode.{decode}
 use Rattle.semilinear.specs.Form.{Row}
 use Rattle.group.specs.Group.{basesOf}
 use Rattle.group.specs.Views.{viewAt, basisBytes, InGroup, Views}
-use Rattle.group.specs.Bases.{firstRows, treesOf, FirstRows}
+use Rattle.group.specs.Bases.{firstRows, treesOf, FirstAre}
 use Rattle.group.proofs.InsertLaws.{each-getD}
 use Rattle.group.proofs.FirstRowsLaws.{Named, first-rows, first-trees}
 
@@ -38,14 +38,14 @@ pub record NextBasis (only : Tree → Bool) (w : ℕ) (f views : List ℕ) (rows
       ≡ decode (basisBytes f (viewAt views x)) ∷ drop (k + 1) (basesOf only w rows [])
 
 module _ (only : Tree → Bool) (w : ℕ) (f views : List ℕ) (rows : List Row) (h : Views only w f views rows)
-    {before bases : List ℕ} {r : ℕ} (s : FirstRows (firstRows f views (length rows)) before bases r) (k : ℕ) where
+    {before bases : List ℕ} {r : ℕ} (s : FirstAre (firstRows f views (length rows)) before bases r) (k : ℕ) where
   abbrev first : List ℕ
   first = firstRows f views (length rows)
 
   pub next-basis : k < r → NextBasis only w f views rows k (getD bases k 0)
   next-basis lt =
       let e : getD bases k 0 ≡ getD first k 0 =
-      sym (getD-take r bases k 0 lt) ∙ ap (λ (l : List ℕ). getD l k 0) (s .rows-are) in
+      sym (getD-take r bases k 0 lt) ∙ ap (λ (l : List ℕ). getD l k 0) (s .are) in
       let in-first : k < length first = omega (arith, s .count) in
       let named : Named views (length rows) (getD bases k 0) =
       subst (Named views (length rows)) (sym e)

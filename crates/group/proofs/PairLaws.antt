@@ -2,7 +2,7 @@
 use mathlib.Core.Path.{_≡_, refl, ap, sym, subst, _∙_}
 use Prim.Native.Nat.{ℕ, _+_, _^_, _<_}
 use native.Mathlib.Omega.{arith}
-use mathlib.Core.List.{List}
+use mathlib.Core.List.{List, [], _∷_}
 use mathlib.Core.Bool.{Bool, true, false, not, _&&_, _||_}
 use lib.ListN.{length, getD, set}
 use lib.Bits.{bitAnd}
@@ -16,12 +16,12 @@ use Rattle.group.specs.declared.merge.Joined.{Joined}
 use Rattle.group.specs.declared.merge.Joined.the-variants.{Apart, At}
 use Rattle.record.specs.Loop.{forIn, firstIn}
 use Rattle.group.specs.Group.{at, isLive, Work}
-use Rattle.group.specs.Steps.{joinAt, pairAt, pairMerge, slotFits, placeAt, leastCoeff}
-use Rattle.group.specs.Steps.{Sweep, sweepTurn, bucketMerge}
+use Rattle.group.specs.Steps.{joinAt, pairAt, pairMerge, slotFits, placeAt, placeBucket, bucketKeys}
+use Rattle.group.specs.Steps.{placeBuckets, bucketMerge}
 use Rattle.group.specs.Made.{Room, Stands, Stepped}
 use Rattle.group.specs.Pair.{pairOf, pairIn, joinFound}
 use Rattle.group.proofs.SteppedLaws.{later-none, stepped-of, stepped-as, stepped-none, stepped-met}
-use Rattle.record.proofs.LoopLaws.{when-both, first-true, for-same, for-keeps}
+use Rattle.record.proofs.LoopLaws.{when-both, first-true, for-same}
 use Rattle.record.proofs.SizedLaws.{false-true, and-true}
 
 -- what the code asks of the entries i and j
@@ -175,20 +175,11 @@ place-none w t k i x h li =
     (λ _. refl)
 
 pub bucket-none : (w : ℕ) (t : Tree) (x : Work) → NoPair w (x .group) → bucketMerge w t x ≡ x
-unfolding bucketMerge sweepTurn
-bucket-none w t x h =
-    for-keeps (λ (s : Sweep). s .state ≡ x) (sweepTurn w t) 0 (x .group .len) (record { state = x; from = 0 })
-    (λ i s _ _ e. turn s e (leastCoeff (s .state .group) (s .from))) refl
+unfolding bucketMerge placeBuckets placeBucket
+bucket-none w t x h = go (bucketKeys (x .group))
   where
-    turn : (s : Sweep) → s .state ≡ x → (key : ℕ)
-        → when (ltb key (2 ^ 64))
-        (λ _. record { state = forIn (placeAt w t key) 0 (s .state .group .len) (s .state); from = key + 1 })
-        (λ _. s) .state
-        ≡ x
-    turn s e key =
-        when-both (λ (r : Sweep). r .state ≡ x) (ltb key (2 ^ 64))
-        (record { state = forIn (placeAt w t key) 0 (s .state .group .len) (s .state); from = key + 1 }) s
-        (λ _.
-        ap (λ (y : Work). forIn (placeAt w t key) 0 (y .group .len) y) e
-        ∙ for-same (placeAt w t key) 0 (x .group .len) x (λ i _ li. place-none w t key i x h li))
-        (λ _. e)
+    go : (l : List ℕ) → placeBuckets w t l x ≡ x
+    go [] = refl
+    go (k ∷ l) =
+        ap (placeBuckets w t l) (for-same (placeAt w t k) 0 (x .group .len) x (λ i _ li. place-none w t k i x h li))
+        ∙ go l

@@ -27,7 +27,7 @@ use Rattle.group.specs.Group.{emptyGroup, basesOf, groupOf, ungrouped}
 use Rattle.group.specs.Made.{tableOf, Room, Held, Basis}
 use Rattle.group.specs.Shown.{Shown}
 use Rattle.group.specs.Views.{viewAt, basisBytes, Views, ViewsRead, Readable}
-use Rattle.group.specs.Bases.{firstRows, FirstRows}
+use Rattle.group.specs.Bases.{firstRows, FirstAre}
 use Rattle.group.specs.Gathered.{gathered}
 use Rattle.group.proofs.ExtendsLaws.{ungrouped-length, ungrouped-bare}
 use Rattle.group.proofs.FirstRowsLaws.{first-rows}
@@ -104,13 +104,13 @@ module _ {only : Tree → Bool} {w : ℕ} {f coeffs views coeffs′ : List ℕ} 
       terms = λ _. kept-padded v 256 e;
     }
 
-pub first-same : {rows before after : List ℕ} {r : ℕ} → FirstRows rows before after r → FirstRows rows after after r
-first-same s = record { count = s .count; rows-are = s .rows-are; long = refl }
+pub first-same : {rows before after : List ℕ} {r : ℕ} → FirstAre rows before after r → FirstAre rows after after r
+first-same s = record { count = s .count; are = s .are; long = refl }
 
 -- ---- the bases, as the code finds them
 
 module _ (only : Tree → Bool) (w : ℕ) (f views bases : List ℕ) (rows : List Row) (n count : ℕ) (e : n ≡ length rows)
-    (h : Views only w f views rows) (s : FirstRows (firstRows f views n) bases bases count) where
+    (h : Views only w f views rows) (s : FirstAre (firstRows f views n) bases bases count) where
   pub readable-at : Readable f views n
   readable-at = rw e (readable h)
 
@@ -118,9 +118,9 @@ module _ (only : Tree → Bool) (w : ℕ) (f views bases : List ℕ) (rows : Lis
   count-few = omega (arith, s .count, first-rows f views n .few)
 
   pub count-room : count ≤ length bases
-  count-room = omega (arith, s .count, ap length (s .rows-are), length-take count bases)
+  count-room = omega (arith, s .count, ap length (s .are), length-take count bases)
 
-  found : FirstRows (firstRows f views (length rows)) bases bases count
+  found : FirstAre (firstRows f views (length rows)) bases bases count
   found = rw e at s
 
   pub next-at : (k : ℕ) → k < count → NextBasis only w f views rows k (getD bases k 0)

@@ -26,11 +26,11 @@ use Rattle.expr.proofs.AcceptLaws.{accept-encode, accept-expr}
 use Rattle.semilinear.specs.declared.decompose.Basis as found
 use Rattle.semilinear.specs.Form.{Row}
 use Rattle.semilinear.specs.Basis.{basisSpan, viewOf, IsDecomposed}
-use Rattle.semilinear.specs.Decompose.{opaque, masked, decomposeAtom}
+use Rattle.semilinear.specs.Decompose.{noBasis, masked, decomposeAtom}
 use Rattle.group.specs.declared.views.View.{View}
 use Rattle.group.specs.Group.{viewRow, anyBasis, variableBasis}
 use Rattle.group.specs.Views.{basisBytes, onlyOf, Viewed}
-use Rattle.group.proofs.ViewLaws.{view-opaque, view-only}
+use Rattle.group.proofs.ViewLaws.{view-no-basis, view-only}
 use Rattle.group.proofs.ViewsLaws.{viewed-none, viewed-some}
 
 -- ---- a part of a part
@@ -120,7 +120,7 @@ module _ (w : ℕ) (f : List ℕ) (bytes : IsBytes f) (from to : ℕ) (le : from
 
     module _ (only : Bool) (x : Row) (et : x .tree ≡ decode t) (n : x .coeff ≡ 0 → ⊥) where
       row-view : viewRow (onlyOf only) w x ≡ when (onlyOf only (decode b)) (λ _. masked (decode b) (r .mask))
-          (λ _. opaque)
+          (λ _. noBasis)
       row-view = view-only (onlyOf only) w x n (ap (decomposeAtom w) et ∙ view-tree)
 
       -- only variables count, and it is none
@@ -146,7 +146,7 @@ module _ (w : ℕ) (f : List ℕ) (bytes : IsBytes f) (from to : ℕ) (le : from
       unfolding basisBytes
       viewed-basis {h} eh {c} ec counts =
           let v : View = record { coeff = c; hash = h; start = from + r .start; end = from + r .end; mask = r .mask } in
-          let seen : when (onlyOf only (decode b)) (λ _. masked (decode b) (r .mask)) (λ _. opaque)
+          let seen : when (onlyOf only (decode b)) (λ _. masked (decode b) (r .mask)) (λ _. noBasis)
           ≡ masked (decode b) (r .mask) = simp counts in
           viewed-some (onlyOf only) w f v x basis-empty
           (record {
@@ -169,9 +169,9 @@ module _ (w : ℕ) (f : List ℕ) (bytes : IsBytes f) (from to : ℕ) (le : from
           basis-empty z = omega (arith, b-length, basis-big)
 
   -- no basis at all
-  pub viewed-opaque : r .valid ≡ false → (only : Bool) (x : Row) → x .tree ≡ decode t → (x .coeff ≡ 0 → ⊥)
+  pub viewed-no-basis : r .valid ≡ false → (only : Bool) (x : Row) → x .tree ≡ decode t → (x .coeff ≡ 0 → ⊥)
       → (v : View) → v .end ≡ 0 → Viewed (onlyOf only) w f v x
   unfolding viewOf
-  viewed-opaque bad only x et n v z =
+  viewed-no-basis bad only x et n v z =
       viewed-none (onlyOf only) w f v x z
-      (view-opaque (onlyOf only) w x n (ap (decomposeAtom w) et ∙ sym (d .view) ∙ simp bad))
+      (view-no-basis (onlyOf only) w x n (ap (decomposeAtom w) et ∙ sym (d .view) ∙ simp bad))

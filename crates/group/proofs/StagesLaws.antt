@@ -6,9 +6,9 @@ use native.Mathlib.Omega.{arith}
 use mathlib.Core.List.{List}
 use Rattle.record.specs.Tree.{Tree}
 use Rattle.group.specs.declared.Group.{Group}
-use Rattle.group.specs.Group.{Work, work}
+use Rattle.group.specs.Group.{Work, work, onGroup}
 use Rattle.group.specs.Steps.{cutMasks, dropZero, bucketMerge, pairMerge, toMinusOne}
-use Rattle.group.specs.Made.{Room, Stepped, onGroup}
+use Rattle.group.specs.Made.{Room, Stepped}
 use Rattle.group.specs.Stages.{cutAndDrop, mergeAll, NoSingle, NoMerge}
 use Rattle.group.proofs.SteppedLaws.{stepped-none, stepped-as, stepped-then, stepped-met, stepped-group}
 use Rattle.group.proofs.CutLaws.{cut-none}

@@ -10,8 +10,8 @@ use Rattle.group.specs.declared.Group.{Group}
 use Rattle.record.proofs.LoopLaws.{for-none, for-more}
 use Rattle.semilinear.specs.Form.{Row}
 use Rattle.record.specs.Loop.{turnsF, forIn}
-use Rattle.group.specs.Group.{Work, work}
-use Rattle.group.specs.Made.{Room, Later, Held, Stands, Stepped, onGroup}
+use Rattle.group.specs.Group.{Work, work, onGroup}
+use Rattle.group.specs.Made.{Room, Later, Held, Stands, Stepped}
 
 -- ---- steps
 

@@ -21,7 +21,7 @@ use Rattle.expr.proofs.IsExprLaws.{binary-of-expr}
 use Rattle.expr.proofs.ValueLaws.{value-lt, value-closed}
 use Rattle.semilinear.specs.Form.{Row}
 use Rattle.group.specs.Group.{viewRow}
-use Rattle.semilinear.specs.Decompose.{Decomposed, opaque, masked, decomposeAnd, decomposeAtom}
+use Rattle.semilinear.specs.Decompose.{Decomposed, noBasis, masked, decomposeAnd, decomposeAtom}
 use Rattle.semilinear.proofs.AtomLaws.{Atom, Sides, sides}
 
 -- what a view says of the tree t
@@ -32,7 +32,7 @@ pub record View (w : ℕ) (t b : Tree) (m : ℕ) : Type 0 where
 
 -- what is known of a view, if there is one
 unfoldable pub Seen : ℕ → Tree → Decomposed → Type 0
-Seen w t opaque = Unit {0}
+Seen w t noBasis = Unit {0}
 Seen w t (masked b m) = View w t b m
 
 seen-and : (w : ℕ) (l r : Tree) → Sides l r → Seen w (Binary 4 l r) (decomposeAnd w l r)
@@ -42,7 +42,7 @@ seen-and w l r s = go (hasVarDep r) (hasVarDep l) refl refl
     go : (a b : Bool) → hasVarDep r ≡ a → hasVarDep l ≡ b
         → Seen w (Binary 4 l r)
         (when (not a && not (not b)) (λ _. masked l (value w [] r))
-        (λ _. when (not b && not (not a)) (λ _. masked r (value w [] l)) (λ _. opaque)))
+        (λ _. when (not b && not (not a)) (λ _. masked r (value w [] l)) (λ _. noBasis)))
     go false true hr hl =
         record {
           basis = record { expr = s .expr-l; variable = hl; plain = s .plain-l };
@@ -71,7 +71,7 @@ seen w (Variable i) h =
 seen w (Unary k a t) h = tt
 seen w (Binary k l r) h = go (eqb k 4) refl
   where
-    go : (b : Bool) → eqb k 4 ≡ b → Seen w (Binary k l r) (when b (λ _. decomposeAnd w l r) (λ _. opaque))
+    go : (b : Bool) → eqb k 4 ≡ b → Seen w (Binary k l r) (when b (λ _. decomposeAnd w l r) (λ _. noBasis))
     go false e = tt
     go true e =
         let four : k ≡ 4 = eqb-true k 4 e in
@@ -83,22 +83,22 @@ seen w (Binary k l r) h = go (eqb k 4) refl
 -- ---- the view of a row
 
 module _ (only : Tree → Bool) (w : ℕ) (x : Row) where
-  pub view-none : x .coeff ≡ 0 → viewRow only w x ≡ opaque
+  pub view-none : x .coeff ≡ 0 → viewRow only w x ≡ noBasis
   unfolding viewRow
   view-none e = simp (eq-eqb (x .coeff) 0 e)
 
   module _ (ne : x .coeff ≡ 0 → ⊥) where
-    pub view-opaque : decomposeAtom w (x .tree) ≡ opaque → viewRow only w x ≡ opaque
+    pub view-no-basis : decomposeAtom w (x .tree) ≡ noBasis → viewRow only w x ≡ noBasis
     unfolding viewRow
-    view-opaque e = simp (ne-eqb (x .coeff) 0 ne, e)
+    view-no-basis e = simp (ne-eqb (x .coeff) 0 ne, e)
 
     pub view-only : {b : Tree} {m : ℕ} → decomposeAtom w (x .tree) ≡ masked b m
-        → viewRow only w x ≡ when (only b) (λ _. masked b m) (λ _. opaque)
+        → viewRow only w x ≡ when (only b) (λ _. masked b m) (λ _. noBasis)
     unfolding viewRow
     view-only e = simp (ne-eqb (x .coeff) 0 ne, e)
 
   seen-only : {b : Tree} {m : ℕ} → View w (x .tree) b m → (p : Bool)
-      → Seen w (x .tree) (when p (λ _. masked b m) (λ _. opaque))
+      → Seen w (x .tree) (when p (λ _. masked b m) (λ _. noBasis))
   unfolding Seen
   seen-only v true = v
   seen-only v false = tt
@@ -110,5 +110,5 @@ module _ (only : Tree → Bool) (w : ℕ) (x : Row) where
       go : Dec (x .coeff ≡ 0) → (d : Decomposed) → decomposeAtom w (x .tree) ≡ d → Seen w (x .tree) d
           → Seen w (x .tree) (viewRow only w x)
       go (yes e) d p v = subst (Seen w (x .tree)) (sym (view-none e)) tt
-      go (no n) opaque p v = subst (Seen w (x .tree)) (sym (view-opaque n p)) tt
+      go (no n) noBasis p v = subst (Seen w (x .tree)) (sym (view-no-basis n p)) tt
       go (no n) (masked b m) p v = subst (Seen w (x .tree)) (sym (view-only n p)) (seen-only v (only b))

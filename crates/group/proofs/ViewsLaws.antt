@@ -14,7 +14,7 @@ use Rattle.record.specs.Tree.{Tree}
 use Rattle.record.specs.Decode.{decode}
 use Rattle.record.proofs.PutLaws.{getD-put-before, getD-put-in}
 use Rattle.semilinear.specs.Form.{Row}
-use Rattle.semilinear.specs.Decompose.{opaque, masked}
+use Rattle.semilinear.specs.Decompose.{noBasis, masked}
 use Rattle.semilinear.specs.Terms.{coeffsOf}
 use Rattle.group.specs.declared.views.View.{View}
 use Rattle.group.specs.Group.{viewRow, ungrouped}
@@ -58,7 +58,7 @@ set-put l i a h =
 
 module _ (only : Tree → Bool) (w : ℕ) (f : List ℕ) (v : View) (x : Row) where
   -- in no group
-  pub viewed-none : v .end ≡ 0 → viewRow only w x ≡ opaque → Viewed only w f v x
+  pub viewed-none : v .end ≡ 0 → viewRow only w x ≡ noBasis → Viewed only w f v x
   unfolding splitOf
   viewed-none z e =
       record {
@@ -74,9 +74,9 @@ module _ (only : Tree → Bool) (w : ℕ) (f : List ℕ) (v : View) (x : Row) wh
       record { split = e ∙ sym (simp (ne-eqb (v .end) 0 n)); in-group = λ _. g; coeff = λ _. c }
 
   module _ (h : Viewed only w f v x) where
-    pub row-opaque : v .end ≡ 0 → viewRow only w x ≡ opaque
+    pub row-no-basis : v .end ≡ 0 → viewRow only w x ≡ noBasis
     unfolding splitOf
-    row-opaque z = h .split ∙ simp (eq-eqb (v .end) 0 z)
+    row-no-basis z = h .split ∙ simp (eq-eqb (v .end) 0 z)
 
     pub row-masked : (v .end ≡ 0 → ⊥) → viewRow only w x ≡ masked (decode (basisBytes f v)) (v .mask)
     unfolding splitOf
@@ -88,7 +88,7 @@ module _ (only : Tree → Bool) (w : ℕ) (f : List ℕ) (v : View) (x : Row) wh
     unfolding ungrouped coeffsOf keptOf
     kept-row l = go (ℕ-discrete (v .end) 0)
       where
-        none : v .end ≡ 0 → viewRow only w x ≡ opaque
+        none : v .end ≡ 0 → viewRow only w x ≡ noBasis
             → coeffsOf (ungrouped only w (x ∷ l)) ≡ keptOf v (x .coeff) ∷ coeffsOf (ungrouped only w l)
         none z e = simp (e, eq-eqb (v .end) 0 z)
 
@@ -98,7 +98,7 @@ module _ (only : Tree → Bool) (w : ℕ) (f : List ℕ) (v : View) (x : Row) wh
 
         go : Dec (v .end ≡ 0)
             → coeffsOf (ungrouped only w (x ∷ l)) ≡ keptOf v (x .coeff) ∷ coeffsOf (ungrouped only w l)
-        go (yes z) = none z (row-opaque z)
+        go (yes z) = none z (row-no-basis z)
         go (no n) = some n (row-masked n)
 
 -- the coefficient that the code keeps

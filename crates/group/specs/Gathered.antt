@@ -8,7 +8,7 @@ use Rattle.arith.specs.Width.{modAdd}
 use Rattle.record.specs.Choice.{when}
 use Rattle.record.specs.Loop.{forIn}
 use Rattle.group.specs.declared.Group.{Group}
-use Rattle.group.specs.Group.{emptyGroup, pushEntry}
+use Rattle.group.specs.Group.{consumedMark, emptyGroup, pushEntry}
 use Rattle.group.specs.Views.{viewAt, hasBasis}
 
 -- row i, where it has this basis
@@ -28,7 +28,7 @@ addWord w c j l = set l j (modAdd (getD l j 0) c w)
 -- entry i, unless it is consumed
 unfoldable pub settleWordAt : ℕ → List ℕ → List ℕ → List ℕ → ℕ → List ℕ → List ℕ
 settleWordAt w from atoms marks i l =
-    when (eqb (getD marks i 0) 1) (λ _. l) (λ _. addWord w (getD from i 0) (getD atoms i 0) l)
+    when (eqb (getD marks i 0) consumedMark) (λ _. l) (λ _. addWord w (getD from i 0) (getD atoms i 0) l)
 
 -- every entry, of n, that is not consumed added to its word
 unfoldable pub settleWords : ℕ → List ℕ → List ℕ → List ℕ → ℕ → List ℕ → List ℕ

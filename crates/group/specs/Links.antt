@@ -12,7 +12,7 @@ use Rattle.record.specs.Loop.{firstIn}
 use Rattle.group.specs.declared.Group.{Group}
 use Rattle.group.specs.declared.collapse.Two.{Two}
 use Rattle.group.specs.declared.collapse.Three.{Three}
-use Rattle.group.specs.Group.{at, isLive}
+use Rattle.group.specs.Group.{consumedMark, at, isLive}
 use Rattle.group.specs.Collapse.{findThird, findSecond, findFirst}
 
 -- a group of lent arrays, whose atoms are not looked at
@@ -33,7 +33,7 @@ foldOf c = bitAnd (bitXor b (b / 2 ^ 10)) 1023
 
 -- an entry of the mark u and the mask p is live and shares no bit with m
 unfoldable pub apartOf : (u m p : ℕ) → Bool
-apartOf u m p = eqb (bitAnd m p) 0 && not (eqb u 1)
+apartOf u m p = eqb (bitAnd m p) 0 && not (eqb u consumedMark)
 
 -- the same of the entry k
 abbrev pub apartAt : Group → ℕ → ℕ → Bool

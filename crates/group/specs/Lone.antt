@@ -5,7 +5,7 @@ use mathlib.Core.List.{List}
 use mathlib.Core.Bool.{false}
 use Rattle.group.specs.declared.Group.{Group}
 use Rattle.group.specs.declared.views.View.{View}
-use Rattle.group.specs.Group.{emptyGroup, pushEntry}
+use Rattle.group.specs.Group.{liveMark, emptyGroup, pushEntry}
 use Rattle.group.specs.Made.{cutOf, dropsOf, negatesOf}
 use Rattle.group.specs.Views.{viewAt}
 use Rattle.group.specs.Gathered.{gathered}
@@ -16,9 +16,9 @@ loneGroup v i = pushEntry emptyGroup (v .coeff) (v .mask) i
 
 -- the mask is not cut, the term not dropped, and the coefficient does not become 2 ^ w - 1
 pub record Stays (w c m : ℕ) : Type 0 where
-  pub no-cut : cutOf 0 c m w ≡ m
-  pub no-drop : dropsOf 0 c m w ≡ false
-  pub no-negate : negatesOf 0 c m w ≡ false
+  pub no-cut : cutOf liveMark c m w ≡ m
+  pub no-drop : dropsOf liveMark c m w ≡ false
+  pub no-negate : negatesOf liveMark c m w ≡ false
 
 pub record StaysAlone (w : ℕ) (f views : List ℕ) (hash : ℕ) (b : List ℕ) (n first : ℕ) : Type 0 where
   pub stays : Stays w (viewAt views first .coeff) (viewAt views first .mask)

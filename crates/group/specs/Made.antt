@@ -15,7 +15,7 @@ use Rattle.expr.specs.Hash.{structuralHash}
 use Rattle.semilinear.specs.declared.table.Table.{Table}
 use Rattle.group.specs.declared.Group.{Group}
 use Rattle.semilinear.specs.Form.{Row}
-use Rattle.group.specs.Group.{Work, work}
+use Rattle.group.specs.Group.{consumedMark, Work}
 use Rattle.semilinear.specs.Table.{Placed, Holds, Clean}
 
 -- ---- the words: place, count, records, 1 where full, the rows of a table without limits, the constant
@@ -80,18 +80,14 @@ pub record Basis (w hash : ℕ) (b : List ℕ) : Type 0 where
 
 -- the mask of an entry with this mark, cut to the bits that count
 unfoldable pub cutOf : ℕ → ℕ → ℕ → ℕ → ℕ
-cutOf u c m w = when (eqb u 1) (λ _. m) (λ _. reduceMask c m w)
+cutOf u c m w = when (eqb u consumedMark) (λ _. m) (λ _. reduceMask c m w)
 
 -- whether a live entry's coefficient may as well be 0
 unfoldable pub dropsOf : ℕ → ℕ → ℕ → ℕ → Bool
-dropsOf u c m w = when (eqb u 1) (λ _. false) (λ _. canChangeCoefficientTo c 0 m w)
+dropsOf u c m w = when (eqb u consumedMark) (λ _. false) (λ _. canChangeCoefficientTo c 0 m w)
 
 -- whether a live entry's coefficient is not 2 ^ w - 1 and may become it
 unfoldable pub negatesOf : ℕ → ℕ → ℕ → ℕ → Bool
 negatesOf u c m w =
-    when (eqb u 1) (λ _. false)
+    when (eqb u consumedMark) (λ _. false)
     (λ _. when (eqb c (2 ^ w - 1)) (λ _. false) (λ _. canChangeCoefficientTo c (2 ^ w - 1) m w))
-
--- a step that leaves the table
-unfoldable pub onGroup : (Group → Group) → Work → Work
-onGroup f x = work (f (x .group)) (x .rows)

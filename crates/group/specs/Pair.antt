@@ -10,13 +10,13 @@ use Rattle.record.specs.Choice.{when}
 use Rattle.record.specs.Tree.{Tree}
 use Rattle.group.specs.declared.merge.Joined.{Joined}
 use Rattle.group.specs.declared.merge.Joined.the-variants.{Apart, At}
-use Rattle.group.specs.Group.{Work}
+use Rattle.group.specs.Group.{consumedMark, Work}
 use Rattle.group.specs.Steps.{joinAt}
 
 unfoldable pub pairOf : (u v c m d p w : ℕ) → Joined
 pairOf u v c m d p w =
-    when (eqb u 1) (λ _. Apart)
-    (λ _. when (eqb v 1) (λ _. Apart)
+    when (eqb u consumedMark) (λ _. Apart)
+    (λ _. when (eqb v consumedMark) (λ _. Apart)
     (λ _. when (not (eqb (bitAnd m p) 0)) (λ _. Apart)
     (λ _. when (eqb c d) (λ _. At c)
     (λ _. when (canChangeCoefficientTo d c p w) (λ _. At c)

@@ -7,9 +7,9 @@ use mathlib.Core.Bool.{false}
 use lib.ListN.{getD}
 use Rattle.record.specs.Tree.{Tree}
 use Rattle.group.specs.declared.merge.Joined.the-variants.{Apart}
-use Rattle.group.specs.Group.{Work}
+use Rattle.group.specs.Group.{Work, onGroup}
 use Rattle.group.specs.Steps.{cutMasks, dropZero, bucketMerge, pairMerge, toMinusOne}
-use Rattle.group.specs.Made.{cutOf, dropsOf, negatesOf, onGroup}
+use Rattle.group.specs.Made.{cutOf, dropsOf, negatesOf}
 use Rattle.group.specs.Pair.{pairIn}
 
 -- the masks cut, and the terms without effect dropped

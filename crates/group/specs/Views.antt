@@ -14,7 +14,7 @@ use Rattle.record.specs.Tree.Tree.{Constant}
 use Rattle.record.specs.Decode.{decode}
 use Rattle.semilinear.specs.Form.{Row}
 use Rattle.semilinear.specs.DecodeForm.{rowAt}
-use Rattle.semilinear.specs.Decompose.{Decomposed, opaque, masked}
+use Rattle.semilinear.specs.Decompose.{Decomposed, noBasis, masked}
 use Rattle.semilinear.specs.Running.{RowPassed}
 use Rattle.semilinear.specs.Terms.{coeffsOf}
 use Rattle.group.specs.declared.views.View.{View}
@@ -45,7 +45,7 @@ basisBytes f v = take (v .end - v .start) (drop (v .start) f)
 
 -- basis and mask as a view has them
 unfoldable pub splitOf : List ℕ → View → Decomposed
-splitOf f v = when (eqb (v .end) 0) (λ _. opaque) (λ _. masked (decode (basisBytes f v)) (v .mask))
+splitOf f v = when (eqb (v .end) 0) (λ _. noBasis) (λ _. masked (decode (basisBytes f v)) (v .mask))
 
 -- the coefficient c stays with the row where it is in no group
 unfoldable pub keptOf : View → ℕ → ℕ

@@ -1,5 +1,6 @@
 // The three-term collapse: c * (x & a) + d * (x & b) + (c + d) * (x & m), where m shares no bit
 // with a or b, becomes c * (x & (a | m)) + d * (x & (b | m)).
+use crate::CONSUMED;
 use crate::Group;
 use crate::links;
 use crate::made;
@@ -38,7 +39,7 @@ fn find_second<'a>(
     ensures { λ r. ⌜ FoundTwo w
         (lent (now (coeffs .entry)) (now (masks .entry)) (now (marks .entry)) n) i r ⌝ }
 {
-    if marks[i] == 1 {
+    if marks[i] == CONSUMED {
         return Two {
             second: n,
             third: n,
@@ -137,7 +138,7 @@ impl Group {
         self.masks[j] = two;
         self.atoms[i] = rows;
         self.atoms[j] = rows + 1;
-        self.marks[k] = 1;
+        self.marks[k] = CONSUMED;
         made::create_masked(made, out, b, hash, one, w);
         made::create_masked(made, out, b, hash, two, w);
         self

@@ -1,5 +1,6 @@
 // The group of a basis: the rows that have it.
 use crate::Group;
+use crate::LIVE;
 use crate::views;
 ghost use mathlib.Core.Path.{_≡_};
 ghost use Prim.Native.Nat.{_≤_};
@@ -36,7 +37,7 @@ impl Group {
                 g.coeffs[len] = views[v];
                 g.masks[len] = views[v + 4];
                 g.atoms[len] = i as u64;
-                g.marks[len] = 0;
+                g.marks[len] = LIVE;
                 g.len = len + 1;
             }
             i += 1;

@@ -3,6 +3,7 @@
 pub mod bases;
 pub mod collapse;
 pub mod gather;
+pub mod keys;
 pub mod links;
 pub mod lone;
 pub mod made;
@@ -12,8 +13,17 @@ pub mod stages;
 pub mod steps;
 pub mod views;
 
-// At most 256 entries: coefficients, masks, atom numbers, and marks (0 live, 1 consumed, 2 widened to
-// the full mask by recovering, 3 rewritten as Xor).
+// What became of an entry: nothing yet; joined to another or dropped; widened to the full mask by
+// recovering; rewritten as Xor by it.
+pub const LIVE: u8 = 0;
+
+pub const CONSUMED: u8 = 1;
+
+pub const WIDENED: u8 = 2;
+
+pub const REWRITTEN: u8 = 3;
+
+// At most 256 entries: coefficients, masks, atom numbers, and marks.
 pub struct Group {
     pub coeffs: [u64; 256],
     pub masks: [u64; 256],

@@ -1,5 +1,6 @@
 // The live entries of a group that share no bit with a mask, linked by a fold of their
 // coefficients: the third entry of a collapse is found along them, without a look at every entry.
+use crate::CONSUMED;
 ghost use mathlib.Core.Path.{_≡_};
 ghost use mathlib.Core.Bool.{false};
 ghost use Prim.Native.Nat.{ℕ, _<_, _≤_};
@@ -22,7 +23,7 @@ fn apart(mark: u8, m: u64, p: u64) -> bool
     if m & p != 0 {
         return false;
     }
-    mark != 1
+    mark != CONSUMED
 }
 
 // Whether a live entry shares no bit with m.
@@ -104,7 +105,7 @@ pub fn third_for<'a>(
     ensures { λ r. ⌜ r ≡ thirdIn w
         (lent (now (coeffs .entry)) (now (masks .entry)) (now (marks .entry)) n) i j ⌝ }
 {
-    if marks[j] == 1 {
+    if marks[j] == CONSUMED {
         return n;
     }
     let c = arith::mod_add(coeffs[i], coeffs[j], w);

@@ -1,4 +1,5 @@
 // A basis that one row alone has. Most groups are such, and need no group to be gathered.
+use crate::LIVE;
 use crate::steps;
 use crate::views;
 ghost use mathlib.Core.Path.{_≡_};
@@ -43,13 +44,13 @@ fn stays(c: u64, m: u64, w: u32) -> bool
     requires { ⌜ w ≤ 64 ⌝ }
     ensures { λ r. ⌜ (r ≡ true → Stays w c m) ⌝ }
 {
-    if steps::cut_of(0, c, m, w) != m {
+    if steps::cut_of(LIVE, c, m, w) != m {
         return false;
     }
-    if steps::drops(0, c, m, w) {
+    if steps::drops(LIVE, c, m, w) {
         return false;
     }
-    !steps::negates(0, c, m, w)
+    !steps::negates(LIVE, c, m, w)
 }
 
 // Whether row `first` alone, of n, has the basis b with this hash, and refining leaves it as it is.

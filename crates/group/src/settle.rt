@@ -1,4 +1,5 @@
 // The end of a pass on a group: what its entries add to the coefficients of the rows.
+use crate::CONSUMED;
 ghost use mathlib.Core.Path.{_≡_};
 ghost use Prim.Native.Nat.{_≤_};
 ghost use Rattle.group.specs.Gathered.{addWord, settleWords};
@@ -28,7 +29,7 @@ pub fn settle<'a>(
 {
     let mut i = 0;
     while i < n {
-        if marks[i] != 1 {
+        if marks[i] != CONSUMED {
             add_word(coeffs, atoms[i], from[i], w);
         }
         i += 1;

@@ -1,5 +1,6 @@
 // The steps of refining that look at one entry at a time, each behind a test on lent arrays, so that
 // the group moves only where it changes.
+use crate::CONSUMED;
 use crate::Group;
 use crate::made;
 ghost use mathlib.Core.Path.{_≡_};
@@ -14,7 +15,7 @@ ghost use Rattle.group.specs.Made.{Room, Basis, Stepped, cutOf, dropsOf,
 pub fn cut_of(mark: u8, c: u64, m: u64, w: u32) -> u64
     ensures { λ r. ⌜ r ≡ cutOf mark c m w ⌝ }
 {
-    if mark == 1 {
+    if mark == CONSUMED {
         return m;
     }
     arith::reduce_mask(c, m, w)
@@ -47,7 +48,7 @@ pub fn any_cut<'a>(
 pub fn drops(mark: u8, c: u64, m: u64, w: u32) -> bool
     ensures { λ r. ⌜ r ≡ dropsOf mark c m w ⌝ }
 {
-    if mark == 1 {
+    if mark == CONSUMED {
         return false;
     }
     arith::can_change_coefficient_to(c, 0, m, w)
@@ -80,7 +81,7 @@ pub fn negates(mark: u8, c: u64, m: u64, w: u32) -> bool
     requires { ⌜ w ≤ 64 ⌝ }
     ensures { λ r. ⌜ r ≡ negatesOf mark c m w ⌝ }
 {
-    if mark == 1 {
+    if mark == CONSUMED {
         return false;
     }
     let minus = arith::bitmask(w);
@@ -144,7 +145,7 @@ impl Group {
         let mut i = 0;
         while i < n {
             if drops(self.marks[i], self.coeffs[i], self.masks[i], w) {
-                self.marks[i] = 1;
+                self.marks[i] = CONSUMED;
             }
             i += 1;
         }

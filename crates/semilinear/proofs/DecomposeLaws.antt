@@ -23,7 +23,7 @@ use Rattle.expr.specs.Utils.{isConstantSubtree}
 use Rattle.expr.specs.Value.{value}
 use Rattle.expr.proofs.RefusalLaws.{accepted-left, accepted-right}
 use Rattle.semilinear.specs.declared.decompose.Basis.{Basis}
-use Rattle.semilinear.specs.Decompose.{opaque, masked, decomposeAnd, decomposeAtom}
+use Rattle.semilinear.specs.Decompose.{noBasis, masked, decomposeAnd, decomposeAtom}
 use Rattle.semilinear.specs.Basis.{basisSpan, viewOf, IsDecomposed}
 
 abbrev none : Basis
@@ -31,7 +31,7 @@ none = record { valid = false; start = 0; end = 0; mask = 0 }
 
 module _ (w : ℕ) (s : List ℕ) (ok : sized s ≡ true) where
   -- no view
-  pub decomposed-none : decomposeAtom w (decode s) ≡ opaque → IsDecomposed w s none
+  pub decomposed-none : decomposeAtom w (decode s) ≡ noBasis → IsDecomposed w s none
   unfolding viewOf
   decomposed-none e =
       record {
@@ -63,7 +63,7 @@ module _ (w : ℕ) (s : List ℕ) (ok : sized s ≡ true) where
   unfolding decomposeAtom leaf
   decomposed-other p q = decomposed-none (go (ℕ-discrete (arity (kind s)) 0) (ℕ-discrete (arity (kind s)) 1))
     where
-      go : Dec (arity (kind s) ≡ 0) → Dec (arity (kind s) ≡ 1) → decomposeAtom w (decode s) ≡ opaque
+      go : Dec (arity (kind s) ≡ 0) → Dec (arity (kind s) ≡ 1) → decomposeAtom w (decode s) ≡ noBasis
       go (yes a) d =
           let z : kind s ≡ 0 = omega (arith, kind-of-arity-zero (kind s) a) in
           rw (decode-leaf s ok refl a) (simp (eq-eqb (kind s) 0 z))

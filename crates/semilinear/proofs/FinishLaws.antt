@@ -26,7 +26,7 @@ use Rattle.semilinear.specs.Valid.{isSemilinear}
 use Rattle.semilinear.specs.DecodeForm.{rowsOf, decodeForm, readForm}
 use Rattle.semilinear.specs.Outcome.{refused, formOutcome}
 use Rattle.semilinear.specs.Answers.{GivesForm}
-use Rattle.semilinear.specs.Compact.{limitOutcome}
+use Rattle.semilinear.specs.PassOutcome.{limitOutcome}
 use Rattle.semilinear.specs.Scan.{IsAtomTable}
 use Rattle.semilinear.specs.Table.{Placed, Kept, Holds, Clean}
 use Rattle.semilinear.specs.Terms.{coeffsOf, coeffsIn, coeffTerms, coeffCount, TermsPut, Copied, Finished, Ends}

@@ -9,7 +9,8 @@ use mathlib.Core.List.{List}
 use mathlib.Core.Bool.{Bool, true, false}
 use Rattle.semilinear.specs.Form.{Form, formValue, encodeForm, fitsTable, validForm}
 use Rattle.semilinear.specs.Outcome.{Outcome, refused, refusalOf, formOutcome}
-use Rattle.semilinear.specs.Compact.{compactForm, passOutcome, limitOutcome, compactAtomTable}
+use Rattle.semilinear.specs.Compact.{compactForm, compactAtomTable}
+use Rattle.semilinear.specs.PassOutcome.{passOutcome, limitOutcome}
 use Rattle.semilinear.proofs.FormLaws.{form-not-refused}
 use Rattle.semilinear.proofs.EncodeFormLaws.{form-decode, form-accept}
 use Rattle.semilinear.proofs.PassLaws.{pass-slice, pass-accepted, value-compact, valid-compact}

@@ -1,4 +1,4 @@
--- Laws of `passOutcome` (specs/Compact.antt): what a pass gives, by the first test that decides. And compaction: it
+-- Laws of `passOutcome` (specs/PassOutcome.antt): what a pass gives, by the first test that decides. And compaction: it
 -- keeps the value and the validity of a form, and what its bytes come to.
 use mathlib.Core.Path.{_≡_, refl, ap, ap₂, sym, subst, _∙_}
 use Prim.Native.Nat.{ℕ, _+_, _*_, _%_, _^_, _≤_}
@@ -26,7 +26,8 @@ use Rattle.semilinear.specs.Valid.{lengthRefused, sumOk, frontOk, isSemi
 use Rattle.semilinear.specs.DecodeForm.{rowsOf, decodeForm}
 use Rattle.semilinear.specs.Outcome.{Outcome, refused, formOutcome}
 use Rattle.semilinear.specs.Answers.{GivesForm}
-use Rattle.semilinear.specs.Compact.{usedRows, compactForm, passOutcome, FrontCopied}
+use Rattle.semilinear.specs.Compact.{usedRows, compactForm, FrontCopied}
+use Rattle.semilinear.specs.PassOutcome.{passOutcome}
 use Rattle.semilinear.proofs.FormLaws.{form-parts, parts-form, rows-cons, good-row, length-form-le}
 use Rattle.semilinear.proofs.AcceptLaws.{form-valid}
 use Rattle.semilinear.proofs.OutcomeLaws.{gives-form}

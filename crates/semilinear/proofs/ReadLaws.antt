@@ -1,4 +1,4 @@
--- Laws of what reads a form and has a result slice (specs/Compact.antt, readOutcome): its refusals are those of
+-- Laws of what reads a form and has a result slice (specs/PassOutcome.antt, readOutcome): its refusals are those of
 -- `openOutcome`, and where there is none the bytes are a form, the slice has its length, and what is given is given.
 use mathlib.Core.Path.{_≡_, refl, ap, sym, _∙_}
 use Prim.Native.Nat.{ℕ, _≤_}
@@ -18,7 +18,7 @@ use Rattle.semilinear.specs.Valid.{lengthRefused, isSemilinear}
 use Rattle.semilinear.specs.DecodeForm.{readForm}
 use Rattle.semilinear.specs.Outcome.{Outcome, accepted, refused, refusalOf, numbersOf, writtenOf, Gives}
 use Rattle.semilinear.specs.Answers.{refusedAnswer, GivesForm}
-use Rattle.semilinear.specs.Compact.{readOutcome, openOutcome, passOutcome}
+use Rattle.semilinear.specs.PassOutcome.{readOutcome, openOutcome, passOutcome}
 use Rattle.semilinear.proofs.OutcomeLaws.{gives-refused}
 use Rattle.semilinear.proofs.PassLaws.{length-le, gives-same}
 

@@ -9,7 +9,7 @@ use Rattle.record.specs.Span.{sized}
 use Rattle.record.specs.Decode.{decode}
 use Rattle.expr.specs.Refusal.{treeRefusal}
 use Rattle.semilinear.specs.declared.decompose.Basis.{Basis}
-use Rattle.semilinear.specs.Decompose.{Decomposed, opaque, masked, decomposeAtom}
+use Rattle.semilinear.specs.Decompose.{Decomposed, noBasis, masked, decomposeAtom}
 
 -- the part of s that r names
 unfoldable pub basisSpan : List ℕ → Basis → List ℕ
@@ -17,7 +17,7 @@ basisSpan s r = take (r .end - r .start) (drop (r .start) s)
 
 -- the view that r gives of the tree of s
 unfoldable pub viewOf : List ℕ → Basis → Decomposed
-viewOf s r = when (r .valid) (λ _. masked (decode (basisSpan s r)) (r .mask)) (λ _. opaque)
+viewOf s r = when (r .valid) (λ _. masked (decode (basisSpan s r)) (r .mask)) (λ _. noBasis)
 
 -- r is the view of the tree of s at w bits, and its part is a tree's span, accepted where s is
 pub record IsDecomposed (w : ℕ) (s : List ℕ) (r : Basis) : Type 0 where

@@ -2,17 +2,16 @@
 use mathlib.Core.Path.{_≡_}
 use Prim.Native.Nat.{ℕ, zero, suc, _+_, _*_}
 use mathlib.Core.List.{List, [], _∷_, _++_}
-use mathlib.Core.Bool.{Bool, false, not}
+use mathlib.Core.Bool.{false}
 use lib.ListN.{length, drop}
 use lib.Dec.{eqb}
 use Rattle.record.specs.Choice.{when}
 use Rattle.record.specs.Put.{put, padded}
 use Rattle.semilinear.specs.declared.compact.Written.{Written}
-use Rattle.semilinear.specs.Form.{Row, Form, fitsTable, termCount, atomsBytes, termBytes, termsBytes}
+use Rattle.semilinear.specs.Form.{Row, Form, termCount, atomsBytes, termBytes, termsBytes}
 use Rattle.semilinear.specs.Items.{isTerm, frontWord}
-use Rattle.semilinear.specs.Valid.{lengthRefused, isSemilinear}
-use Rattle.semilinear.specs.DecodeForm.{readForm}
-use Rattle.semilinear.specs.Outcome.{Outcome, accepted, refused, formOutcome}
+use Rattle.semilinear.specs.Outcome.{Outcome, formOutcome}
+use Rattle.semilinear.specs.PassOutcome.{passOutcome}
 
 -- the rows that have a term
 unfoldable pub usedRows : List Row → List Row
@@ -21,26 +20,6 @@ usedRows (x ∷ l) = when (eqb (x .coeff) 0) (λ _. usedRows l) (λ _. x ∷ use
 
 unfoldable pub compactForm : Form → Form
 compactForm f = record { bitwidth = f .bitwidth; constant = f .constant; rows = usedRows (f .rows) }
-
--- what reads a form and has a result slice of len elements, which must be `whole`: refusals 1, 2 and 10 in this order,
--- then what `given` says of the form
-abbrev pub readOutcome : ℕ → (Form → Outcome) → List ℕ → ℕ → Outcome
-readOutcome whole given s len =
-    when (lengthRefused s) (λ _. refused 1)
-    (λ _. when (not (eqb len whole)) (λ _. refused 2)
-    (λ _. when (isSemilinear s) (λ _. given (readForm s)) (λ _. refused 10)))
-
--- its refusals alone: an accepted call has written nothing yet
-unfoldable pub openOutcome : ℕ → List ℕ → ℕ → Outcome
-openOutcome whole = readOutcome whole (λ f. accepted [] [])
-
--- a pass: the result slice has 57,360 bytes
-unfoldable pub passOutcome : (Form → Outcome) → List ℕ → ℕ → Outcome
-passOutcome = readOutcome 57360
-
--- a form that a pass made, or 9 where its table passes a limit
-unfoldable pub limitOutcome : Form → Bool → Outcome
-limitOutcome f flag = when (fitsTable (f .rows)) (λ _. formOutcome f flag) (λ _. refused 9)
 
 -- what `compact_atom_table` gives for the bytes s and a result slice of len bytes
 unfoldable pub compactAtomTable : List ℕ → ℕ → Outcome

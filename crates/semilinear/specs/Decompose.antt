@@ -11,18 +11,18 @@ use Rattle.expr.specs.Value.{value}
 
 -- no such view, or a basis and a mask
 pub data Decomposed : Type 0 where
-  opaque : Decomposed
+  noBasis : Decomposed
   masked : Tree → ℕ → Decomposed
 
 -- the two sides of an And: one of them variable-free, the other not
 unfoldable pub decomposeAnd : ℕ → Tree → Tree → Decomposed
 decomposeAnd w l r =
     when (isConstantSubtree r && not (isConstantSubtree l)) (λ _. masked l (value w [] r))
-    (λ _. when (isConstantSubtree l && not (isConstantSubtree r)) (λ _. masked r (value w [] l)) (λ _. opaque))
+    (λ _. when (isConstantSubtree l && not (isConstantSubtree r)) (λ _. masked r (value w [] l)) (λ _. noBasis))
 
 -- one step; a variable is its own basis under the full mask
 unfoldable pub decomposeAtom : ℕ → Tree → Decomposed
-decomposeAtom w (Constant v) = opaque
+decomposeAtom w (Constant v) = noBasis
 decomposeAtom w (Variable i) = masked (Variable i) (2 ^ w - 1)
-decomposeAtom w (Unary k a t) = opaque
-decomposeAtom w (Binary k l r) = when (eqb k 4) (λ _. decomposeAnd w l r) (λ _. opaque)
+decomposeAtom w (Unary k a t) = noBasis
+decomposeAtom w (Binary k l r) = when (eqb k 4) (λ _. decomposeAnd w l r) (λ _. noBasis)

@@ -4,6 +4,7 @@ pub mod Items
 pub mod Valid
 pub mod DecodeForm
 pub mod Outcome
+pub mod PassOutcome
 pub mod Answers
 pub mod Table
 pub mod Value

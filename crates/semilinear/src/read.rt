@@ -5,7 +5,7 @@ ghost use mathlib.Core.Path.{_≡_};
 ghost use mathlib.Core.List.{[]};
 ghost use lib.ListN.{length};
 ghost use Rattle.semilinear.specs.Outcome.{refusalOf, Gives};
-ghost use Rattle.semilinear.specs.Compact.{openOutcome};
+ghost use Rattle.semilinear.specs.PassOutcome.{openOutcome};
 
 // The refusal of s beside a result slice of len elements, which must be `whole`; 0 where there is none.
 fn read_refusal(s: &[u8], len: usize, whole: usize) -> u64

@@ -19,6 +19,7 @@ use Rattle.truth.specs.Truth.{bitBinary, bitOf, rowBits, tableF, table}
 use Rattle.semilinear.specs.Form.{Row, termCount, atomBytes, atomsBytes, termBytes, termsBytes, sumBytes, encodeForm}
 use Rattle.semilinear.specs.Form.{eqTree, treeRecords, fitsTable}
 use Rattle.semilinear.specs.Outcome.{Outcome, accepted, refused, refusalOf, formOutcome}
+use Rattle.semilinear.specs.PassOutcome.{limitOutcome}
 use Rattle.semilinear_normalizer.specs.Collect.{joinCollected, collectAtom, collectConstant, isNot, operand}
 use Rattle.semilinear_normalizer.specs.Collect.{collectNot, isMaskedNot, collectAnd, andCoeff, collectMasked}
 use Rattle.semilinear_normalizer.specs.Collect.{collectTerms}
@@ -163,5 +164,5 @@ unfolding bitmask wrappingMul modAdd modMul modNeg bitAt eqList sizeOf recordByt
     eqTree treeRecords fitsTable refusalOf formOutcome joinCollected collectAtom collectConstant isNot operand
     collectNot isMaskedNot collectAnd andCoeff collectMasked collectTerms bitBinary bitOf rowBits tableF table
     familyOf detectProvenance isPure sameTable sameSlot newestRow firstRow hasTree sharedRow addRow registerAtom
-    registerAll collectedForm collectedOutcome normalizeTree
+    registerAll collectedForm limitOutcome collectedOutcome normalizeTree
 examples-hold = refl

@@ -27,6 +27,7 @@ use Rattle.expr.proofs.ExprValueLaws.{accepted-tree, expr-value-accepted}
 use Rattle.semilinear.specs.Form.{Form, sumRows, formValue, termCount, encodeForm, rowsOk, fitsTable, validForm}
 use Rattle.semilinear.specs.Value.{semilinearValue}
 use Rattle.semilinear.specs.Outcome.{Outcome, accepted, refused, refusalOf, numbersOf, formOutcome}
+use Rattle.semilinear.specs.PassOutcome.{limitOutcome}
 use Rattle.semilinear.proofs.ValueLaws.{encoded-value}
 use Rattle.semilinear_normalizer.specs.Collect.{Emitted, Collected, nonlinear, linear, collectTerms}
 use Rattle.semilinear_normalizer.specs.Register.{registerAll}
@@ -78,12 +79,12 @@ module _ (w : ℕ) (pos : 1 ≤ w) (hw : w ≤ 64) (t : Tree) (expr : isExpr t �
 
 module _ (w c : ℕ) (l : List Emitted) where
   pub collected-nine : fitsTable (collectedForm w c l .rows) ≡ false → collectedOutcome w (linear c l) ≡ refused 9
-  unfolding collectedOutcome
+  unfolding collectedOutcome limitOutcome
   collected-nine f = simp f
 
   pub collected-form : fitsTable (collectedForm w c l .rows) ≡ true
       → collectedOutcome w (linear c l) ≡ formOutcome (collectedForm w c l) false
-  unfolding collectedOutcome
+  unfolding collectedOutcome limitOutcome
   collected-form f = simp f
 
 -- ---- a tree

@@ -9,7 +9,6 @@ use Rattle.semilinear.specs.declared.outcome.Answer.{Answer}
 use Rattle.semilinear.specs.declared.table.Table.{Table}
 use Rattle.semilinear.specs.Form.{Row}
 use Rattle.semilinear.specs.Answers.{GivesForm}
-use Rattle.semilinear.specs.Compact.{limitOutcome}
 use Rattle.semilinear.specs.Table.{Placed}
 use Rattle.semilinear.specs.Terms.{coeffsOf, coeffsIn, Ends, Finished}
 use Rattle.semilinear.proofs.TermsLaws.{coeffs-append}
@@ -49,5 +48,5 @@ module _ (w : ℕ) (l : List Emitted) {index out : List ℕ} {tab : Table}
 
   pub gives-collected : (c : ℕ) (r : Answer) {e : List ℕ} → Finished w tab 11 index c false out r e
       → GivesForm (collectedOutcome w (linear c l)) 57360 r e
-  unfolding collectedOutcome collectedForm limitOutcome
+  unfolding collectedOutcome collectedForm
   gives-collected c r f = f .gives (registerAll w l []) registered-ends

@@ -9,8 +9,9 @@ use Rattle.record.specs.Tree.{Tree}
 use Rattle.record.specs.Decode.{decode}
 use Rattle.expr.specs.Refusal.{exprRefusal}
 use Rattle.expr.specs.Utils.{hasConstantArith}
-use Rattle.semilinear.specs.Form.{Form, fitsTable}
-use Rattle.semilinear.specs.Outcome.{Outcome, refused, formOutcome}
+use Rattle.semilinear.specs.Form.{Form}
+use Rattle.semilinear.specs.Outcome.{Outcome, refused}
+use Rattle.semilinear.specs.PassOutcome.{limitOutcome}
 use Rattle.semilinear_normalizer.specs.Collect.{Emitted, Collected, nonlinear, linear, collectTerms}
 use Rattle.semilinear_normalizer.specs.Register.{registerAll}
 
@@ -21,8 +22,7 @@ collectedForm w c l = record { bitwidth = w; constant = c; rows = registerAll w 
 -- 8 for what is nonlinear, 9 where the table passes a limit, else the form
 unfoldable pub collectedOutcome : ℕ → Collected → Outcome
 collectedOutcome w nonlinear = refused 8
-collectedOutcome w (linear c l) =
-    when (fitsTable (collectedForm w c l .rows)) (λ _. formOutcome (collectedForm w c l) false) (λ _. refused 9)
+collectedOutcome w (linear c l) = limitOutcome (collectedForm w c l) false
 
 -- of a tree of any size, at w bits; 7 is a test on the tree alone
 unfoldable pub normalizeTree : ℕ → Tree → Outcome

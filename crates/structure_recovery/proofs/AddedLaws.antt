@@ -24,7 +24,8 @@ use Rattle.group.proofs.WorkLaws.{rowValue, Grown, length-masked, row-value-mas
 use Rattle.group.proofs.SettleLaws.{add-sum, add-value, add-length, add-ok}
 use Rattle.group.proofs.ExtendsLaws.{Extends}
 use Rattle.structure_recovery.specs.RecoverStructure.{rowWith, withBare}
-use Rattle.structure_recovery.specs.CoalesceTerms.{Carried, carriedRows}
+use Rattle.structure_recovery.specs.Carried.{Carried}
+use Rattle.structure_recovery.specs.CoalesceTerms.{carriedRows}
 use Rattle.structure_recovery.proofs.BareLaws.{with-bare}
 use Rattle.structure_recovery.proofs.CarriedLaws.{carriedSum, bitsBelow, below-cons}
 
@@ -95,15 +96,15 @@ module _ (w : ℕ) (hw : w ≤ 64) (vars : List ℕ) where
         (grown-masked w vars b m rows (atom-tree b hb) (lt-of-lt-of-le hm (pow-mono hw)))
         (omega (arith, length-masked w vars b m rows)))
 
-    carried-first : (y : Carried) (l : List Carried) (rows : List Row) → eqb (y .bits) (2 ^ w - 1) ≡ true
+    carried-first : (y : Carried) (l : List Carried) (rows : List Row) → eqb (y .mask) (2 ^ w - 1) ≡ true
         → carriedRows w b (y ∷ l) rows
         ≡ carriedRows w b l (addCoeff w (y .coeff) (rowWith w b 0 rows) (withBare w b rows))
     unfolding carriedRows
     carried-first y l rows e = simp e
 
-    carried-other : (y : Carried) (l : List Carried) (rows : List Row) → eqb (y .bits) (2 ^ w - 1) ≡ false
+    carried-other : (y : Carried) (l : List Carried) (rows : List Row) → eqb (y .mask) (2 ^ w - 1) ≡ false
         → carriedRows w b (y ∷ l) rows
-        ≡ carriedRows w b l (addCoeff w (y .coeff) (length rows) (createMasked w b (y .bits) rows))
+        ≡ carriedRows w b l (addCoeff w (y .coeff) (length rows) (createMasked w b (y .mask) rows))
     unfolding carriedRows
     carried-other y l rows e = simp e
 
@@ -114,20 +115,20 @@ module _ (w : ℕ) (hw : w ≤ 64) (vars : List ℕ) where
     added-carried [] small rows ok = added-refl rows
     added-carried (y ∷ l) small rows ok =
         let p = below-cons (2 ^ w) y l small in
-        go (p .0) (added-carried l (p .1)) (eqb (y .bits) (2 ^ w - 1)) refl
+        go (p .0) (added-carried l (p .1)) (eqb (y .mask) (2 ^ w - 1)) refl
       where
         v : ℕ
         v = value w vars b
 
-        go : y .bits < 2 ^ w
+        go : y .mask < 2 ^ w
             → ((r : List Row) → rowsOk w r ≡ true → Added w vars (carriedSum v l) r (carriedRows w b l r))
-            → (s : Bool) → eqb (y .bits) (2 ^ w - 1) ≡ s
-            → Added w vars (y .coeff * bitAnd v (y .bits) + carriedSum v l) rows (carriedRows w b (y ∷ l) rows)
+            → (s : Bool) → eqb (y .mask) (2 ^ w - 1) ≡ s
+            → Added w vars (y .coeff * bitAnd v (y .mask) + carriedSum v l) rows (carriedRows w b (y ∷ l) rows)
         go lt below true e =
-            let a = added-bare (y .coeff) (y .bits) rows ok (eqb-true (y .bits) (2 ^ w - 1) e) in
-            subst (Added w vars (y .coeff * bitAnd v (y .bits) + carriedSum v l) rows) (sym (carried-first y l rows e))
+            let a = added-bare (y .coeff) (y .mask) rows ok (eqb-true (y .mask) (2 ^ w - 1) e) in
+            subst (Added w vars (y .coeff * bitAnd v (y .mask) + carriedSum v l) rows) (sym (carried-first y l rows e))
             (added-trans a (below _ (a .rows-ok ok)))
         go lt below false e =
-            let a = added-masked (y .coeff) (y .bits) rows lt in
-            subst (Added w vars (y .coeff * bitAnd v (y .bits) + carriedSum v l) rows) (sym (carried-other y l rows e))
+            let a = added-masked (y .coeff) (y .mask) rows lt in
+            subst (Added w vars (y .coeff * bitAnd v (y .mask) + carriedSum v l) rows) (sym (carried-other y l rows e))
             (added-trans a (below _ (a .rows-ok ok)))

@@ -1,11 +1,13 @@
--- The coefficient of each bit (specs/CoalesceTerms.antt): a group of live entries comes, modulo 2 ^ w, to the sum over
+-- The coefficient of each bit (specs/Carried.antt): a group of live entries comes, modulo 2 ^ w, to the sum over
 -- the bits of the basis of value x, each times the sum of the coefficients whose masks have it. First the
 -- masks cut to p bits: none, one more, all w of them.
 use mathlib.Core.Path.{_≡_, refl, sym, ap, _∙_}
 use Prim.Native.Nat.{ℕ, zero, suc, _+_, _*_, _%_, _^_, _≤_, _<_}
 use native.Mathlib.Omega.{arith}
 use native.Mathlib.Nat.{mod-eq-of-lt, mod-lt, mod-one}
+use mathlib.Core.List.{List}
 use mathlib.Core.Bool.{Bool, true, false}
+use lib.ListN.{getD}
 use lib.Arith.{mod-mul}
 use lib.Bits.{bitAnd, and-comm, and-zero-r, or-disjoint}
 use lib.Dec.{eqb}
@@ -23,7 +25,7 @@ use Rattle.group.specs.declared.Group.{Group}
 use Rattle.group.specs.Group.{at, isLive}
 use Rattle.group.proofs.TotalLaws.{sumTo, sum-ext, worth, worth-live, total}
 use Rattle.group.proofs.SettleLaws.{sum-next}
-use Rattle.structure_recovery.specs.CoalesceTerms.{bitCoeffAt, bitCoeff}
+use Rattle.structure_recovery.specs.Carried.{bitCoeffAt, bitCoeff}
 
 -- ---- one bit more
 
@@ -66,71 +68,73 @@ sum-zero t zero e = refl
 sum-zero t (suc n) e = omega (arith, sum-zero t n e, e n)
 
 -- what the entries come to by the low p bits of their masks
-unfoldable pub lowTotal : ℕ → Group → ℕ → ℕ
-lowTotal x g p = sumTo (λ k. at g k .coeff * bitAnd x (at g k .mask % 2 ^ p)) (g .len)
+unfoldable pub lowTotal : ℕ → List ℕ → List ℕ → ℕ → ℕ → ℕ
+lowTotal x coeffs masks len p = sumTo (λ k. getD coeffs k 0 * bitAnd x (getD masks k 0 % 2 ^ p)) len
 
 -- the coefficients of the first n entries whose masks have the bit p
-unfoldable pub bitSum : Group → ℕ → ℕ → ℕ
-bitSum g p n = sumTo (λ k. bitAt (at g k .mask) p * at g k .coeff) n
+unfoldable pub bitSum : List ℕ → List ℕ → ℕ → ℕ → ℕ
+bitSum coeffs masks p n = sumTo (λ k. bitAt (getD masks k 0) p * getD coeffs k 0) n
 
-module _ (x : ℕ) (g : Group) where
-  pub low-total-next : (p : ℕ) → lowTotal x g (p + 1) ≡ lowTotal x g p + bitSum g p (g .len) * bitAnd x (2 ^ p)
+module _ (x : ℕ) (coeffs masks : List ℕ) (len : ℕ) where
+  pub low-total-next : (p : ℕ) → lowTotal x coeffs masks len (p + 1) ≡ lowTotal x coeffs masks len p + bitSum coeffs masks p len * bitAnd x (2 ^ p)
   unfolding lowTotal bitSum
   low-total-next p =
       sum-scaled
-      (λ k. at g k .coeff * bitAnd x (at g k .mask % 2 ^ (p + 1)))
-      (λ k. at g k .coeff * bitAnd x (at g k .mask % 2 ^ p))
-      (λ k. bitAt (at g k .mask) p * at g k .coeff)
-      (bitAnd x (2 ^ p)) (g .len)
-      (λ k. ap (λ (n : ℕ). at g k .coeff * n) (and-next x (at g k .mask) p) ∙ omega arith)
+      (λ k. getD coeffs k 0 * bitAnd x (getD masks k 0 % 2 ^ (p + 1)))
+      (λ k. getD coeffs k 0 * bitAnd x (getD masks k 0 % 2 ^ p))
+      (λ k. bitAt (getD masks k 0) p * getD coeffs k 0)
+      (bitAnd x (2 ^ p)) len
+      (λ k. ap (λ (n : ℕ). getD coeffs k 0 * n) (and-next x (getD masks k 0) p) ∙ omega arith)
 
-  pub low-total-none : lowTotal x g 0 ≡ 0
+  pub low-total-none : lowTotal x coeffs masks len 0 ≡ 0
   unfolding lowTotal
   low-total-none =
-      sum-zero (λ k. at g k .coeff * bitAnd x (at g k .mask % 2 ^ 0)) (g .len)
+      sum-zero (λ k. getD coeffs k 0 * bitAnd x (getD masks k 0 % 2 ^ 0)) len
       (λ k.
-      ap (λ (m : ℕ). at g k .coeff * bitAnd x m) (mod-one (at g k .mask))
-      ∙ ap (λ (n : ℕ). at g k .coeff * n) (and-zero-r x)
+      ap (λ (m : ℕ). getD coeffs k 0 * bitAnd x m) (mod-one (getD masks k 0))
+      ∙ ap (λ (n : ℕ). getD coeffs k 0 * n) (and-zero-r x)
       ∙ omega arith)
 
+-- all bits of a group of live entries
+module _ (x : ℕ) (g : Group) where
   pub low-total-all : (w : ℕ) → ((k : ℕ) → k < g .len → isLive (at g k) ≡ true)
-      → ((k : ℕ) → k < g .len → at g k .mask < 2 ^ w) → lowTotal x g w ≡ total x g
-  unfolding lowTotal total
+      → ((k : ℕ) → k < g .len → at g k .mask < 2 ^ w) → lowTotal x (g .coeffs) (g .masks) (g .len) w ≡ total x g
+  unfolding lowTotal total at
   low-total-all w live small =
       sum-ext (λ k. at g k .coeff * bitAnd x (at g k .mask % 2 ^ w)) (λ k. worth x (at g k)) (g .len)
       (λ k l. ap (λ (m : ℕ). at g k .coeff * bitAnd x m) (mod-eq-of-lt (small k l))
       ∙ sym (worth-live x (at g k) (live k l)))
 
 -- the coefficient of a bit, modulo 2 ^ w
-module _ (w : ℕ) (hw : w ≤ 64) (g : Group) (p : ℕ) where
-  bit-turn : (i s : ℕ) → Eqm (2 ^ w) s (bitSum g p i) → Eqm (2 ^ w) (bitCoeffAt w g p i s) (bitSum g p (i + 1))
+module _ (w : ℕ) (hw : w ≤ 64) (coeffs masks : List ℕ) (len p : ℕ) where
+  bit-turn : (i s : ℕ) → Eqm (2 ^ w) s (bitSum coeffs masks p i) → Eqm (2 ^ w) (bitCoeffAt w coeffs masks p i s) (bitSum coeffs masks p (i + 1))
   unfolding bitCoeffAt bitSum
-  bit-turn i s h = go (bitAt (at g i .mask) p) refl (bit-lt (at g i .mask) p)
+  bit-turn i s h = go (bitAt (getD masks i 0) p) refl (bit-lt (getD masks i 0) p)
     where
       f : ℕ → ℕ
-      f k = bitAt (at g k .mask) p * at g k .coeff
+      f k = bitAt (getD masks k 0) p * getD coeffs k 0
 
-      go : (d : ℕ) → bitAt (at g i .mask) p ≡ d → d < 2
-          → Eqm (2 ^ w) (when (eqb (bitAt (at g i .mask) p) 1) (λ _. modAdd s (at g i .coeff) w) (λ _. s))
+      go : (d : ℕ) → bitAt (getD masks i 0) p ≡ d → d < 2
+          → Eqm (2 ^ w) (when (eqb (bitAt (getD masks i 0) p) 1) (λ _. modAdd s (getD coeffs i 0) w) (λ _. s))
           (sumTo f (i + 1))
       go zero e l =
           simp e
-          (eqm-trans h (eqm-of-eq (omega (arith, sum-next f i, ap (λ (n : ℕ). n * at g i .coeff) e))))
+          (eqm-trans h (eqm-of-eq (omega (arith, sum-next f i, ap (λ (n : ℕ). n * getD coeffs i 0) e))))
       go (suc zero) e l =
           simp e
-          (eqm-trans (mod-add-eqm s (at g i .coeff) w hw)
-          (eqm-trans (eqm-add h (eqm-refl (at g i .coeff)))
-          (eqm-of-eq (omega (arith, sum-next f i, ap (λ (n : ℕ). n * at g i .coeff) e)))))
+          (eqm-trans (mod-add-eqm s (getD coeffs i 0) w hw)
+          (eqm-trans (eqm-add h (eqm-refl (getD coeffs i 0)))
+          (eqm-of-eq (omega (arith, sum-next f i, ap (λ (n : ℕ). n * getD coeffs i 0) e)))))
       go (suc (suc d)) e l = absurd (omega arith)
 
-  bit-start : Eqm (2 ^ w) 0 (bitSum g p 0)
+  bit-start : Eqm (2 ^ w) 0 (bitSum coeffs masks p 0)
   unfolding bitSum sumTo
   bit-start = eqm-refl 0
 
-  pub bit-coeff : Eqm (2 ^ w) (bitCoeff w g p) (bitSum g p (g .len))
+  pub bit-coeff : Eqm (2 ^ w) (bitCoeff w coeffs masks len p) (bitSum coeffs masks p len)
   unfolding bitCoeff
   bit-coeff =
-      for-ind (λ i s. Eqm (2 ^ w) s (bitSum g p i)) (bitCoeffAt w g p) 0 0 (g .len) (omega arith)
+      for-ind (λ i s. Eqm (2 ^ w) s (bitSum coeffs masks p i)) (bitCoeffAt w coeffs masks p) 0 0 len (omega arith)
       (λ i s l u h. bit-turn i s h) bit-start
 
 -- ---- as sums over the bits
@@ -150,28 +154,31 @@ low-bits x m (suc p) =
 pub and-bits : (w x m : ℕ) → m < 2 ^ w → bitAnd x m ≡ sumTo (λ k. bitAt m k * (bitAt x k * 2 ^ k)) w
 and-bits w x m h = ap (bitAnd x) (sym (mod-eq-of-lt h)) ∙ low-bits x m w
 
-module _ (w : ℕ) (hw : w ≤ 64) (x : ℕ) (g : Group) where
-  low-total-bits : (p : ℕ) → Eqm (2 ^ w) (lowTotal x g p) (sumTo (λ k. bitCoeff w g k * (bitAt x k * 2 ^ k)) p)
+module _ (w : ℕ) (hw : w ≤ 64) (x : ℕ) (coeffs masks : List ℕ) (len : ℕ) where
+  low-total-bits : (p : ℕ) → Eqm (2 ^ w) (lowTotal x coeffs masks len p) (sumTo (λ k. bitCoeff w coeffs masks len k * (bitAt x k * 2 ^ k)) p)
   unfolding sumTo
-  low-total-bits zero = eqm-of-eq (low-total-none x g)
+  low-total-bits zero = eqm-of-eq (low-total-none x coeffs masks len)
   low-total-bits (suc p) =
       eqm-trans
-      (eqm-of-eq (ap (lowTotal x g) (let e : suc p ≡ p + 1 = omega arith in e) ∙ low-total-next x g p))
+      (eqm-of-eq (ap (lowTotal x coeffs masks len) (let e : suc p ≡ p + 1 = omega arith in e) ∙ low-total-next x coeffs masks len p))
       (eqm-add (low-total-bits p)
-      (eqm-trans (eqm-mul-r (bitAnd x (2 ^ p)) (eqm-sym (bit-coeff w hw g p)))
-      (eqm-of-eq (ap (λ (n : ℕ). bitCoeff w g p * n) (and-one x p)))))
+      (eqm-trans (eqm-mul-r (bitAnd x (2 ^ p)) (eqm-sym (bit-coeff w hw coeffs masks len p)))
+      (eqm-of-eq (ap (λ (n : ℕ). bitCoeff w coeffs masks len p * n) (and-one x p)))))
 
-  -- what a group of live entries comes to, bit by bit
-  pub total-bits : ((k : ℕ) → k < g .len → isLive (at g k) ≡ true) → ((k : ℕ) → k < g .len → at g k .mask < 2 ^ w)
-      → Eqm (2 ^ w) (total x g) (sumTo (λ k. bitCoeff w g k * (bitAt x k * 2 ^ k)) w)
-  total-bits live small = eqm-trans (eqm-of-eq (sym (low-total-all x g w live small))) (low-total-bits w)
+-- what a group of live entries comes to, bit by bit
+pub total-bits : (w : ℕ) → w ≤ 64 → (x : ℕ) (g : Group) → ((k : ℕ) → k < g .len → isLive (at g k) ≡ true)
+    → ((k : ℕ) → k < g .len → at g k .mask < 2 ^ w)
+    → Eqm (2 ^ w) (total x g) (sumTo (λ k. bitCoeff w (g .coeffs) (g .masks) (g .len) k * (bitAt x k * 2 ^ k)) w)
+total-bits w hw x g live small =
+    eqm-trans (eqm-of-eq (sym (low-total-all x g w live small)))
+    (low-total-bits w hw x (g .coeffs) (g .masks) (g .len) w)
 
 -- the coefficient of a bit fits
-pub bit-coeff-lt : (w : ℕ) → w ≤ 64 → (g : Group) (p : ℕ) → bitCoeff w g p < 2 ^ w
+pub bit-coeff-lt : (w : ℕ) → w ≤ 64 → (coeffs masks : List ℕ) (len p : ℕ) → bitCoeff w coeffs masks len p < 2 ^ w
 unfolding bitCoeff bitCoeffAt
-bit-coeff-lt w hw g p =
-    for-keeps (λ s. s < 2 ^ w) (bitCoeffAt w g p) 0 (g .len) 0
-    (λ i s l u h. turn (at g i .coeff) s (eqb (bitAt (at g i .mask) p) 1) h) (pow-pos w)
+bit-coeff-lt w hw coeffs masks len p =
+    for-keeps (λ s. s < 2 ^ w) (bitCoeffAt w coeffs masks p) 0 len 0
+    (λ i s l u h. turn (getD coeffs i 0) s (eqb (bitAt (getD masks i 0) p) 1) h) (pow-pos w)
   where
     turn : (c s : ℕ) (b : Bool) → s < 2 ^ w → when b (λ _. modAdd s c w) (λ _. s) < 2 ^ w
     turn c s true h = mod-add-lt s c w hw

@@ -1,21 +1,21 @@
--- Laws of the coefficients with their bits in two lent arrays (specs/Coalescing.antt): the place of a coefficient, and one
--- bit joined to its coefficient, as the code does it.
+-- Laws of the coefficients with their bits in two lent arrays (specs/Coalescing.antt): one bit joined to its coefficient,
+-- as the code does it.
 use mathlib.Core.Path.{_≡_, refl, ap, ap₂, sym, subst, _∙_}
 use Prim.Native.Nat.{ℕ, zero, suc, _+_, _*_, _%_, _^_, _≤_, _<_}
 use native.Mathlib.Omega.{arith}
-use native.Mathlib.Decide.{ℕ-discrete}
 use mathlib.Core.List.{List, [], _∷_, _++_}
 use mathlib.Core.Bool.{true, false}
 use lib.ListN.{length, getD, take, drop, set, length-set, length-drop}
-use lib.Seq.{length-take-le, take-take, take-suc, getD-take, getD-drop, drop-cons, split-at, set-split, take-set-lt}
+use lib.Seq.{length-take-le, take-take, take-suc, getD-take, drop-cons, split-at, set-split, take-set-lt}
 use lib.Pow.{pow-mono, shl-exact}
 use borrow.Author.Tests.{eq-eqb, ne-eqb, lt-ltb, le-ltb}
-use Rattle.record.proofs.SizedLaws.{false-true}
 use Rattle.group.specs.declared.bases.Slot.{Slot}
 use Rattle.group.specs.Bases.{insertAt}
+use Rattle.group.specs.Bucket.{IsPlace}
 use Rattle.group.proofs.InsertLaws.{take-insert, length-insert}
-use Rattle.structure_recovery.specs.CoalesceTerms.{Carried, carry}
-use Rattle.structure_recovery.specs.Coalescing.{pairs, carriedIn, IsPlace, IsCarried}
+use Rattle.group.proofs.KeysLaws.{place-first}
+use Rattle.structure_recovery.specs.Carried.{Carried, carry}
+use Rattle.structure_recovery.specs.Coalescing.{pairs, carriedIn, IsCarried}
 use Rattle.structure_recovery.proofs.CarriedLaws.{carried, carry-joined, carry-here, carry-later}
 use Rattle.structure_recovery.proofs.CarriedLaws.{bitsBelow, below-cons}
 
@@ -68,44 +68,6 @@ in-next n xs ys lx ly =
     (ap₂ pairs (take-suc xs n 0 lx) (take-suc ys n 0 ly)
     ∙ pairs-append (take n xs) (take n ys) (same-length n xs ys (omega arith) (omega arith)) (getD xs n 0 ∷ [])
     (getD ys n 0 ∷ []))
-
--- ---- the place of a coefficient, as the code finds it
-
-module _ (c n : ℕ) (carried : List ℕ) (k : ℕ) (low : (j : ℕ) → j < k → getD carried j 0 < c) where
-  pub place-there : k < n → getD carried k 0 ≡ c → IsPlace c n carried (record { at = k; found = true })
-  place-there lt e =
-      record {
-        at-le = omega arith;
-        below = low;
-        there = λ _. (lt, e);
-        above = λ q. false-true (sym q);
-      }
-
-  pub place-before : k < n → c < getD carried k 0 → IsPlace c n carried (record { at = k; found = false })
-  place-before lt h =
-      record {
-        at-le = omega arith;
-        below = low;
-        there = λ q. false-true q;
-        above = λ _ _. h;
-      }
-
-  pub place-next : (getD carried k 0 ≡ c → ⊥) → getD carried k 0 ≤ c → (j : ℕ) → j < k + 1 → getD carried j 0 < c
-  place-next ne le j lt = go (ℕ-discrete j k)
-    where
-      go : Dec (j ≡ k) → getD carried j 0 < c
-      go (yes e) = subst (λ (i : ℕ). getD carried i 0 < c) (sym e) (omega (arith, ne, le))
-      go (no e) = low j (omega (arith, e, lt))
-
-  pub place-end : k ≤ n → n ≤ k → IsPlace c n carried (record { at = n; found = false })
-  place-end a b =
-      let q : k ≡ n = omega arith in
-      record {
-        at-le = omega arith;
-        below = λ j lt. low j (omega arith);
-        there = λ q. false-true q;
-        above = λ _ lt. absurd (omega (arith, lt));
-      }
 
 -- ---- one bit
 
@@ -229,12 +191,7 @@ module _ (c p n : ℕ) (carried bits : List ℕ) (lc : n < length carried) (lb :
       ∙ ap (λ (l : List ℕ). l ++ y ∷ drop k b) (sym (take-take k n bits le)) in
       let behind : length (drop k a) ≡ length (drop k b) =
       length-drop k a ∙ omega (arith, len-a, len-b, length-drop k b) in
-      let first : 0 < length (drop k a) → c < getD (drop k a) 0 0 =
-      (λ some.
-      let lt : k < n = omega (arith, some, length-drop k a, len-a) in
-      let z : k + 0 ≡ k = omega arith in
-      subst (λ (x : ℕ). c < x)
-      (sym (getD-drop k a 0 0 ∙ ap (λ (j : ℕ). getD a j 0) z ∙ getD-take n carried k 0 lt)) (s .above e lt)) in
+      let first : 0 < length (drop k a) → c < getD (drop k a) 0 0 = place-first c n carried (omega arith) s e in
       let are : carriedIn (n + 1) carried′ bits′ ≡ carry c p (carriedIn n carried bits) =
       ap₂ pairs left right
       ∙ pairs-append (take k a) (take k b) fronts (c ∷ drop k a) (y ∷ drop k b)

@@ -20,10 +20,11 @@ use Rattle.semilinear.proofs.FormLaws.{form-parts}
 use Rattle.semilinear.proofs.AtomLaws.{Atom}
 use Rattle.group.proofs.TotalLaws.{total}
 use Rattle.group.proofs.BasesLaws.{risingFrom, risen}
-use Rattle.group.proofs.GroupsLaws.{basisSum, basesSum, groups-share, bases-rising}
+use Rattle.group.proofs.GroupsLaws.{basisSum, basesSum, termValue, groups-value, bases-rising}
 use Rattle.group.proofs.GroupOfLaws.{Fresh, group-of}
 use Rattle.group.proofs.ExtendsLaws.{Extends, extends-trans, ungrouped-extends}
-use Rattle.structure_recovery.specs.CoalesceTerms.{carriedOf, carriedRows}
+use Rattle.structure_recovery.specs.Carried.{carriedOf}
+use Rattle.structure_recovery.specs.CoalesceTerms.{carriedRows}
 use Rattle.structure_recovery.specs.CoalesceTerms.{coalesceGroup, coalesceAll, coalesceForm}
 use Rattle.structure_recovery.proofs.CarriedLaws.{carriedSum, carried-below, carried-sum}
 use Rattle.structure_recovery.proofs.AddedLaws.{Added, added-refl, added-trans, added-eqm, added-extends}
@@ -37,33 +38,33 @@ module _ (w : ℕ) (hw : w ≤ 64) (vars : List ℕ) (before : List Row)
       → (rows : List Row) → Extends w vars before rows
       → Added w vars (total (value w vars b) g) rows (coalesceGroup w b g rows)
   unfolding coalesceGroup
-  group-added b hb g fresh rows f = go (ltb (g .len) 2 || leb (g .len) (length (carriedOf w g)))
+  group-added b hb g fresh rows f = go (ltb (g .len) 2 || leb (g .len) (length (carriedOf w (g .coeffs) (g .masks) (g .len))))
     where
       v : ℕ
       v = value w vars b
 
-      same : Eqm (2 ^ w) (carriedSum v (carriedOf w g)) (total v g)
+      same : Eqm (2 ^ w) (carriedSum v (carriedOf w (g .coeffs) (g .masks) (g .len))) (total v g)
       same =
           carried-sum w hw v g (λ k l. live-fresh (at g k) (fresh k l .unmarked)) (λ k l. fresh k l .mask-lt)
 
       go : (s : Bool)
-          → Added w vars (total v g) rows (when s (λ _. settle w g rows) (λ _. carriedRows w b (carriedOf w g) rows))
+          → Added w vars (total v g) rows (when s (λ _. settle w g rows) (λ _. carriedRows w b (carriedOf w (g .coeffs) (g .masks) (g .len)) rows))
       go true = added-settled w hw vars b before g fresh rows f
       go false =
           added-eqm w hw vars same
-          (added-carried w hw vars b hb (carriedOf w g) (carried-below w hw v g) rows (f .ok ok))
+          (added-carried w hw vars b hb (carriedOf w (g .coeffs) (g .masks) (g .len)) (carried-below w hw v (g .coeffs) (g .masks) (g .len)) rows (f .ok ok))
 
   -- all groups
   pub all-added : length before ≤ 256 → (l : List Tree) (n : ℕ) → risingFrom n l ≡ true
       → (rows : List Row) → Extends w vars before rows
-      → Added w vars (basesSum variableBasis w vars l before) rows (coalesceAll w before l rows)
+      → Added w vars (basesSum variableBasis w (termValue w vars) l before) rows (coalesceAll w before l rows)
   unfolding basesSum coalesceAll
   all-added most [] n r rows f = added-refl w hw vars rows
   all-added most (b ∷ l) n r rows f =
       let q = risen n b l r in
       let o = group-of variableBasis w vars b (q .atom .expr) before most ok in
       let g : Group = groupOf variableBasis w b 0 before emptyGroup in
-      let first : Added w vars (basisSum variableBasis w vars b before) rows (coalesceGroup w b g rows) =
+      let first : Added w vars (basisSum variableBasis w (termValue w vars) b before) rows (coalesceGroup w b g rows) =
       added-eqm w hw vars (eqm-of-eq (o .sum)) (group-added b (q .atom) g (o .fresh) rows f) in
       added-trans w hw vars first
       (all-added most l (structuralHash b) (q .rest) (coalesceGroup w b g rows)
@@ -72,7 +73,7 @@ module _ (w : ℕ) (hw : w ≤ 64) (vars : List ℕ) (before : List Row)
 -- what the rows of a valid form become
 coalesced : (vars : List ℕ) (f : Form) → validForm f ≡ true
     → Added (f .bitwidth) vars
-    (basesSum variableBasis (f .bitwidth) vars (basesOf variableBasis (f .bitwidth) (f .rows) []) (f .rows))
+    (basesSum variableBasis (f .bitwidth) (termValue (f .bitwidth) vars) (basesOf variableBasis (f .bitwidth) (f .rows) []) (f .rows))
     (ungrouped variableBasis (f .bitwidth) (f .rows)) (coalesceForm f .rows)
 unfolding coalesceForm
 coalesced vars f e =
@@ -93,7 +94,7 @@ value-coalesce vars f e =
     let same : Eqm (2 ^ w) (f .constant + sumRows w vars rows) (f .constant + sumRows w vars (f .rows)) =
     eqm-add (eqm-refl (f .constant))
     (eqm-trans (coalesced vars f e .sum)
-    (eqm-of-eq (sym (groups-share variableBasis w vars (f .rows) (v .rows-ok))))) in
+    (eqm-of-eq (sym (groups-value variableBasis w vars (f .rows) (v .rows-ok))))) in
     same .eqm
 
 -- coalescing gives a valid form where its table keeps the limits

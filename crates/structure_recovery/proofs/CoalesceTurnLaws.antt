@@ -15,7 +15,6 @@ use Rattle.semilinear.specs.Form.{Row, fitsTable}
 use Rattle.group.specs.declared.Group.{Group}
 use Rattle.group.specs.Group.{at, isLive, emptyGroup, variableBasis, groupOf, settle}
 use Rattle.group.specs.Made.{Room}
-use Rattle.group.specs.Links.{lent}
 use Rattle.group.specs.declared.views.View.{View}
 use Rattle.group.specs.Gathered.{gathered, addWord, settleWords}
 use Rattle.group.specs.Lone.{loneGroup}
@@ -23,30 +22,31 @@ use Rattle.group.proofs.GatherLaws.{gathered-atoms}
 use Rattle.group.proofs.SettleWordsLaws.{length-settle}
 use Rattle.group.proofs.ShownLaws.{settle-fits, settle-length, shown-settle}
 use Rattle.group.proofs.LoneLaws.{lone-len, settle-lone}
-use Rattle.structure_recovery.specs.CoalesceTerms.{Carried, carriedOf, carriedRows, coalesceGroup, coalesceAll}
+use Rattle.structure_recovery.specs.Carried.{Carried, carriedOf}
+use Rattle.structure_recovery.specs.CoalesceTerms.{carriedRows, coalesceGroup, coalesceAll}
 use Rattle.structure_recovery.specs.Showing.{Shows}
 use Rattle.structure_recovery.specs.Coalescing.{carriedIn, IsCarried, Coalesced}
-use Rattle.structure_recovery.proofs.CarriedToLaws.{carried-few, carried-lent}
+use Rattle.structure_recovery.proofs.CarriedToLaws.{carried-few}
 use Rattle.structure_recovery.proofs.NewTermsLaws.{rows-past, rows-longer, coalesced-as, coalesced-then}
 
 -- ---- one group
 
 module _ (w : ℕ) (t : Tree) (g : Group) where
   abbrev entries : ℕ
-  entries = length (carriedOf w g)
+  entries = length (carriedOf w (g .coeffs) (g .masks) (g .len))
 
   pub group-past : (l : List Row) → fitsTable l ≡ false → fitsTable (coalesceGroup w t g l) ≡ false
   unfolding coalesceGroup
   group-past l h =
       when-both (λ (r : List Row). fitsTable r ≡ false) (ltb (g .len) 2 || leb (g .len) entries) (settle w g l)
-      (carriedRows w t (carriedOf w g) l) (λ _. settle-fits w g l ∙ h) (λ _. rows-past w t (carriedOf w g) l h)
+      (carriedRows w t (carriedOf w (g .coeffs) (g .masks) (g .len)) l) (λ _. settle-fits w g l ∙ h) (λ _. rows-past w t (carriedOf w (g .coeffs) (g .masks) (g .len)) l h)
 
   pub group-longer : w ≤ 64 → (l : List Row) → length l ≤ length (coalesceGroup w t g l)
   unfolding coalesceGroup
   group-longer hw l =
       when-both (λ (r : List Row). length l ≤ length r) (ltb (g .len) 2 || leb (g .len) entries) (settle w g l)
-      (carriedRows w t (carriedOf w g) l) (λ _. omega (arith, settle-length w g l))
-      (λ _. rows-longer w t hw (carriedOf w g) l)
+      (carriedRows w t (carriedOf w (g .coeffs) (g .masks) (g .len)) l) (λ _. omega (arith, settle-length w g l))
+      (λ _. rows-longer w t hw (carriedOf w (g .coeffs) (g .masks) (g .len)) l)
 
   short-settled : g .len < 2 → (l : List Row) → coalesceGroup w t g l ≡ settle w g l
   unfolding coalesceGroup
@@ -57,19 +57,19 @@ module _ (w : ℕ) (t : Tree) (g : Group) where
   many-settled two h l = simp (le-ltb (g .len) 2 two, le-leb (g .len) entries h)
 
   rewritten : 2 ≤ g .len → entries < g .len → (l : List Row)
-      → coalesceGroup w t g l ≡ carriedRows w t (carriedOf w g) l
+      → coalesceGroup w t g l ≡ carriedRows w t (carriedOf w (g .coeffs) (g .masks) (g .len)) l
   unfolding coalesceGroup
   rewritten two h l = simp (le-ltb (g .len) 2 two, lt-leb (g .len) entries h)
 
   -- what the bits of the group carry, as the code finds it
   module _ (hw : w ≤ 64) {carried₀ bits₀ carried bits : List ℕ} {r : ℕ}
-      (c : IsCarried (carriedOf w (lent (g .coeffs) (g .masks) [] (g .len))) carried₀ bits₀ carried bits r) where
+      (c : IsCarried (carriedOf w (g .coeffs) (g .masks) (g .len)) carried₀ bits₀ carried bits r) where
     count-is : r ≡ entries
-    count-is = c .count ∙ ap length (carried-lent w g)
+    count-is = c .count
 
     pub carried-count : r ≤ 64
     unfolding carriedOf
-    carried-count = omega (arith, count-is, carried-few w g w)
+    carried-count = omega (arith, count-is, carried-few w (g .coeffs) (g .masks) (g .len) w)
 
   module _ (made out coeffs : List ℕ) (hw : w ≤ 64) (n : ℕ) (below : (k : ℕ) → k < g .len → at g k .atom < n)
       (room : Room made out) where
@@ -99,7 +99,7 @@ module _ (w : ℕ) (t : Tree) (g : Group) where
     short-turn e h = settled-turn e (short-settled h)
 
     module _ (two : 2 ≤ g .len) {carried₀ bits₀ carried bits : List ℕ} {r : ℕ}
-        (c : IsCarried (carriedOf w (lent (g .coeffs) (g .masks) [] (g .len))) carried₀ bits₀ carried bits r) where
+        (c : IsCarried (carriedOf w (g .coeffs) (g .masks) (g .len)) carried₀ bits₀ carried bits r) where
       pub many-turn : {coeffs′ : List ℕ} → coeffs′ ≡ settleWords w (g .coeffs) (g .atoms) (g .marks) (g .len) coeffs
           → g .len ≤ r → Coalesced w n 64 (coalesceGroup w t g) made out coeffs made out coeffs′
       many-turn e h = settled-turn e (many-settled two (omega (arith, count-is hw c, h)))
@@ -110,7 +110,7 @@ module _ (w : ℕ) (t : Tree) (g : Group) where
           → Coalesced w n 64 (coalesceGroup w t g) made out coeffs made′ out′ coeffs′
       rewritten-turn h p =
           coalesced-as (omega arith) (carried-count hw c)
-          (λ l. ap (λ (x : List Carried). carriedRows w t x l) (c .are ∙ carried-lent w g)
+          (λ l. ap (λ (x : List Carried). carriedRows w t x l) (c .are)
           ∙ sym (rewritten two (omega (arith, count-is hw c, h)) l)) p
 
 -- the group that was gathered

@@ -20,7 +20,7 @@ use Rattle.semilinear.specs.Items.{afterAtoms}
 use Rattle.semilinear.specs.Valid.{frontOk, isSemilinear}
 use Rattle.semilinear.specs.DecodeForm.{rowsOf, decodeForm, readForm}
 use Rattle.semilinear.specs.Answers.{GivesForm}
-use Rattle.semilinear.specs.Compact.{limitOutcome}
+use Rattle.semilinear.specs.PassOutcome.{limitOutcome}
 use Rattle.semilinear.specs.Scan.{AtomsEnd}
 use Rattle.semilinear.specs.Table.{Placed}
 use Rattle.semilinear.specs.Terms.{coeffsOf, coeffsIn, Copied, Ends, Finished}

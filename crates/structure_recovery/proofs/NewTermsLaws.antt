@@ -25,7 +25,8 @@ use Rattle.group.proofs.CoeffsLaws.{coeffs-create, fits-length, fits-less}
 use Rattle.group.proofs.SettleLaws.{add-length}
 use Rattle.group.proofs.ShownLaws.{add-fits, shown-add}
 use Rattle.structure_recovery.specs.RecoverStructure.{rowWith, withBare}
-use Rattle.structure_recovery.specs.CoalesceTerms.{Carried, carriedRows}
+use Rattle.structure_recovery.specs.Carried.{Carried}
+use Rattle.structure_recovery.specs.CoalesceTerms.{carriedRows}
 use Rattle.structure_recovery.specs.Showing.{Shows, BareFound}
 use Rattle.structure_recovery.specs.Coalescing.{carriedIn, pairs, carriedRow, Coalesced}
 use Rattle.structure_recovery.proofs.CarriedInLaws.{in-next}
@@ -131,44 +132,44 @@ module _ (w : ℕ) (t : Tree) where
         ))
 
   rows-first : (x : Carried) (l : List Carried) (rows : List Row)
-      → carriedRows w t (x ∷ l) rows ≡ carriedRows w t l (carriedRow w t (x .coeff) (x .bits) rows)
+      → carriedRows w t (x ∷ l) rows ≡ carriedRows w t l (carriedRow w t (x .coeff) (x .mask) rows)
   unfolding carriedRows carriedRow
-  rows-first x l rows = go (eqb (x .bits) (2 ^ w - 1))
+  rows-first x l rows = go (eqb (x .mask) (2 ^ w - 1))
     where
       go : (s : Bool)
-          → when s (λ _. carriedRows w t l (bare (x .coeff) (x .bits) rows))
-          (λ _. carriedRows w t l (masked (x .coeff) (x .bits) rows))
+          → when s (λ _. carriedRows w t l (bare (x .coeff) (x .mask) rows))
+          (λ _. carriedRows w t l (masked (x .coeff) (x .mask) rows))
           ≡ carriedRows w t l
-          (when s (λ _. bare (x .coeff) (x .bits) rows) (λ _. masked (x .coeff) (x .bits) rows))
+          (when s (λ _. bare (x .coeff) (x .mask) rows) (λ _. masked (x .coeff) (x .mask) rows))
       go true = refl
       go false = refl
 
   rows-last : (l : List Carried) (x : Carried) (rows : List Row)
-      → carriedRows w t (l ++ (x ∷ [])) rows ≡ carriedRow w t (x .coeff) (x .bits) (carriedRows w t l rows)
+      → carriedRows w t (l ++ (x ∷ [])) rows ≡ carriedRow w t (x .coeff) (x .mask) (carriedRows w t l rows)
   unfolding carriedRows
   rows-last [] x rows = rows-first x [] rows
   rows-last (y ∷ l) x rows =
       rows-first y (l ++ (x ∷ [])) rows
-      ∙ rows-last l x (carriedRow w t (y .coeff) (y .bits) rows)
-      ∙ ap (carriedRow w t (x .coeff) (x .bits)) (sym (rows-first y l rows))
+      ∙ rows-last l x (carriedRow w t (y .coeff) (y .mask) rows)
+      ∙ ap (carriedRow w t (x .coeff) (x .mask)) (sym (rows-first y l rows))
 
   pub rows-past : (l : List Carried) (rows : List Row) → fitsTable rows ≡ false
       → fitsTable (carriedRows w t l rows) ≡ false
   unfolding carriedRows
   rows-past [] rows h = h
   rows-past (x ∷ l) rows h =
-      ap fitsTable (rows-first x l rows) ∙ rows-past l _ (row-past (x .coeff) (x .bits) rows h)
+      ap fitsTable (rows-first x l rows) ∙ rows-past l _ (row-past (x .coeff) (x .mask) rows h)
 
   pub rows-longer : w ≤ 64 → (l : List Carried) (rows : List Row) → length rows ≤ length (carriedRows w t l rows)
   unfolding carriedRows
   rows-longer hw [] rows = omega arith
   rows-longer hw (x ∷ l) rows =
-      let r : List Row = carriedRow w t (x .coeff) (x .bits) rows in
+      let r : List Row = carriedRow w t (x .coeff) (x .mask) rows in
       omega (
         arith,
         ap length (rows-first x l rows),
         rows-longer hw l r,
-        row-longer (x .coeff) (x .bits) rows hw,
+        row-longer (x .coeff) (x .mask) rows hw,
       )
 
 -- ---- turns

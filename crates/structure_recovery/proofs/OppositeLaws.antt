@@ -3,18 +3,17 @@
 use mathlib.Core.Path.{_≡_}
 use Prim.Native.Nat.{ℕ}
 use mathlib.Core.Bool.{true}
-use lib.Count.{ones}
 use lib.Dec.{leb}
 use borrow.Author.Tests.{eq-eqb}
 use Rattle.arith.specs.Width.{modAdd}
 use Rattle.record.specs.Tree.{Tree}
 use Rattle.group.specs.Group.{at}
-use Rattle.structure_recovery.specs.RecoverStructure.{Recovery, recoverXor, recoverPair}
+use Rattle.structure_recovery.specs.RecoverStructure.{Recovery, recoverXor, countOnes, recoverPair}
 
 -- the mask of fewer ones is the literal; a tie takes the first entry's
 pub opposite-xor : (w : ℕ) (b : Tree) (i j : ℕ) (x : Recovery)
     → modAdd (at (x .group) i .coeff) (at (x .group) j .coeff) w ≡ 0
-    → leb (ones (at (x .group) i .mask)) (ones (at (x .group) j .mask)) ≡ true
+    → leb (countOnes (at (x .group) i .mask)) (countOnes (at (x .group) j .mask)) ≡ true
     → recoverPair w b i j x ≡ recoverXor w b i j x
 unfolding recoverPair
 opposite-xor w b i j x e fewer = simp (eq-eqb (modAdd (at (x .group) i .coeff) (at (x .group) j .coeff) w) 0 e, fewer)

@@ -1,23 +1,35 @@
 -- Laws of `recoverPair`, `recoverAt` and `recoverGroup` (specs/RecoverStructure.antt) by the tests that the code makes:
 -- each of them is one step, or none.
-use mathlib.Core.Path.{_≡_, refl, ap, sym, subst, _∙_}
+use mathlib.Core.Path.{_≡_, refl, ap, ap₂, sym, subst, _∙_}
 use mathlib.Core.Logic.{_≢_}
-use Prim.Native.Nat.{ℕ, _+_, _-_, _^_, _≤_, _<_}
+use Prim.Native.Nat.{ℕ, zero, suc, _+_, _-_, _/_, _%_, _^_, _≤_, _<_}
 use native.Mathlib.Omega.{arith}
 use mathlib.Core.List.{List}
-use mathlib.Core.Bool.{_||_}
+use mathlib.Core.Bool.{Bool, true, false, _||_}
 use lib.ListN.{getD}
-use lib.Count.{ones}
-use lib.Dec.{eqb}
-use borrow.Author.Tests.{eq-eqb, ne-eqb, le-leb, lt-leb, lt-ltb, le-ltb}
+use lib.Count.{ones, onesIn, ones-step}
+use lib.Dec.{eqb, leb}
+use borrow.Author.Tests.{eq-eqb, ne-eqb, lt-ltb, le-ltb}
 use Rattle.arith.specs.Width.{modAdd, modSub}
 use Rattle.record.specs.Tree.{Tree}
 use Rattle.record.proofs.LoopLaws.{when-both, first-from, for-same}
 use Rattle.group.specs.declared.Group.{Group}
 use Rattle.group.specs.Group.{at}
-use Rattle.structure_recovery.specs.RecoverStructure.{Recovery, recoverXor, eliminateMask, recoverPair}
+use Rattle.structure_recovery.specs.RecoverStructure.{Recovery, recoverXor, eliminateMask, countOnes, recoverPair}
 use Rattle.structure_recovery.specs.RecoverStructure.{isPartner, partnerOf, recoverAt, recoverGroup}
 use Rattle.structure_recovery.specs.Recovering.{partnerFits, partnerIn, NoPartner}
+
+-- ---- the ones of a word, as the code counts them
+
+word-ones : (d n : ℕ) → n < 2 ^ d → onesIn d n ≡ ones n
+unfolding onesIn ones
+word-ones zero n h = let z : n ≡ 0 = omega (arith, h) in sym (ap ones z)
+word-ones (suc d) n h =
+    let half : n / 2 < 2 ^ d = omega (arith, h) in
+    ap (λ (k : ℕ). n % 2 + k) (word-ones d (n / 2) half) ∙ sym (ones-step n)
+
+pub counts-fewer : (m p : ℕ) → m < 2 ^ 64 → p < 2 ^ 64 → leb (ones m) (ones p) ≡ leb (countOnes m) (countOnes p)
+counts-fewer m p hm hp = ap₂ leb (sym (word-ones 64 m hm)) (sym (word-ones 64 p hp))
 
 -- ---- the pair
 
@@ -29,16 +41,16 @@ module _ (w : ℕ) (t : Tree) (i j : ℕ) (x : Recovery) where
   d g = getD (g .coeffs) j 0
 
   xor-first : modAdd (c (x .group)) (d (x .group)) w ≡ 0
-      → ones (getD (x .group .masks) i 0) ≤ ones (getD (x .group .masks) j 0)
+      → leb (countOnes (getD (x .group .masks) i 0)) (countOnes (getD (x .group .masks) j 0)) ≡ true
       → recoverXor w t i j x ≡ recoverPair w t i j x
   unfolding recoverPair at
-  xor-first z le = sym (simp (eq-eqb _ _ z, le-leb _ _ le))
+  xor-first z le = sym (simp (eq-eqb _ _ z, le))
 
   xor-second : modAdd (c (x .group)) (d (x .group)) w ≡ 0
-      → ones (getD (x .group .masks) j 0) < ones (getD (x .group .masks) i 0)
+      → leb (countOnes (getD (x .group .masks) i 0)) (countOnes (getD (x .group .masks) j 0)) ≡ false
       → recoverXor w t j i x ≡ recoverPair w t i j x
   unfolding recoverPair at
-  xor-second z lt = sym (simp (eq-eqb _ _ z, lt-leb _ _ lt))
+  xor-second z lt = sym (simp (eq-eqb _ _ z, lt))
 
   pair-same : (modAdd (c (x .group)) (d (x .group)) w ≡ 0 → ⊥) → modSub (c (x .group)) (d (x .group)) w ≡ 0
       → x ≡ recoverPair w t i j x
@@ -54,19 +66,21 @@ module _ (w : ℕ) (t : Tree) (i j : ℕ) (x : Recovery) where
 -- the same of the group that the code has
 module _ (w : ℕ) (t : Tree) (i j : ℕ) (g : Group) {s : ℕ} (es : s ≡ modAdd (getD (g .coeffs) i 0) (getD (g .coeffs) j 0) w)
   where
-    pub pair-xor : s ≡ 0 → ones (getD (g .masks) i 0) ≤ ones (getD (g .masks) j 0)
-        → (x : Recovery) → g ≡ x .group → recoverXor w t i j x ≡ recoverPair w t i j x
-    pair-xor z le x e =
-        xor-first w t i j x
-        (subst (λ (k : Group). modAdd (getD (k .coeffs) i 0) (getD (k .coeffs) j 0) w ≡ 0) e (sym es ∙ z))
-        (subst (λ (k : Group). ones (getD (k .masks) i 0) ≤ ones (getD (k .masks) j 0)) e le)
+    module _ {fewer : Bool} (ef : fewer ≡ leb (countOnes (getD (g .masks) i 0)) (countOnes (getD (g .masks) j 0))) where
+      pub pair-xor : s ≡ 0 → fewer ≡ true → (x : Recovery) → g ≡ x .group → recoverXor w t i j x ≡ recoverPair w t i j x
+      pair-xor z le x e =
+          xor-first w t i j x
+          (subst (λ (k : Group). modAdd (getD (k .coeffs) i 0) (getD (k .coeffs) j 0) w ≡ 0) e (sym es ∙ z))
+          (subst (λ (k : Group). leb (countOnes (getD (k .masks) i 0)) (countOnes (getD (k .masks) j 0)) ≡ true) e
+          (sym ef ∙ le))
 
-    pub pair-xor-back : s ≡ 0 → ones (getD (g .masks) j 0) < ones (getD (g .masks) i 0)
-        → (x : Recovery) → g ≡ x .group → recoverXor w t j i x ≡ recoverPair w t i j x
-    pair-xor-back z lt x e =
-        xor-second w t i j x
-        (subst (λ (k : Group). modAdd (getD (k .coeffs) i 0) (getD (k .coeffs) j 0) w ≡ 0) e (sym es ∙ z))
-        (subst (λ (k : Group). ones (getD (k .masks) j 0) < ones (getD (k .masks) i 0)) e lt)
+      pub pair-xor-back : s ≡ 0 → fewer ≡ false → (x : Recovery) → g ≡ x .group
+          → recoverXor w t j i x ≡ recoverPair w t i j x
+      pair-xor-back z lt x e =
+          xor-second w t i j x
+          (subst (λ (k : Group). modAdd (getD (k .coeffs) i 0) (getD (k .coeffs) j 0) w ≡ 0) e (sym es ∙ z))
+          (subst (λ (k : Group). leb (countOnes (getD (k .masks) i 0)) (countOnes (getD (k .masks) j 0)) ≡ false) e
+          (sym ef ∙ lt))
 
     module _ (n : s ≡ 0 → ⊥) {d : ℕ} (ed : d ≡ modSub (getD (g .coeffs) i 0) (getD (g .coeffs) j 0) w) where
       not-opposite : (k : Group) → g ≡ k → modAdd (getD (k .coeffs) i 0) (getD (k .coeffs) j 0) w ≡ 0 → ⊥

@@ -6,7 +6,6 @@ use native.Mathlib.Omega.{arith}
 use native.Mathlib.Nat.{add-comm}
 use mathlib.Core.List.{List}
 use mathlib.Core.Bool.{true, false, _||_}
-use lib.Count.{ones}
 use lib.Dec.{eqb, ltb, leb}
 use borrow.Author.Tests.{eqb-true, eqb-false, ltb-true}
 use Rattle.arith.specs.Width.{modAdd, modSub}
@@ -19,7 +18,7 @@ use Rattle.group.specs.Group.{Entry, at}
 use Rattle.semilinear.proofs.AtomLaws.{Atom}
 use Rattle.record.proofs.LoopLaws.{when-both, first-from, first-true, for-keeps}
 use Rattle.structure_recovery.specs.RecoverStructure.{Recovery, recoverPair, isPartner, partnerOf, recoverAt}
-use Rattle.structure_recovery.specs.RecoverStructure.{recoverGroup}
+use Rattle.structure_recovery.specs.RecoverStructure.{countOnes, recoverGroup}
 use Rattle.structure_recovery.proofs.HeldLaws.{Kept}
 use Rattle.structure_recovery.proofs.RecoverPairLaws.{Pair, live-of-mark, pair-swap, xor-keeps, eliminate-keeps}
 
@@ -70,7 +69,7 @@ module _ (w : ℕ) (hw : w ≤ 64) (vars : List ℕ) (b : Tree) (hb : Atom b) (g
       when-both K (eqb (modAdd (e .coeff) (f .coeff) w) 0) _ _
       (λ t.
       let z : modAdd (e .coeff) (f .coeff) w ≡ 0 = eqb-true _ _ t in
-      when-both K (leb (ones (e .mask)) (ones (f .mask))) _ _
+      when-both K (leb (countOnes (e .mask)) (countOnes (f .mask))) _ _
       (λ _. xor-keeps w hw vars b hb g0 rows0 ok c0 x h i j p z)
       (λ _.
       xor-keeps w hw vars b hb g0 rows0 ok c0 x h j i (pair-swap w hw vars b hb g0 rows0 ok c0 x h i j p)

@@ -21,7 +21,7 @@ use Rattle.semilinear.proofs.AtomLaws.{Atom}
 use Rattle.group.proofs.CoeffsLaws.{fits-length}
 use Rattle.group.proofs.SettleLaws.{settled}
 use Rattle.group.proofs.BasesLaws.{risingFrom, risen}
-use Rattle.group.proofs.GroupsLaws.{basisSum, basesSum, groups-share, bases-rising}
+use Rattle.group.proofs.GroupsLaws.{basisSum, basesSum, termValue, groups-value, bases-rising}
 use Rattle.group.proofs.GroupOfLaws.{Fresh, group-of}
 use Rattle.group.proofs.ExtendsLaws.{Extends, extends-trans, grown-extends, settled-extends, ungrouped-extends}
 use Rattle.structure_recovery.specs.RecoverStructure.{Recovery, recoverAll, recoverForm}
@@ -63,7 +63,7 @@ module _ (w : ℕ) (hw : w ≤ 64) (vars : List ℕ) (before : List Row) (ok : r
       (record { held = λ k l live. held-fresh b rows (at g k) x (o .fresh k l) }) hc)
 
   group-step : (b : Tree) → Atom b → (rows : List Row) (c : ℕ) → c < 2 ^ w → Extends w vars before rows
-      → Step (basisSum anyBasis w vars b before) rows c
+      → Step (basisSum anyBasis w (termValue w vars) b before) rows c
       (settle w (oneRecovered w before b rows c .group) (oneRecovered w before b rows c .rows))
       (oneRecovered w before b rows c .constant)
   unfolding owedSum
@@ -73,7 +73,7 @@ module _ (w : ℕ) (hw : w ≤ 64) (vars : List ℕ) (before : List Row) (ok : r
       let r : Recovery = oneRecovered w before b rows c in
       let h : Kept w vars b g rows c r = kept b hb rows c hc x in
       let s = settled w vars hw (r .group) (r .rows) (λ k l live. h .all-held .held k l live .atom-lt) in
-      let begun : owedSum w vars rows g ≡ basisSum anyBasis w vars b before =
+      let begun : owedSum w vars rows g ≡ basisSum anyBasis w (termValue w vars) b before =
       owed-total w hw vars b before g (o .fresh) rows x ∙ o .sum in
       record {
         fits = h .constant-lt;
@@ -113,7 +113,7 @@ module _ (w : ℕ) (hw : w ≤ 64) (vars : List ℕ) (before : List Row) (ok : r
     fits : f .constant < 2 ^ w
     rows-ok : rowsOk w (f .rows) ≡ true
     sum : Eqm (2 ^ w) (f .constant + sumRows w vars (f .rows))
-        (c + sumRows w vars rows + basesSum anyBasis w vars l before)
+        (c + sumRows w vars rows + basesSum anyBasis w (termValue w vars) l before)
 
   recover-all : (l : List Tree) (n : ℕ) → risingFrom n l ≡ true → (rows : List Row) (c : ℕ) → c < 2 ^ w
       → Extends w vars before rows → Ends l rows c (recoverAll w before l rows c)
@@ -130,7 +130,7 @@ module _ (w : ℕ) (hw : w ≤ 64) (vars : List ℕ) (before : List Row) (ok : r
         rows-ok = below .rows-ok;
         sum =
             eqm-trans (below .sum)
-            (eqm-trans (eqm-add (s .sum) (eqm-refl (basesSum anyBasis w vars l before))) (eqm-of-eq (omega arith)));
+            (eqm-trans (eqm-add (s .sum) (eqm-refl (basesSum anyBasis w (termValue w vars) l before))) (eqm-of-eq (omega arith)));
       }
 
 -- ---- the form
@@ -156,7 +156,7 @@ value-recover vars f e =
     let w : ℕ = f .bitwidth in
     let r : Form = recoverForm f in
     let h = recover-ends vars f e in
-    let share = groups-share anyBasis w vars (f .rows) (form-parts f e .rows-ok) in
+    let share = groups-value anyBasis w vars (f .rows) (form-parts f e .rows-ok) in
     let same : Eqm (2 ^ w) (r .constant + sumRows w vars (r .rows)) (f .constant + sumRows w vars (f .rows)) =
     eqm-trans (h .sum) (eqm-of-eq (omega (arith, share))) in
     ap (λ (n : ℕ). (r .constant + sumRows n vars (r .rows)) % 2 ^ n) (h .width) ∙ same .eqm

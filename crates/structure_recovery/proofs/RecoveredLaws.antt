@@ -7,7 +7,6 @@ use native.Mathlib.Decide.{ℕ-discrete}
 use mathlib.Core.List.{List, [], _∷_}
 use mathlib.Core.Bool.{true, false, _||_}
 use lib.ListN.{length, getD}
-use lib.Count.{ones}
 use lib.Dec.{eqb, ltb, leb}
 use borrow.Author.Tests.{eq-eqb, ne-eqb}
 use Rattle.arith.specs.Width.{modAdd, modSub}
@@ -21,7 +20,7 @@ use Rattle.group.specs.declared.Group.{Group}
 use Rattle.group.specs.Group.{Entry, at, createRow}
 use Rattle.group.specs.Made.{tableOf, Room}
 use Rattle.structure_recovery.specs.RecoverStructure.{Recovery, rowWith, withBare, recoverXor, eliminateMask}
-use Rattle.structure_recovery.specs.RecoverStructure.{recoverPair, partnerOf, recoverAt, recoverGroup}
+use Rattle.structure_recovery.specs.RecoverStructure.{countOnes, recoverPair, partnerOf, recoverAt, recoverGroup}
 use Rattle.structure_recovery.specs.Recovering.{Stands, Turned, Recovers, Recovered}
 
 -- what holds below i, and of i, holds below i + 1
@@ -72,7 +71,7 @@ module _ (w : ℕ) (t : Tree) where
       let e : Entry = at (x .group) i in
       let f : Entry = at (x .group) j in
       when-both Past (eqb (modAdd (e .coeff) (f .coeff) w) 0) _ _
-      (λ _. when-both Past (leb (ones (e .mask)) (ones (f .mask))) _ _ (λ _. past-xor i j x h) (λ _. past-xor j i x h))
+      (λ _. when-both Past (leb (countOnes (e .mask)) (countOnes (f .mask))) _ _ (λ _. past-xor i j x h) (λ _. past-xor j i x h))
       (λ _. when-both Past (eqb (modSub (e .coeff) (f .coeff) w) 0) _ _ (λ _. h)
       (λ _. past-eliminate (modSub (e .coeff) (f .coeff) w) i j x h))
 

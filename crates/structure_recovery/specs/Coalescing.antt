@@ -2,19 +2,18 @@
 -- in two lent arrays, and what a turn makes of the table, the coefficients and the bytes, said for all rows that they
 -- show.
 use mathlib.Core.Path.{_≡_}
-use Prim.Native.Nat.{ℕ, _+_, _-_, _^_, _≤_, _<_}
+use Prim.Native.Nat.{ℕ, _+_, _-_, _^_, _≤_}
 use mathlib.Core.List.{List, [], _∷_}
-use mathlib.Core.Bool.{true, false}
 use lib.ListN.{length, getD, take}
 use lib.Dec.{eqb}
 use Rattle.record.specs.Choice.{when}
 use Rattle.record.specs.Tree.{Tree}
 use Rattle.semilinear.specs.Form.{Row}
-use Rattle.group.specs.declared.bases.Slot.{Slot}
 use Rattle.group.specs.Group.{createMasked, addCoeff, variableBasis, basesOf, ungrouped}
 use Rattle.group.specs.Made.{Room, Held}
 use Rattle.structure_recovery.specs.RecoverStructure.{rowWith, withBare}
-use Rattle.structure_recovery.specs.CoalesceTerms.{Carried, coalesceAll}
+use Rattle.structure_recovery.specs.Carried.{Carried}
+use Rattle.structure_recovery.specs.CoalesceTerms.{coalesceAll}
 use Rattle.structure_recovery.specs.Showing.{Shows}
 
 -- ---- the two arrays
@@ -22,18 +21,11 @@ use Rattle.structure_recovery.specs.Showing.{Shows}
 unfoldable pub pairs : List ℕ → List ℕ → List Carried
 pairs [] bits = []
 pairs (c ∷ l) [] = []
-pairs (c ∷ l) (m ∷ bits) = record { coeff = c; bits = m } ∷ pairs l bits
+pairs (c ∷ l) (m ∷ bits) = record { coeff = c; mask = m } ∷ pairs l bits
 
 -- the first n of both
 unfoldable pub carriedIn : ℕ → List ℕ → List ℕ → List Carried
 carriedIn n carried bits = pairs (take n carried) (take n bits)
-
--- where c stands among the first n coefficients, which rise, or where it goes
-pub record IsPlace (c n : ℕ) (carried : List ℕ) (r : Slot) : Type 0 where
-  pub at-le : r .at ≤ n
-  pub below : (k : ℕ) → k < r .at → getD carried k 0 < c
-  pub there : r .found ≡ true → (r .at < n) × (getD carried (r .at) 0 ≡ c)
-  pub above : r .found ≡ false → r .at < n → c < getD carried (r .at) 0
 
 -- the first r of both are now l
 pub record IsCarried (l : List Carried) (carried bits carried′ bits′ : List ℕ) (r : ℕ) : Type 0 where

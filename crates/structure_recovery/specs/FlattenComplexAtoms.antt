@@ -1,5 +1,5 @@
 -- Flattening the atoms of one variable (structure_recovery.rs 478-566): f(0), and the bits that the variable passes or
--- inverts. Differs from the Rust in difference 3.
+-- inverts. No difference from the Rust can show: only whether an atom has a mask is asked, not which.
 use Prim.Native.Nat.{ℕ, _-_, _^_}
 use mathlib.Core.List.{List, [], _∷_, _++_}
 use mathlib.Core.Bool.{Bool, true, false, not, _&&_}
@@ -14,17 +14,17 @@ use Rattle.expr.specs.Utils.{hasShr}
 use Rattle.expr.specs.Vars.{nextVar, support}
 use Rattle.expr.specs.Value.{value}
 use Rattle.semilinear.specs.Form.{andFamily, Row, Form}
-use Rattle.semilinear.specs.Decompose.{Decomposed, opaque, masked, decomposeAtom}
+use Rattle.semilinear.specs.Decompose.{Decomposed, noBasis, masked, decomposeAtom}
 use Rattle.group.specs.Group.{variableBasis, maskedTree}
 use Rattle.semilinear.specs.Outcome.{Outcome}
-use Rattle.semilinear.specs.Compact.{passOutcome, limitOutcome}
+use Rattle.semilinear.specs.PassOutcome.{passOutcome, limitOutcome}
 
 -- a variable, or a variable under a mask
 unfoldable pub isPlain : ℕ → Tree → Bool
 isPlain w t = plainView (decomposeAtom w t)
   where
     plainView : Decomposed → Bool
-    plainView opaque = false
+    plainView noBasis = false
     plainView (masked b m) = variableBasis b
 
 -- the row has a term, and an atom of one variable that is neither plain nor has a Shr

@@ -1,5 +1,6 @@
 -- Recovering structure, coalescing and flattening (document 01, "The shorter sheet"; structure_recovery.rs).
 pub mod RecoverStructure
+pub mod Carried
 pub mod CoalesceTerms
 pub mod FlattenComplexAtoms
 pub mod Flattening

@@ -1,10 +1,10 @@
 -- Xor recovery and mask elimination (structure_recovery.rs 194-331). Differs from the Rust in differences 1 to 4.
--- Marks: 0 live, 1 consumed, 2 widened (found by nobody, still looks), 3 rewritten as Xor (neither).
+-- A widened entry is found by nobody and still looks; a rewritten one does neither.
 use Prim.Native.Nat.{ℕ, _+_, _-_, _^_}
 use mathlib.Core.List.{List, [], _∷_}
 use mathlib.Core.Bool.{Bool, false, _&&_, _||_}
 use lib.ListN.{length}
-use lib.Count.{ones}
+use lib.Count.{onesIn}
 use lib.Dec.{eqb, ltb, leb}
 use Rattle.arith.specs.Width.{modAdd, modSub, modMul}
 use Rattle.record.specs.Choice.{when}
@@ -13,10 +13,11 @@ use Rattle.record.specs.Tree.Tree.{Constant, Binary}
 use Rattle.group.specs.declared.Group.{Group}
 use Rattle.semilinear.specs.Form.{xorFamily, mixedFamily, Row, Form, eqTree}
 use Rattle.record.specs.Loop.{forIn, firstIn}
+use Rattle.group.specs.Group.{liveMark, consumedMark, widenedMark, rewrittenMark}
 use Rattle.group.specs.Group.{Entry, at, putEntry, consumed, emptyGroup, createRow}
 use Rattle.group.specs.Group.{anyBasis, basesOf, groupOf, ungrouped, settle}
 use Rattle.semilinear.specs.Outcome.{Outcome}
-use Rattle.semilinear.specs.Compact.{passOutcome, limitOutcome}
+use Rattle.semilinear.specs.PassOutcome.{passOutcome, limitOutcome}
 
 -- a group beside the table and the constant
 pub record Recovery : Type 0 where
@@ -43,7 +44,7 @@ recoverXor w b src dst x =
       group =
           putEntry
           (putEntry (x .group) src
-          (record { coeff = at (x .group) dst .coeff; mask = 2 ^ w - 1; atom = length (x .rows); mark = 3 }))
+          (record { coeff = at (x .group) dst .coeff; mask = 2 ^ w - 1; atom = length (x .rows); mark = rewrittenMark }))
           dst (consumed (at (x .group) dst));
       rows = createRow xorFamily (Binary 6 (Constant (at (x .group) src .mask)) b) (x .rows);
       constant = modAdd (x .constant) (modMul (at (x .group) src .coeff) (at (x .group) src .mask) w) w;
@@ -57,7 +58,7 @@ eliminateMask w b diff i j x =
           putEntry
           (putEntry (x .group) i
           (record { coeff = diff; mask = e .mask; atom = e .atom; mark = e .mark }))
-          j (record { coeff = f .coeff; mask = 2 ^ w - 1; atom = rowWith w b 0 (x .rows); mark = 2 });
+          j (record { coeff = f .coeff; mask = 2 ^ w - 1; atom = rowWith w b 0 (x .rows); mark = widenedMark });
       rows = withBare w b (x .rows);
       constant = x .constant;
     }
@@ -68,10 +69,14 @@ eliminateMask w b diff i j x =
     f : Entry
     f = at (x .group) j
 
+-- how many of a word's 64 bits are 1
+abbrev pub countOnes : ℕ → ℕ
+countOnes m = onesIn 64 m
+
 unfoldable pub recoverPair : ℕ → Tree → ℕ → ℕ → Recovery → Recovery
 recoverPair w b i j x =
     when (eqb (modAdd (e .coeff) (f .coeff) w) 0)
-    (λ _. when (leb (ones (e .mask)) (ones (f .mask))) (λ _. recoverXor w b i j x) (λ _. recoverXor w b j i x))
+    (λ _. when (leb (countOnes (e .mask)) (countOnes (f .mask))) (λ _. recoverXor w b i j x) (λ _. recoverXor w b j i x))
     (λ _. when (eqb (modSub (e .coeff) (f .coeff) w) 0) (λ _. x)
     (λ _. eliminateMask w b (modSub (e .coeff) (f .coeff) w) i j x))
   where
@@ -85,7 +90,7 @@ recoverPair w b i j x =
 
 -- entry j is as it was in the list of masks, and has the mask m
 unfoldable pub isPartner : ℕ → Group → ℕ → Bool
-isPartner m g j = eqb (at g j .mark) 0 && eqb (at g j .mask) m
+isPartner m g j = eqb (at g j .mark) liveMark && eqb (at g j .mask) m
 
 -- the first later entry with the complement mask
 unfoldable pub partnerOf : ℕ → Group → ℕ → ℕ
@@ -93,7 +98,7 @@ partnerOf w g i = firstIn (isPartner (2 ^ w - 1 - at g i .mask) g) (i + 1) (g .l
 
 unfoldable pub recoverAt : ℕ → Tree → ℕ → Recovery → Recovery
 recoverAt w b i x =
-    when (eqb (at (x .group) i .mark) 1 || eqb (at (x .group) i .mark) 3) (λ _. x)
+    when (eqb (at (x .group) i .mark) consumedMark || eqb (at (x .group) i .mark) rewrittenMark) (λ _. x)
     (λ _. when (ltb (partnerOf w (x .group) i) (x .group .len))
     (λ _. recoverPair w b i (partnerOf w (x .group) i) x) (λ _. x))
 

@@ -14,7 +14,7 @@ use Rattle.record.specs.Tree.Tree.{Constant, Binary}
 use Rattle.semilinear.specs.Form.{Row, Form, fitsTable}
 use Rattle.semilinear.specs.Terms.{coeffsOf}
 use Rattle.group.specs.declared.Group.{Group}
-use Rattle.group.specs.Group.{at, isLive, emptyGroup, anyBasis, basesOf, groupOf, ungrouped, settle}
+use Rattle.group.specs.Group.{liveMark, at, isLive, emptyGroup, anyBasis, basesOf, groupOf, ungrouped, settle}
 use Rattle.group.specs.Made.{tableOf, Room, Held}
 use Rattle.group.specs.Shown.{Shown}
 use Rattle.structure_recovery.specs.RecoverStructure.{Recovery, recoverGroup, recoverAll}
@@ -27,7 +27,7 @@ xorTree m b = Binary 6 (Constant m) b
 -- ---- the search for a partner in lent arrays
 
 unfoldable pub partnerFits : ℕ → List ℕ → List ℕ → ℕ → Bool
-partnerFits m masks marks j = eqb (getD marks j 0) 0 && eqb (getD masks j 0) m
+partnerFits m masks marks j = eqb (getD marks j 0) liveMark && eqb (getD masks j 0) m
 
 -- the first entry from a to below n that is as it was gathered and has the mask m; or n
 abbrev pub partnerIn : ℕ → List ℕ → List ℕ → ℕ → ℕ → ℕ

@@ -1,25 +1,23 @@
 // The coefficient of each bit of a group, the bits that carry it, and the new terms for them.
 use crate::bare;
-use group::bases::Slot;
 use group::bases::{self};
+use group::keys;
 use group::made;
 use group::settle;
 ghost use mathlib.Core.Path.{_≡_};
-ghost use mathlib.Core.List.{[]};
 ghost use Prim.Native.Nat.{ℕ, _+_, _^_, _<_, _≤_};
 ghost use lib.ListN.{length, getD};
 ghost use Rattle.record.specs.Decode.{decode};
-ghost use Rattle.group.specs.Links.{lent};
 ghost use Rattle.group.specs.Made.{Room, Basis};
-ghost use Rattle.structure_recovery.specs.CoalesceTerms.{bitCoeff, carry, carryAt, carriedOf};
+ghost use Rattle.structure_recovery.specs.Carried.{bitCoeff, carry, carryAt, carriedOf};
 ghost use Rattle.structure_recovery.specs.CoalesceTerms.{carriedRows};
-ghost use Rattle.structure_recovery.specs.Coalescing.{carriedIn, IsPlace, IsCarried};
+ghost use Rattle.structure_recovery.specs.Coalescing.{carriedIn, IsCarried};
 ghost use Rattle.structure_recovery.specs.Coalescing.{carriedRow, Coalesced};
 
 // The sum of the coefficients, of n, whose masks have the bit p. It is cut only in the end.
 fn bit_coeff<'a>(coeffs: &'a [u64; 256], masks: &'a [u64; 256], n: usize, p: u32, w: u32) -> u64
     requires { ⌜ (n ≤ 256) × (p < 64) × (w ≤ 64) ⌝ }
-    ensures { λ r. ⌜ r ≡ bitCoeff w (lent (now (coeffs .entry)) (now (masks .entry)) [] n) p ⌝ }
+    ensures { λ r. ⌜ r ≡ bitCoeff w (now (coeffs .entry)) (now (masks .entry)) n p ⌝ }
 {
     let mut sum = 0;
     let mut i = 0;
@@ -32,31 +30,6 @@ fn bit_coeff<'a>(coeffs: &'a [u64; 256], masks: &'a [u64; 256], n: usize, p: u32
     sum & arith::bitmask(w)
 }
 
-// Where c stands among the first `count` coefficients, which rise, or where it goes.
-fn place_of(carried: &[u64], count: usize, c: u64) -> Slot
-    requires { ⌜ count ≤ length (now carried) ⌝ }
-    ensures { λ r. ⌜ IsPlace c count (now (carried .entry)) r ⌝ }
-{
-    let mut k = 0;
-    while k < count {
-        let x = carried[k];
-        if x == c {
-            return Slot { at: k, found: true };
-        }
-        if c < x {
-            return Slot {
-                at: k,
-                found: false,
-            };
-        }
-        k += 1;
-    }
-    Slot {
-        at: count,
-        found: false,
-    }
-}
-
 // The bit p joined to its coefficient c among the first `count`; returns how many there are.
 fn carry(carried: &mut [u64], bits: &mut [u64], count: usize, c: u64, p: u32) -> usize
     requires { ⌜ (count < length (now carried)) × (count < length (now bits)) × (p < 64)
@@ -64,7 +37,7 @@ fn carry(carried: &mut [u64], bits: &mut [u64], count: usize, c: u64, p: u32) ->
     ensures { λ r. ⌜ IsCarried (carry c p (carriedIn count (now (carried .entry)) (now (bits .entry))))
         (now (carried .entry)) (now (bits .entry)) (now (carried .exit)) (now (bits .exit)) r ⌝ }
 {
-    let slot = place_of(carried, count, c);
+    let slot = keys::place_of(carried, count, c);
     let k = slot.at;
     let bit = 1 << p;
     if slot.found {
@@ -90,7 +63,7 @@ fn carry_at<'a>(
     requires { ⌜ (n ≤ 256) × (w ≤ 64) × (p < 64)
         × (count < length (now carried)) × (count < length (now bits))
         × ((k : ℕ) → k < count → getD (now bits) k 0 < 2 ^ p) ⌝ }
-    ensures { λ r. ⌜ IsCarried (carryAt w (lent (now (coeffs .entry)) (now (masks .entry)) [] n) p
+    ensures { λ r. ⌜ IsCarried (carryAt w (now (coeffs .entry)) (now (masks .entry)) n p
         (carriedIn count (now (carried .entry)) (now (bits .entry))))
         (now (carried .entry)) (now (bits .entry)) (now (carried .exit)) (now (bits .exit)) r ⌝ }
 {
@@ -111,7 +84,7 @@ pub fn carried_of<'a>(
     bits: &mut [u64],
 ) -> usize
     requires { ⌜ (n ≤ 256) × (w ≤ 64) × (length (now carried) ≡ 64) × (length (now bits) ≡ 64) ⌝ }
-    ensures { λ r. ⌜ IsCarried (carriedOf w (lent (now (coeffs .entry)) (now (masks .entry)) [] n))
+    ensures { λ r. ⌜ IsCarried (carriedOf w (now (coeffs .entry)) (now (masks .entry)) n)
         (now (carried .entry)) (now (bits .entry)) (now (carried .exit)) (now (bits .exit)) r ⌝ }
 {
     let mut count = 0;

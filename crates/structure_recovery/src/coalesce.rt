@@ -21,12 +21,12 @@ ghost use Rattle.semilinear.specs.Items.{atomCount, afterAtoms};
 ghost use Rattle.semilinear.specs.Valid.{atomsOk, isSemilinear};
 ghost use Rattle.semilinear.specs.DecodeForm.{rowsOf, readForm};
 ghost use Rattle.semilinear.specs.Answers.{GivesForm};
-ghost use Rattle.semilinear.specs.Compact.{limitOutcome};
+ghost use Rattle.semilinear.specs.PassOutcome.{limitOutcome};
 ghost use Rattle.semilinear.specs.Scan.{AtomsEnd};
 ghost use Rattle.group.specs.Made.{Room, Basis};
 ghost use Rattle.group.specs.Group.{variableBasis, basesOf};
 ghost use Rattle.group.specs.Views.{viewAt, basisBytes, InGroup, Views, Readable};
-ghost use Rattle.group.specs.Bases.{firstRows, FirstRows};
+ghost use Rattle.group.specs.Bases.{firstRows, FirstAre};
 ghost use Rattle.group.specs.Gathered.{gathered};
 ghost use Rattle.structure_recovery.specs.CoalesceTerms.{coalesceGroup, coalesceAll};
 ghost use Rattle.structure_recovery.specs.CoalesceTerms.{coalesceForm, coalesceTerms};
@@ -118,7 +118,7 @@ fn coalesce_all(
     requires { ⌜ Room (now made) (now out) × (getD (now made) 4 0 ≤ 256) × (w ≤ 64) × (n ≤ 256)
         × (n ≡ length (rowsOf 0 (now f) (afterAtoms (now f))))
         × Views variableBasis w (now f) (now views) (rowsOf 0 (now f) (afterAtoms (now f)))
-        × FirstRows (firstRows (now f) (now views) n) (now bases) (now bases) count ⌝ }
+        × FirstAre (firstRows (now f) (now views) n) (now bases) (now bases) count ⌝ }
     ensures { λ _. ⌜ Coalesced w n 16384
         (coalesceAll w (rowsOf 0 (now (f .entry)) (afterAtoms (now (f .entry))))
         (basesOf variableBasis w (rowsOf 0 (now (f .entry)) (afterAtoms (now (f .entry)))) []))

@@ -21,7 +21,7 @@ ghost use Rattle.semilinear.specs.Items.{isAtom, atomCount, afterAtoms};
 ghost use Rattle.semilinear.specs.Valid.{atomsOk, termsOk, frontOk, isSemilinear};
 ghost use Rattle.semilinear.specs.DecodeForm.{rowsOf, readForm};
 ghost use Rattle.semilinear.specs.Answers.{GivesForm};
-ghost use Rattle.semilinear.specs.Compact.{limitOutcome};
+ghost use Rattle.semilinear.specs.PassOutcome.{limitOutcome};
 ghost use Rattle.semilinear.specs.Scan.{AtomsEnd};
 ghost use Rattle.group.specs.Made.{Room, Held};
 ghost use Rattle.structure_recovery.specs.FlattenComplexAtoms.{isPlain, atOnes, flatRow};

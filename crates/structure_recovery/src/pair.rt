@@ -8,11 +8,13 @@ ghost use mathlib.Core.Logic.{_≢_};
 ghost use mathlib.Core.Bool.{false, _&&_};
 ghost use Prim.Native.Nat.{_+_, _-_, _^_, _<_, _≤_};
 ghost use lib.ListN.{getD};
-ghost use lib.Dec.{eqb};
+ghost use lib.Dec.{eqb, leb};
 ghost use Rattle.record.specs.Tree.{encode, Encodable};
 ghost use Rattle.record.specs.Decode.{decode};
+ghost use Rattle.group.specs.Group.{liveMark};
 ghost use Rattle.group.specs.Made.{tableOf, Room, Basis};
-ghost use Rattle.structure_recovery.specs.RecoverStructure.{recoverXor, eliminateMask, recoverPair, recoverAt, recoverGroup};
+ghost use Rattle.structure_recovery.specs.RecoverStructure.{recoverXor, eliminateMask, countOnes};
+ghost use Rattle.structure_recovery.specs.RecoverStructure.{recoverPair, recoverAt, recoverGroup};
 ghost use Rattle.structure_recovery.specs.Recovering.{partnerIn, NoPartner, Turned, Recovered};
 
 // What the mask `full` has beside m; 0 where m is above it.
@@ -27,9 +29,9 @@ fn complement(full: u64, m: u64) -> u64
 
 // Whether an entry with this mark and mask is as it was gathered and has the mask m.
 fn is_partner(mark: u8, mask: u64, m: u64) -> bool
-    ensures { λ r. ⌜ r ≡ (eqb mark 0 && eqb mask m) ⌝ }
+    ensures { λ r. ⌜ r ≡ (eqb mark liveMark && eqb mask m) ⌝ }
 {
-    if mark != 0 {
+    if mark != group::LIVE {
         return false;
     }
     mask == m
@@ -95,8 +97,8 @@ fn recover_xor(
     g.coeffs[src] = g.coeffs[dst];
     g.masks[src] = arith::bitmask(w as u32);
     g.atoms[src] = rows;
-    g.marks[src] = 3;
-    g.marks[dst] = 1;
+    g.marks[src] = group::REWRITTEN;
+    g.marks[dst] = group::CONSUMED;
     xored::create_xored(made, out, b, m, w);
     flatten::add_constant(made, arith::mod_mul(c, m, w as u32), w as u32);
     g
@@ -125,8 +127,15 @@ fn eliminate_mask(
     g.coeffs[i] = diff;
     g.masks[j] = arith::bitmask(w as u32);
     g.atoms[j] = atom;
-    g.marks[j] = 2;
+    g.marks[j] = group::WIDENED;
     g
+}
+
+// Whether m has at most as many ones as p.
+fn fewer_ones(m: u64, p: u64) -> bool
+    ensures { λ r. ⌜ r ≡ leb (countOnes m) (countOnes p) ⌝ }
+{
+    u64::count_ones(m) <= u64::count_ones(p)
 }
 
 // The pair i and j of complement masks.
@@ -149,7 +158,7 @@ fn recover_pair(
     let c = g.coeffs[i];
     let d = g.coeffs[j];
     if arith::mod_add(c, d, w as u32) == 0 {
-        if u64::count_ones(g.masks[i]) <= u64::count_ones(g.masks[j]) {
+        if fewer_ones(g.masks[i], g.masks[j]) {
             return recover_xor(g, i, j, b, w, made, out);
         }
         return recover_xor(g, j, i, b, w, made, out);
@@ -178,10 +187,10 @@ fn recover_entry(
         g (now (made .entry)) (now (out .entry)) r (now (made .exit)) (now (out .exit)) ⌝ }
 {
     let mark = g.marks[i];
-    if mark == 1 {
+    if mark == group::CONSUMED {
         return g;
     }
-    if mark == 3 {
+    if mark == group::REWRITTEN {
         return g;
     }
     let n = g.len;

@@ -4,7 +4,7 @@ use mathlib.Core.Path.{_≡_, refl, ap, sym, subst}
 use Prim.Native.Nat.{ℕ, _+_, _*_, _^_, _≤_, _<_}
 use native.Mathlib.Omega.{arith}
 use native.Mathlib.Nat.{lt-of-lt-of-le}
-use mathlib.Core.List.{List}
+use mathlib.Core.List.{List, [], _∷_}
 use mathlib.Core.Bool.{Bool, true, false, not, _&&_, _||_}
 use lib.Bits.{bitAnd}
 use lib.Dec.{eqb, ltb}
@@ -23,7 +23,7 @@ use Rattle.record.specs.Loop.{forIn, firstIn}
 use Rattle.group.specs.Group.{Entry, at, isLive, Work}
 use Rattle.record.proofs.LoopLaws.{first-true, for-keeps}
 use Rattle.record.proofs.LoopLaws.{when-both}
-use Rattle.group.specs.Steps.{joinAt, slotFits, placeAt, leastCoeff, Sweep, sweepTurn, bucketMerge}
+use Rattle.group.specs.Steps.{joinAt, slotFits, placeAt, placeBucket, bucketKeys, placeBuckets, bucketMerge}
 use Rattle.group.specs.Steps.{pairAt, pairMerge}
 use Rattle.term_refiner.proofs.KeptLaws.{Kept}
 use Rattle.term_refiner.proofs.StepsLaws.{CanJoin, live-fits, join-keeps}
@@ -82,21 +82,17 @@ module _ (w : ℕ) (hw : w ≤ 64) (vars : List ℕ) (b : Tree) (hb : isAtomTree
       (λ u. h))
       (λ t. h)
 
-  sweep-keeps : (turn : ℕ) (s : Sweep) → K (s .state) → K (sweepTurn w b turn s .state)
-  unfolding sweepTurn
-  sweep-keeps turn s h =
-      let key = leastCoeff (s .state .group) (s .from) in
-      when-both (λ (y : Sweep). K (y .state)) (ltb key (2 ^ 64)) _ s
-      (λ t.
-      for-keeps K (placeAt w b key) 0 (s .state .group .len) (s .state)
-      (λ i y a l k. place-keeps key i y (subst (λ (n : ℕ). i < n) (h .len-same) l) k) h)
-      (λ t. h)
+  buckets-keep : (l : List ℕ) (x : Work) → K x → K (placeBuckets w b l x)
+  unfolding placeBuckets placeBucket
+  buckets-keep [] x h = h
+  buckets-keep (k ∷ l) x h =
+      buckets-keep l _
+      (for-keeps K (placeAt w b k) 0 (x .group .len) x
+      (λ i y a u kept. place-keeps k i y (subst (λ (n : ℕ). i < n) (h .len-same) u) kept) h)
 
   pub bucket-keeps : (x : Work) → K x → K (bucketMerge w b x)
   unfolding bucketMerge
-  bucket-keeps x h =
-      for-keeps (λ (y : Sweep). K (y .state)) (sweepTurn w b) 0 (x .group .len) (record { state = x; from = 0 })
-      (λ i y a l k. sweep-keeps i y k) h
+  bucket-keeps x h = buckets-keep (bucketKeys (x .group)) x h
 
   -- ---- pairs
 

@@ -19,7 +19,7 @@ use Rattle.semilinear.proofs.FormLaws.{form-parts}
 use Rattle.semilinear.proofs.AtomLaws.{atom-tree, tree-atom}
 use Rattle.group.proofs.TotalLaws.{sumTo, sum-ext, worth, worth-live, worth-dead, total}
 use Rattle.group.proofs.BasesLaws.{risingFrom, risen}
-use Rattle.group.proofs.GroupsLaws.{basisSum, basesSum, groups-share, bases-rising}
+use Rattle.group.proofs.GroupsLaws.{basisSum, basesSum, termValue, groups-value, bases-rising}
 use Rattle.group.proofs.GroupOfLaws.{Fresh, group-of}
 use Rattle.group.proofs.SettleLaws.{owed, owed-live, owed-consumed, settled}
 use Rattle.group.proofs.CoeffsLaws.{fits-length}
@@ -49,7 +49,7 @@ module _ (w : ℕ) (hw : w ≤ 64) (vars : List ℕ) (before : List Row) (most :
     (ok : rowsOk w before ≡ true) where
   -- the table after the group of the basis b
   record Step (b : Tree) (rows after : List Row) : Type 0 where
-    sum : Eqm (2 ^ w) (sumRows w vars after) (sumRows w vars rows + basisSum anyBasis w vars b before)
+    sum : Eqm (2 ^ w) (sumRows w vars after) (sumRows w vars rows + basisSum anyBasis w (termValue w vars) b before)
     extends : Extends w vars rows after
 
   fresh-fits : (b : Tree) (rows : List Row) → Extends w vars before rows → (e : Entry) → Fresh w vars b before e
@@ -92,7 +92,7 @@ module _ (w : ℕ) (hw : w ≤ 64) (vars : List ℕ) (before : List Row) (most :
 
   -- and after all groups
   record Steps (bases : List Tree) (rows after : List Row) : Type 0 where
-    sum : Eqm (2 ^ w) (sumRows w vars after) (sumRows w vars rows + basesSum anyBasis w vars bases before)
+    sum : Eqm (2 ^ w) (sumRows w vars after) (sumRows w vars rows + basesSum anyBasis w (termValue w vars) bases before)
     extends : Extends w vars before after
 
   steps : (bases : List Tree) (n : ℕ) → risingFrom n bases ≡ true → (rows : List Row) → Extends w vars before rows
@@ -106,7 +106,7 @@ module _ (w : ℕ) (hw : w ≤ 64) (vars : List ℕ) (before : List Row) (most :
       record {
         sum =
             eqm-trans (t .sum)
-            (eqm-trans (eqm-add (s .sum) (eqm-refl (basesSum anyBasis w vars l before))) (eqm-of-eq (omega arith)));
+            (eqm-trans (eqm-add (s .sum) (eqm-refl (basesSum anyBasis w (termValue w vars) l before))) (eqm-of-eq (omega arith)));
         extends = t .extends;
       }
 
@@ -149,7 +149,7 @@ module _ (f : Form) (e : validForm f ≡ true) where
   value-refine vars =
       let v = form-parts f e in
       eqm-add (eqm-refl (f .constant))
-      (eqm-trans (made vars .sum) (eqm-of-eq (sym (groups-share anyBasis (f .bitwidth) vars (f .rows) (v .rows-ok)))))
+      (eqm-trans (made vars .sum) (eqm-of-eq (sym (groups-value anyBasis (f .bitwidth) vars (f .rows) (v .rows-ok)))))
       .eqm
 
   pub valid-refine : fitsTable (refineForm f .rows) ≡ true → validForm (refineForm f) ≡ true

@@ -7,7 +7,7 @@ use mathlib.Core.Bool.{true}
 use Rattle.record.specs.Tree.{Tree}
 use Rattle.group.specs.declared.Group.{Group}
 use Rattle.semilinear.specs.Form.{Row, isAtomTree}
-use Rattle.group.specs.Group.{Work, work}
+use Rattle.group.specs.Group.{Work, work, onGroup}
 use Rattle.group.specs.Steps.{cutMasks, dropZero, bucketMerge, pairMerge, toMinusOne}
 use Rattle.term_refiner.specs.RefineTerms.{refineGroup}
 use Rattle.term_refiner.proofs.KeptLaws.{Kept}
@@ -18,7 +18,7 @@ use Rattle.term_refiner.proofs.CollapseLaws.{three-term-keeps}
 module _ (w : ℕ) (hw : w ≤ 64) (vars : List ℕ) (b : Tree) (hb : isAtomTree b ≡ true) (g0 : Group)
     (rows0 : List Row) where
   pub refine-keeps : (x : Work) → Kept w vars b g0 rows0 x → Kept w vars b g0 rows0 (refineGroup w b x)
-  unfolding refineGroup work
+  unfolding refineGroup onGroup work
   refine-keeps x h =
       let cut : Work = cutMasks w b x in
       let merged : Work = pairMerge w b (bucketMerge w b (work (dropZero w (cut .group)) (cut .rows))) in

@@ -15,7 +15,7 @@ use Rattle.semilinear.specs.Items.{afterAtoms}
 use Rattle.semilinear.specs.Valid.{isSemilinear}
 use Rattle.semilinear.specs.DecodeForm.{rowsOf, decodeForm, readForm}
 use Rattle.semilinear.specs.Answers.{GivesForm}
-use Rattle.semilinear.specs.Compact.{limitOutcome}
+use Rattle.semilinear.specs.PassOutcome.{limitOutcome}
 use Rattle.semilinear.specs.Table.{Placed}
 use Rattle.semilinear.specs.Terms.{Copied, Finished}
 use Rattle.semilinear.proofs.AcceptLaws.{form-valid}

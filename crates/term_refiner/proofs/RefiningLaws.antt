@@ -10,9 +10,9 @@ use Rattle.record.specs.Tree.{Tree}
 use Rattle.semilinear.specs.Form.{Row, fitsTable}
 use Rattle.group.specs.declared.Group.{Group}
 use Rattle.group.specs.declared.collapse.Three.{Three}
-use Rattle.group.specs.Group.{Work, work}
+use Rattle.group.specs.Group.{Work, work, onGroup}
 use Rattle.group.specs.Collapse.{collapseAt, threeTermCollapse}
-use Rattle.group.specs.Made.{Room, Stepped, onGroup}
+use Rattle.group.specs.Made.{Room, Stepped}
 use Rattle.group.specs.Stages.{cutAndDrop, mergeAll, NoMerge}
 use Rattle.group.specs.Links.{lent, FoundThree}
 use Rattle.group.specs.declared.views.View.{View}

@@ -24,7 +24,7 @@ use Rattle.group.specs.Group.{Entry, at, isLive, consumed, Work, work, createMa
 use Rattle.group.proofs.TotalLaws.{worth, worth-live, worth-consumed, live-mark, live-consumed}
 use Rattle.group.proofs.WorkLaws.{Grown, grown-refl, grown-masked}
 use Rattle.record.proofs.LoopLaws.{when-both, for-keeps}
-use Rattle.group.specs.Steps.{remasked, cutAt, cutMasks, dropAt, dropZero, joinAt, negateAt, toMinusOne}
+use Rattle.group.specs.Steps.{remasked, cutAt, cutMasks, dropAt, dropZero, joinAt, minusOneAt, toMinusOne}
 use Rattle.term_refiner.proofs.KeptLaws.{Fits, Kept, fits-fresh, kept-one, kept-two}
 
 -- ---- entries
@@ -111,8 +111,8 @@ module _ (w : ℕ) (hw : w ≤ 64) (vars : List ℕ) (b : Tree) (hb : isAtomTree
       for-keeps (λ (r : Group). K (work r l)) (dropAt w) 0 (g .len) g
       (λ i r a u k. drop-keeps l i r (subst (λ (n : ℕ). i < n) (h .len-same) u) k) h
 
-  negate-keeps : (l : List Row) (i : ℕ) (g : Group) → i < g0 .len → K (work g l) → K (work (negateAt w i g) l)
-  unfolding negateAt work
+  negate-keeps : (l : List Row) (i : ℕ) (g : Group) → i < g0 .len → K (work g l) → K (work (minusOneAt w i g) l)
+  unfolding minusOneAt work
   negate-keeps l i g hi h =
       let e = at g i in
       let test = canChangeCoefficientTo (e .coeff) (2 ^ w - 1) (e .mask) w in
@@ -138,7 +138,7 @@ module _ (w : ℕ) (hw : w ≤ 64) (vars : List ℕ) (b : Tree) (hb : isAtomTree
   pub minus-one-keeps : (g : Group) (l : List Row) → K (work g l) → K (work (toMinusOne w g) l)
   unfolding toMinusOne work
   minus-one-keeps g l h =
-      for-keeps (λ (r : Group). K (work r l)) (negateAt w) 0 (g .len) g
+      for-keeps (λ (r : Group). K (work r l)) (minusOneAt w) 0 (g .len) g
       (λ i r a u k. negate-keeps l i r (subst (λ (n : ℕ). i < n) (h .len-same) u) k) h
 
   -- ---- two entries joined

@@ -4,23 +4,22 @@ use mathlib.Core.List.{List, [], _∷_}
 use mathlib.Core.Bool.{false}
 use Rattle.record.specs.Tree.{Tree}
 use Rattle.semilinear.specs.Form.{Row, Form}
-use Rattle.group.specs.Group.{Work, work, emptyGroup, anyBasis, basesOf, groupOf, ungrouped, settle}
+use Rattle.group.specs.Group.{Work, work, onGroup, emptyGroup, anyBasis, basesOf, groupOf, ungrouped, settle}
 use Rattle.semilinear.specs.Outcome.{Outcome}
-use Rattle.semilinear.specs.Compact.{passOutcome, limitOutcome}
+use Rattle.semilinear.specs.PassOutcome.{passOutcome, limitOutcome}
 use Rattle.group.specs.Steps.{cutMasks, dropZero, bucketMerge, pairMerge, toMinusOne}
 use Rattle.group.specs.Collapse.{threeTermCollapse}
 
 -- the steps in the Rust's order; the second pair merge follows the change of coefficients (187-292)
 unfoldable pub refineGroup : ℕ → Tree → Work → Work
 refineGroup w b x =
-    threeTermCollapse w b
-    (pairMerge w b (negated (pairMerge w b (bucketMerge w b (dropped (cutMasks w b x))))))
-  where
-    dropped : Work → Work
-    dropped y = work (dropZero w (y .group)) (y .rows)
-
-    negated : Work → Work
-    negated y = work (toMinusOne w (y .group)) (y .rows)
+    let cut : Work = cutMasks w b x in
+    let dropped : Work = onGroup (dropZero w) cut in
+    let bucketed : Work = bucketMerge w b dropped in
+    let paired : Work = pairMerge w b bucketed in
+    let minus : Work = onGroup (toMinusOne w) paired in
+    let again : Work = pairMerge w b minus in
+    threeTermCollapse w b again
 
 -- the groups in turn; a group is read off the form as it was, and its atoms and terms go to the table
 unfoldable pub refineAll : ℕ → List Row → List Tree → List Row → List Row

@@ -22,12 +22,12 @@ ghost use Rattle.semilinear.specs.Items.{atomCount, afterAtoms};
 ghost use Rattle.semilinear.specs.Valid.{atomsOk, isSemilinear};
 ghost use Rattle.semilinear.specs.DecodeForm.{rowsOf, readForm};
 ghost use Rattle.semilinear.specs.Answers.{GivesForm};
-ghost use Rattle.semilinear.specs.Compact.{limitOutcome};
+ghost use Rattle.semilinear.specs.PassOutcome.{limitOutcome};
 ghost use Rattle.semilinear.specs.Scan.{AtomsEnd};
 ghost use Rattle.group.specs.Made.{Room, Basis};
 ghost use Rattle.group.specs.Group.{anyBasis, basesOf};
 ghost use Rattle.group.specs.Views.{viewAt, basisBytes, InGroup, Views, Readable};
-ghost use Rattle.group.specs.Bases.{firstRows, FirstRows};
+ghost use Rattle.group.specs.Bases.{firstRows, FirstAre};
 ghost use Rattle.group.specs.Gathered.{gathered};
 ghost use Rattle.term_refiner.specs.RefineTerms.{refineForm, refineTerms};
 ghost use Rattle.term_refiner.specs.Refining.{GroupRefined, AllRefined, RowsRefined};
@@ -116,7 +116,7 @@ fn refine_all(
     requires { ⌜ Room (now made) (now out) × (getD (now made) 4 0 ≤ 256) × (w ≤ 64) × (n ≤ 256)
         × (n ≡ length (rowsOf 0 (now f) (afterAtoms (now f))))
         × Views anyBasis w (now f) (now views) (rowsOf 0 (now f) (afterAtoms (now f)))
-        × FirstRows (firstRows (now f) (now views) n) (now bases) (now bases) count ⌝ }
+        × FirstAre (firstRows (now f) (now views) n) (now bases) (now bases) count ⌝ }
     ensures { λ _. ⌜ AllRefined w (rowsOf 0 (now (f .entry)) (afterAtoms (now (f .entry))))
         (basesOf anyBasis w (rowsOf 0 (now (f .entry)) (afterAtoms (now (f .entry)))) [])
         (now (made .entry)) (now (out .entry)) (now (coeffs .entry))

@@ -4,7 +4,7 @@ use Prim.Native.Nat.{_-_, _≤_}
 use native.Mathlib.Omega.{arith}
 use Rattle.record.specs.Loop.{forIn}
 use Rattle.record.proofs.LoopLaws.{for-none, for-turn, for-done}
-use Rattle.group.specs.Steps.{negateAt, toMinusOne}
+use Rattle.group.specs.Steps.{minusOneAt, toMinusOne}
 use Rattle.group.proofs.NegateLaws.{negate-at-same, negate-at-negate}
 use Rattle.group.proofs.Group.to_minus_one.Statement.{statement}
 use Rattle.group.proofs.Group.to_minus_one.Tie as tie
@@ -14,7 +14,7 @@ use Rattle.arith.proofs.bitmask.Reads as bitmask-reads
 use Rattle.group.proofs.steps.negates.Reads as negates-reads
 
 abbrev Inv-loop : tie.InvT-loop
-Inv-loop w self₀ n minus i₀ self i = (i ≤ n) × (self ≡ forIn (negateAt w) 0 i self₀)
+Inv-loop w self₀ n minus i₀ self i = (i ≤ n) × (self ≡ forIn (minusOneAt w) 0 i self₀)
 
 abbrev μ-loop : tie.MeasureT-loop
 μ-loop w self₀ n minus i₀ self i = n - i
@@ -63,7 +63,7 @@ loop-again c =
     let minus = turn .before .bitmask .ensures in
     let test = c .before .negates .ensures in (
       omega arith,
-      for-turn (negateAt w) (h .i) _ (h .inv .1)
+      for-turn (minusOneAt w) (h .i) _ (h .inv .1)
           (⊎-elim
           (λ k. k .1 ∙ sym (negate-at-negate w (h .i) (h .self) (omega arith) minus (sym test ∙ k .0 .taken)))
           (λ k. k .1 ∙ sym (negate-at-same w (h .i) (h .self) (sym test ∙ k .0 .left)))
@@ -74,7 +74,7 @@ returns : tie.Need-returns Inv-loop μ-loop
 unfolding toMinusOne
 returns c =
     let turn = c .before in
-    for-done (negateAt (turn .before .before .args .w)) _ (omega arith) (omega arith) (turn .loop .inv .1)
+    for-done (minusOneAt (turn .before .before .args .w)) _ (omega arith) (omega arith) (turn .loop .inv .1)
 
 pub to-minus-one-spec : {M : Type 1} → statement M
 to-minus-one-spec =

@@ -6,7 +6,7 @@ use borrow.Author.Tests.{not-true, not-false}
 use Rattle.expr.proofs.RefusalLaws.{sized-accepted}
 use Rattle.group.proofs.ViewLaws.{view-none}
 use Rattle.group.proofs.ViewsLaws.{viewed-none}
-use Rattle.group.proofs.SplitLaws.{viewed-opaque, viewed-other, viewed-basis}
+use Rattle.group.proofs.SplitLaws.{viewed-no-basis, viewed-other, viewed-basis}
 use Rattle.group.proofs.SplitLaws.{basis-sized, basis-big, counts-variable, counts-any}
 use borrow.Author.Needs.{needs}
 use Rattle.group.proofs.views.view_of.Statement.{statement}
@@ -44,7 +44,7 @@ returns-2 c =
     let at-shared-slice-known = at-if1 .before in
     let at-start = at-shared-slice-known .before in
     λ x et ec.
-    viewed-opaque _ (now (at-start .args .f)) (λ i. at-shared-slice-known .shared-slice-known .given i .fits)
+    viewed-no-basis _ (now (at-start .args .f)) (λ i. at-shared-slice-known .shared-slice-known .given i .fits)
     (at-start .args .from) (at-start .args .to)
     (at-start .pre .1) (at-start .pre .2) (at-start .pre .3) (at-decompose-atom .decompose-atom .ensures)
     (not-true _ (at-if2 .if2 .taken)) (at-start .args .only) x et (λ z. at-if1 .if1 .left (sym ec ∙ z)) _

@@ -6,8 +6,7 @@ use Prim.Native.Nat.{_-_, _%_, _^_, _≤_}
 use native.Mathlib.Omega.{arith}
 use denote.Ref.{now}
 use Rattle.record.specs.Loop.{forIn}
-use Rattle.group.specs.Links.{lent}
-use Rattle.structure_recovery.specs.CoalesceTerms.{bitCoeffAt}
+use Rattle.structure_recovery.specs.Carried.{bitCoeffAt}
 use Rattle.structure_recovery.proofs.CarriedToLaws.{bit-start, bit-one, bit-none, bit-end}
 use borrow.Author.Needs.{needs}
 use Rattle.structure_recovery.proofs.carried.bit_coeff.Statement.{statement}
@@ -15,7 +14,7 @@ use Rattle.structure_recovery.proofs.carried.bit_coeff.Tie as tie
 
 abbrev Inv-loop : tie.InvT-loop
 Inv-loop coeffs masks n p w sum₀ i₀ sum i =
-    (i ≤ n) × (sum % 2 ^ w ≡ forIn (bitCoeffAt w (lent coeffs masks [] n) p) 0 i 0)
+    (i ≤ n) × (sum % 2 ^ w ≡ forIn (bitCoeffAt w coeffs masks p) 0 i 0)
 
 abbrev μ-loop : tie.MeasureT-loop
 μ-loop coeffs masks n p w sum₀ i₀ sum i = n - i

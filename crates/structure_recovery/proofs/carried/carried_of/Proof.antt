@@ -1,10 +1,8 @@
 -- `carried_of` meets its contract: the loop keeps what the bits before p carry.
 use mathlib.Core.Path.{_∙_}
-use mathlib.Core.List.{[]}
 use Prim.Native.Nat.{_-_, _≤_}
 use native.Mathlib.Omega.{arith}
 use denote.Ref.{now}
-use Rattle.group.specs.Links.{lent}
 use Rattle.structure_recovery.specs.Coalescing.{IsCarried}
 use Rattle.structure_recovery.proofs.CarriedToLaws.{carriedTo, carried-start, to-few, to-below, carried-turn}
 use Rattle.structure_recovery.proofs.CarriedToLaws.{carried-done}
@@ -13,7 +11,7 @@ use Rattle.structure_recovery.proofs.carried.carried_of.Tie as tie
 
 abbrev Inv-loop : tie.InvT-loop
 Inv-loop coeffs masks n w carried₀ bits₀ count₀ p₀ carried bits count p =
-    (p ≤ w) × IsCarried (carriedTo w (lent coeffs masks [] n) p) carried₀ bits₀ carried bits count
+    (p ≤ w) × IsCarried (carriedTo w coeffs masks n p) carried₀ bits₀ carried bits count
 
 abbrev μ-loop : tie.MeasureT-loop
 μ-loop coeffs masks n w carried₀ bits₀ count₀ p₀ carried bits count p = w - p
@@ -21,7 +19,7 @@ abbrev μ-loop : tie.MeasureT-loop
 loop-holds : tie.Need-loop-holds Inv-loop μ-loop
 loop-holds c =
     let a = c .before .before .args in
-    (omega arith, carried-start (a .w) (lent (now (a .coeffs)) (now (a .masks)) [] (a .n)) _ _)
+    (omega arith, carried-start (a .w) (now (a .coeffs)) (now (a .masks)) (a .n) _ _)
 
 carry-at-requires : tie.Need-carry-at-requires Inv-loop μ-loop
 carry-at-requires c κs =
@@ -30,15 +28,16 @@ carry-at-requires c κs =
     let a = at-start .args in
     let pre = at-start .pre in
     let h = at-loop .loop in
-    let g = lent (now (a .coeffs)) (now (a .masks)) [] (a .n) in
-    let few = to-few (a .w) g (pre .1) (h .p) (h .count) (h .inv .1) in
+    let cs = now (a .coeffs) in
+    let ms = now (a .masks) in
+    let few = to-few (a .w) cs ms (a .n) (pre .1) (h .p) (h .count) (h .inv .1) in
     let lt = c .before .before .loop-test .taken in (
       pre .0,
       pre .1,
       omega (arith, pre .1, lt),
       omega (arith, few, pre .1, lt, pre .2, h .inv .1 .long),
       omega (arith, few, pre .1, lt, pre .3, h .inv .1 .wide),
-      to-below (a .w) g (pre .1) (h .p) (h .count) (h .inv .1) (omega (arith, few, pre .1, lt, pre .2, h .inv .1 .long))
+      to-below (a .w) cs ms (a .n) (pre .1) (h .p) (h .count) (h .inv .1) (omega (arith, few, pre .1, lt, pre .2, h .inv .1 .long))
           (omega (arith, few, pre .1, lt, pre .3, h .inv .1 .wide)),
     )
 
@@ -55,7 +54,7 @@ loop-again c =
     let a = at-start .args in
     let h = at-loop .loop in (
       omega arith,
-      carried-turn (a .w) (lent (now (a .coeffs)) (now (a .masks)) [] (a .n)) (at-start .pre .1) (h .p) (h .count)
+      carried-turn (a .w) (now (a .coeffs)) (now (a .masks)) (a .n) (at-start .pre .1) (h .p) (h .count)
           (h .inv .1) (c .before .before .before .before .carry-at .ensures),
     )
 
@@ -70,7 +69,7 @@ returns c =
     let at-start = c .before .before .before .before in
     let a = at-start .args in
     let h = c .before .loop in
-    carried-done (a .w) (lent (now (a .coeffs)) (now (a .masks)) [] (a .n)) (at-start .pre .1) (h .p) (h .count) (h .inv .1)
+    carried-done (a .w) (now (a .coeffs)) (now (a .masks)) (a .n) (at-start .pre .1) (h .p) (h .count) (h .inv .1)
     (h .inv .0) (c .loop-test .left)
 
 pub carried-of-spec : {M : Type 1} → statement M

@@ -1,8 +1,6 @@
 -- `carry_at` meets its contract: a coefficient that is 0 carries nothing, another is carried.
-use mathlib.Core.List.{[]}
 use native.Mathlib.Omega.{arith}
 use denote.Ref.{now}
-use Rattle.group.specs.Links.{lent}
 use Rattle.structure_recovery.proofs.CarriedToLaws.{at-none, at-some}
 use borrow.Author.Needs.{needs}
 use Rattle.structure_recovery.proofs.carried.carry_at.Statement.{statement}
@@ -16,7 +14,7 @@ returns c =
     let at-start = c .before .before .before .before in
     let a = at-start .args in
     let pre = at-start .pre in
-    at-none (a .w) (lent (now (a .coeffs)) (now (a .masks)) [] (a .n)) (a .p) _ (a .count) (now (a .carried)) (now (a .bits))
+    at-none (a .w) (now (a .coeffs)) (now (a .masks)) (a .n) (a .p) _ (a .count) (now (a .carried)) (now (a .bits))
     (c .before .bit-coeff .ensures) (omega (arith, pre .3)) (omega (arith, pre .4)) (c .if1 .taken)
 
 carry-requires : tie.Need-carry-requires
@@ -34,7 +32,7 @@ returns-2 c =
     let at-if1 = at-carry .before .before .before in
     let at-coeff = at-if1 .before in
     let a = at-coeff .before .before .before .args in
-    at-some (a .w) (lent (now (a .coeffs)) (now (a .masks)) [] (a .n)) (a .p) _ (a .count) (now (a .carried)) (now (a .bits))
+    at-some (a .w) (now (a .coeffs)) (now (a .masks)) (a .n) (a .p) _ (a .count) (now (a .carried)) (now (a .bits))
     (at-coeff .bit-coeff .ensures) (at-if1 .if1 .left) (at-carry .carry .ensures)
 
 pub carry-at-spec : {M : Type 1} → statement M

@@ -24,21 +24,25 @@ element-copy-out-d c = search needs
 mod-add-requires : tie.Need-mod-add-requires
 mod-add-requires c κs = search needs
 
-mul-if2 : tie.Need-mul-if2
-mul-if2 c = search needs
+mul-fewer-ones : tie.Need-mul-fewer-ones
+mul-fewer-ones c = search needs
 
-element-copy-out-if2 : tie.Need-element-copy-out-if2
-element-copy-out-if2 c = search needs
+element-copy-out-fewer-ones : tie.Need-element-copy-out-fewer-ones
+element-copy-out-fewer-ones c = search needs
 
-mul-if2-2 : tie.Need-mul-if2-2
-mul-if2-2 c = search needs
+mul-fewer-ones-2 : tie.Need-mul-fewer-ones-2
+mul-fewer-ones-2 c = search needs
 
-element-copy-out-if2-2 : tie.Need-element-copy-out-if2-2
-element-copy-out-if2-2 c = search needs
+element-copy-out-fewer-ones-2 : tie.Need-element-copy-out-fewer-ones-2
+element-copy-out-fewer-ones-2 c = search needs
+
+fewer-ones-requires : tie.Need-fewer-ones-requires
+fewer-ones-requires c κs = search needs
 
 recover-xor-requires : tie.Need-recover-xor-requires
 recover-xor-requires c κs =
-    let pre = c .before .before .before .before .before .before .before .before .before .before .before .before .pre in
+    let at-if1 = c .before .before .before .before .before .before in
+    let pre = at-if1 .before .before .before .before .before .before .before .pre in
     (pre .0, pre .1 .same, pre .1 .encodable, pre .2, pre .3, pre .4, pre .5, pre .6)
 
 same-length : tie.Need-same-length
@@ -49,17 +53,18 @@ same-length-2 c = search needs
 
 returns : tie.Need-returns
 returns c =
-    let a = c .before .before .before .before .before .before .before .before .before .before .before .before .before .before .before .before .before .args in
+    let at-if2 = c .before .before .before .before .before .before .before in
+    let at-if1 = at-if2 .before .before .before .before in
+    let a = at-if1 .before .before .before .before .before .before .before .args in
     turned-as
-    (pair-xor (a .w) (decode (now (a .b))) (a .i) (a .j) _
-    (c .before .before .before .before .before .before .before .before .before .before .before .mod-add .ensures)
-    (c .before .before .before .before .before .before .before .before .before .before .if1 .taken)
-    (c .before .before .before .before .before .before .before .if2 .taken))
+    (pair-xor (a .w) (decode (now (a .b))) (a .i) (a .j) _ (at-if1 .before .mod-add .ensures)
+    (at-if2 .before .fewer-ones .ensures) (at-if1 .if1 .taken) (at-if2 .if2 .taken))
     (c .before .before .before .before .recover-xor .ensures)
 
 recover-xor-requires-2 : tie.Need-recover-xor-requires-2
 recover-xor-requires-2 c κs =
-    let pre = c .before .before .before .before .before .before .before .before .before .before .before .before .pre in
+    let at-if1 = c .before .before .before .before .before .before in
+    let pre = at-if1 .before .before .before .before .before .before .before .pre in
     (pre .0, pre .1 .same, pre .1 .encodable, pre .2, pre .3, pre .5, pre .4, (λ e. pre .6 (sym e)))
 
 same-length-3 : tie.Need-same-length-3
@@ -70,12 +75,12 @@ same-length-4 c = search needs
 
 returns-2 : tie.Need-returns-2
 returns-2 c =
-    let a = c .before .before .before .before .before .before .before .before .before .before .before .before .before .before .before .before .before .args in
+    let at-if2 = c .before .before .before .before .before .before .before in
+    let at-if1 = at-if2 .before .before .before .before in
+    let a = at-if1 .before .before .before .before .before .before .before .args in
     turned-as
-    (pair-xor-back (a .w) (decode (now (a .b))) (a .i) (a .j) _
-    (c .before .before .before .before .before .before .before .before .before .before .before .mod-add .ensures)
-    (c .before .before .before .before .before .before .before .before .before .before .if1 .taken)
-    (omega (arith, c .before .before .before .before .before .before .before .if2 .left)))
+    (pair-xor-back (a .w) (decode (now (a .b))) (a .i) (a .j) _ (at-if1 .before .mod-add .ensures)
+    (at-if2 .before .fewer-ones .ensures) (at-if1 .if1 .taken) (at-if2 .if2 .left))
     (c .before .before .before .before .recover-xor2 .ensures)
 
 mod-sub-requires : tie.Need-mod-sub-requires
@@ -119,10 +124,11 @@ recover-pair-spec =
     mul-d
     element-copy-out-d
     mod-add-requires
-    mul-if2
-    element-copy-out-if2
-    mul-if2-2
-    element-copy-out-if2-2
+    mul-fewer-ones
+    element-copy-out-fewer-ones
+    mul-fewer-ones-2
+    element-copy-out-fewer-ones-2
+    fewer-ones-requires
     recover-xor-requires
     same-length
     same-length-2
