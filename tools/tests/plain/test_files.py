@@ -3,9 +3,9 @@
 import os
 import unittest
 
-from records import Fault, read_answer, read_expression, read_form, structural_hash
+from hogzelt.records import Fault, read_answer, read_expression, read_form, structural_hash
 
-from tests.samples import ROOT, WORKED, bytes_of
+from samples import ROOT, WORKED, bytes_of
 
 XOR = bytes_of("a ^ 15")
 FORM = WORKED[8, "a ^ 15"]  # head, a, head, a, 15, And, term, term, sum

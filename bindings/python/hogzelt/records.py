@@ -1,20 +1,23 @@
-"""The bytes that the tool reads and writes (docs/ARCHITECTURE.md has their layout): expressions
-(document 01: tangles), semilinear forms (sheets) and what the program `par` prints."""
+"""The bytes of expressions (document 01: tangles), of semilinear forms (sheets) and of what the
+program `par` prints; docs/ARCHITECTURE.md has their layout."""
+
+from __future__ import annotations
 
 import re
-from collections import namedtuple
+import struct
+from typing import NamedTuple, NoReturn
 
 CONSTANT, VARIABLE, ADD, MUL, AND, OR, XOR, NOT, NEG, SHR, ZEXT, SEXT, TRUNC, CONCAT = range(14)
-KIND_NAMES = (
-    "Constant Variable Add Mul And Or Xor Not Neg Shr ZExt SExt Trunc Concat".split()
-)
+KIND_NAMES = "Constant Variable Add Mul And Or Xor Not Neg Shr ZExt SExt Trunc Concat".split()
 BINARY = frozenset((ADD, MUL, AND, OR, XOR, CONCAT))
 UNARY = frozenset((NOT, NEG, SHR, ZEXT, SEXT, TRUNC))
 CASTS = frozenset((ZEXT, SEXT, TRUNC, CONCAT))
+ARITHMETIC = frozenset((ADD, MUL, NEG))
 # the kinds whose byte 1 says something: variable number, shift count or cast width
 WITH_ARGUMENT = frozenset((VARIABLE, SHR, ZEXT, SEXT, TRUNC))
 # the kinds that the tree of an atom may hold
 ATOM_KINDS = frozenset((CONSTANT, VARIABLE, AND, OR, XOR, NOT, SHR))
+ARITY = [2 if kind in BINARY else 1 if kind in UNARY else 0 for kind in range(14)]
 
 SUM, HEAD, TERM = 32, 33, 34
 PROVENANCES = "And Or Xor Not Mixed".split()
@@ -23,52 +26,95 @@ RECORD = 16
 MOST_RECORDS = 1024
 MOST_ATOMS = 256
 MOST_TREE_RECORDS = 3072
-MOST_FORM_BYTES = 57360
+FORM_BYTES = 57360
+MOST_SHIFT = 63
 
-# A record without its width, which is the same in all records of a file.
-Record = namedtuple("Record", "kind argument size literal")
-Expression = namedtuple("Expression", "width records")
-Atom = namedtuple("Atom", "provenance records")
-# terms: pairs of atom number and coefficient, atom numbers rising
-Form = namedtuple("Form", "width constant atoms terms")
-# what `par` prints: a form without its atoms, or a refusal
-Answer = namedtuple("Answer", "constant terms")
-Refusal = namedtuple("Refusal", "number")
+LAYOUT = struct.Struct("<BBHBxxxQ")  # kind, argument, size, width, literal or word
 
 
 class Fault(Exception):
     """The bytes are not what they should be; the message names the record and the fault."""
 
 
-def arity(kind):
-    return 2 if kind in BINARY else 1 if kind in UNARY else 0
+class Record(NamedTuple):
+    """A record without its width, which is the same in all records of a file."""
+
+    kind: int
+    argument: int
+    size: int
+    literal: int
 
 
-def article(kind):
+class Expression(NamedTuple):
+    width: int
+    records: list[Record]
+
+
+class Atom(NamedTuple):
+    provenance: int
+    records: list[Record]
+
+
+class Form(NamedTuple):
+    """A semilinear form; terms are pairs of atom number and coefficient, atom numbers rising."""
+
+    width: int
+    constant: int
+    atoms: list[Atom]
+    terms: list[tuple[int, int]]
+
+
+class Answer(NamedTuple):
+    """What `par` prints of a form: no atoms, and no width."""
+
+    constant: int
+    terms: list[tuple[int, int]]
+
+
+class Refusal(NamedTuple):
+    """What `par` prints in place of a form."""
+
+    number: int
+
+
+def article(kind: int) -> str:
     name = KIND_NAMES[kind]
     return ("an " if name[0] in "AO" else "a ") + name
 
 
-def expression_bytes(expression):
-    return b"".join(
-        record_bytes(r.kind, r.argument, r.size, expression.width, r.literal)
-        for r in expression.records
-    )
+def record_bytes(kind: int, argument: int, size: int, width: int, word: int) -> bytes:
+    return LAYOUT.pack(kind, argument, size, width, word)
 
 
-def record_bytes(kind, argument, size, width, word):
-    return (
-        bytes((kind, argument))
-        + size.to_bytes(2, "little")
-        + bytes((width, 0, 0, 0))
-        + word.to_bytes(8, "little")
-    )
+def expression_bytes(expression: Expression) -> bytes:
+    width = expression.width
+    return b"".join([LAYOUT.pack(k, a, size, width, word) for k, a, size, word in expression.records])
+
+
+def tree_records(data: bytes) -> list[Record]:
+    """The records of a tree that is known to be good."""
+    return [Record(k, a, size, word) for k, a, size, _, word in LAYOUT.iter_unpack(data)]
+
+
+def split_form(data: bytes) -> tuple[int, int, list[tuple[int, bytes]]]:
+    """Width, constant and terms (coefficient and the tree's bytes) of a form that is known to be
+    good."""
+    trees, terms, at = [], [], 0
+    while data[at] == HEAD:
+        end = at + RECORD + RECORD * (data[at + 2] | data[at + 3] << 8)
+        trees.append(data[at + RECORD : end])
+        at = end
+    for kind, _, number, width, word in LAYOUT.iter_unpack(data[at:]):
+        if kind == SUM:
+            break
+        terms.append((word, trees[number]))
+    return width, word, terms
 
 
 class Raw:
     """One record of a file, with its number for messages."""
 
-    def __init__(self, data, number):
+    def __init__(self, data: bytes, number: int) -> None:
         at = number * RECORD
         chunk = data[at : at + RECORD]
         self.number = number
@@ -78,22 +124,22 @@ class Raw:
         self.spare = chunk[5:8]
         self.word = int.from_bytes(chunk[8:16], "little")
 
-    def fault(self, message):
+    def fault(self, message: str) -> NoReturn:
         raise Fault(f"record {self.number} (byte {self.number * RECORD}): {message}")
 
-    def check_width(self, width):
+    def check_width(self, width: int) -> None:
         if not 1 <= self.width <= 64:
             self.fault(f"width {self.width}; a width is 1 to 64")
         if self.width != width:
             self.fault(f"width {self.width}; the first record has width {width}")
 
-    def check_spare(self):
+    def check_spare(self) -> None:
         for i, byte in enumerate(self.spare):
             if byte:
                 self.fault(f"its byte {5 + i} is {byte} and must be 0")
 
 
-def check_length(data, name, most):
+def check_length(data: bytes, name: str, most: int) -> None:
     """A length that a run of records can have."""
     if not data:
         raise Fault(f"no bytes; a {name} has at least one record of {RECORD} bytes")
@@ -103,7 +149,7 @@ def check_length(data, name, most):
         raise Fault(f"{len(data):,} bytes, not a multiple of {RECORD}: a record is cut short")
 
 
-def read_expression(data):
+def read_expression(data: bytes) -> Expression:
     """The expression that the bytes hold; every well-formed file is read, casts and shift counts
     that the engine refuses included."""
     check_length(data, "tangle", MOST_RECORDS * RECORD)
@@ -111,13 +157,14 @@ def read_expression(data):
     return Expression(width, read_tree(data, 0, len(data) // RECORD, width))
 
 
-def read_tree(data, first, count, width):
+def read_tree(data: bytes, first: int, count: int, width: int) -> list[Record]:
     """The tree in `count` records from number `first` on: children first, the root last."""
-    records, roots = [], []  # roots: the record numbers of trees that have no parent yet
+    records: list[Record] = []
+    roots: list[int] = []  # the record numbers of trees that have no parent yet
     for number in range(first, first + count):
         raw = Raw(data, number)
         check_node(raw, width)
-        wanted = arity(raw.kind)
+        wanted = ARITY[raw.kind]
         if len(roots) < wanted:
             before = "1 tree stands" if roots else "none stands"
             children = "two children" if wanted == 2 else "a child"
@@ -136,7 +183,7 @@ def read_tree(data, first, count, width):
     return records
 
 
-def check_node(raw, width):
+def check_node(raw: Raw, width: int) -> None:
     if raw.kind > CONCAT:
         raw.fault(f"kind {raw.kind}; the kinds of an expression are 0 to {CONCAT}")
     raw.check_width(width)
@@ -147,13 +194,13 @@ def check_node(raw, width):
         raw.fault(f"its bytes 8 to 15 hold {raw.word} and must be 0 in {article(raw.kind)}")
 
 
-def read_form(data):
+def read_form(data: bytes) -> Form:
     """The semilinear form that the bytes hold, checked as the engine checks it (refusal 10)."""
-    check_length(data, "sheet", MOST_FORM_BYTES)
+    check_length(data, "sheet", FORM_BYTES)
     count = len(data) // RECORD
     width = data[4]
     atoms, number = read_atoms(data, count, width)
-    terms = []
+    terms: list[tuple[int, int]] = []
     while number < count and Raw(data, number).kind == TERM:
         terms.append(read_term(Raw(data, number), width, terms, len(atoms)))
         number += 1
@@ -169,9 +216,10 @@ def read_form(data):
     return Form(width, constant, atoms, terms)
 
 
-def read_atoms(data, count, width):
+def read_atoms(data: bytes, count: int, width: int) -> tuple[list[Atom], int]:
     """The atoms at the front, and the number of the record behind them."""
-    atoms, number, total = [], 0, 0
+    atoms: list[Atom] = []
+    number = total = 0
     while number < count and Raw(data, number).kind == HEAD:
         head = Raw(data, number)
         check_head(head, len(atoms), count, width)
@@ -187,7 +235,7 @@ def read_atoms(data, count, width):
     return atoms, number
 
 
-def check_head(head, index, count, width):
+def check_head(head: Raw, index: int, count: int, width: int) -> None:
     head.check_width(width)
     head.check_spare()
     if head.argument >= len(PROVENANCES):
@@ -198,12 +246,12 @@ def check_head(head, index, count, width):
         head.fault(f"the tree of atom {index} has {head.size} records, past the end of the file")
 
 
-def check_atom(head, records):
+def check_atom(head: Raw, records: list[Record]) -> None:
     for i, record in enumerate(records):
         where = f"record {head.number + 1 + i} (byte {(head.number + 1 + i) * RECORD})"
         if record.kind not in ATOM_KINDS:
             raise Fault(f"{where}: an atom holds no {KIND_NAMES[record.kind]}")
-        if record.kind == SHR and record.argument > 63:
+        if record.kind == SHR and record.argument > MOST_SHIFT:
             raise Fault(f"{where}: shift count {record.argument}; in an atom it is 63 at most")
     if all(record.kind != VARIABLE for record in records):
         head.fault("the atom holds no variable")
@@ -212,7 +260,7 @@ def check_atom(head, records):
         head.fault(f"hash {head.word:016x}; the tree has {wanted:016x}")
 
 
-def read_term(raw, width, terms, atoms):
+def read_term(raw: Raw, width: int, terms: list[tuple[int, int]], atoms: int) -> tuple[int, int]:
     raw.check_width(width)
     raw.check_spare()
     if raw.argument:
@@ -226,7 +274,7 @@ def read_term(raw, width, terms, atoms):
     return raw.size, raw.word
 
 
-def read_sum(raw, width):
+def read_sum(raw: Raw, width: int) -> int:
     if raw.kind != SUM:
         raw.fault(f"kind {raw.kind}; expected an atom's head ({HEAD}), a term ({TERM})"
                   f" or the sum record ({SUM}), in this order")
@@ -239,16 +287,16 @@ def read_sum(raw, width):
     return raw.word
 
 
-def structural_hash(records):
+def structural_hash(records: list[Record]) -> int:
     """The hash of a tree, over uncut literals; sums and products wrap at 64 bits."""
-    stack = []
+    stack: list[int] = []
     for record in records:
         if record.kind == VARIABLE:
             value = 1 ^ (record.argument + 1) * 0x517CC1B727220A95 % 2**64
         else:
             own = record.literal if record.kind == CONSTANT else record.argument
             value = record.kind ^ own * 0x9E3779B97F4A7C15 % 2**64
-        wanted = arity(record.kind)
+        wanted = ARITY[record.kind]
         for child in stack[len(stack) - wanted :]:
             value = mix_hash(value, child)
         del stack[len(stack) - wanted :]
@@ -256,11 +304,11 @@ def structural_hash(records):
     return stack[-1]
 
 
-def mix_hash(value, child):
+def mix_hash(value: int, child: int) -> int:
     return value ^ (child + 0x9E3779B97F4A7C15 + (value << 6) % 2**64 + (value >> 2)) % 2**64
 
 
-def read_answer(data):
+def read_answer(data: bytes) -> Answer | Refusal:
     """What `par` printed: lines C, T and T .., or one line R."""
     try:
         lines = data.decode("ascii").split("\n")
@@ -276,7 +324,7 @@ def read_answer(data):
     constant = re.fullmatch(r"C ([0-9a-f]{16})", lines[0])
     if not constant:
         raise Fault("line 1: expected C and 16 lower-case hex digits, or R and a number 1 to 10")
-    terms = []
+    terms: list[tuple[int, int]] = []
     for at, line in enumerate(lines[1:], 2):
         term = re.fullmatch(r"T (0|[1-9][0-9]{0,2}) ([0-9a-f]{16})", line)
         if not term:

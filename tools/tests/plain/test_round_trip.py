@@ -3,23 +3,22 @@
 import random
 import unittest
 
-from parse import parse
-from records import (
+from hogzelt.parse import parse
+from hogzelt.records import (
     ADD, AND, BINARY, CONSTANT, MUL, NEG, SHR, UNARY, VARIABLE, WITH_ARGUMENT, Expression, Fault,
     Record, expression_bytes, read_expression,
 )
-from scan import BadText
-from show import expression_text
+from hogzelt.render import expression_text
+from hogzelt.tokens import BadText
 
-from tests.samples import random_records
+from samples import random_records
 
 
 class RoundTrip(unittest.TestCase):
     def same(self, width, records):
         data = expression_bytes(Expression(width, records))
-        text = expression_text(read_expression(data).records)
-        again = expression_bytes(Expression(width, parse(text, width).records))
-        self.assertEqual(again, data, text[:200])
+        text = expression_text(read_expression(data).records, width)
+        self.assertEqual(parse(text, width).data, data, text[:200])
         return text
 
     def test_random(self):
@@ -80,7 +79,7 @@ class RoundTrip(unittest.TestCase):
         for _ in range(4000):
             text = "".join(source.choice(pieces) for _ in range(source.randint(1, 9)))
             try:
-                records = parse(text, 8).records
+                records = parse(text, 8).expression.records
             except BadText as bad:
                 self.assertTrue(bad.message and 0 <= bad.at <= len(text), text)
                 continue
@@ -115,7 +114,7 @@ class RoundTrip(unittest.TestCase):
             "65535 + 0x10000",
             "z + v26 + v255", "concat(a + b, zext(16, c))*2", "trunc(4, a) - sext(8, -b)",
         ):
-            self.assertEqual(self.same(8, parse(text, 8).records), text)
+            self.assertEqual(self.same(8, parse(text, 8).expression.records), text)
 
 
 def node(kind, size):

@@ -4,19 +4,20 @@ import ast
 import random
 import unittest
 
-from parse import parse
-from records import (
+from hogzelt.parse import notes, parse
+from hogzelt.records import (
     ADD, AND, CONCAT, CONSTANT, MUL, NEG, NOT, OR, SEXT, SHR, TRUNC, VARIABLE, XOR, ZEXT, Record,
 )
-from scan import BadText, line_and_column, located
+from hogzelt.tokens import BadText, line_and_column, located
 
 # C's table, tightest first
-ROWS = (("*",), ("+", "-"), (">>",), ("&",), ("^",), ("|",))
+ROWS = (("*",), ("+", "-"), (">>", "<<"), ("&",), ("^",), ("|",))
 LEVEL = {symbol: level for level, row in enumerate(ROWS) for symbol in row}
+SHIFTS = (">>", "<<")
 
 
 def records(text, width=8):
-    return parse(text, width).records
+    return parse(text, width).expression.records
 
 
 def constant(value):
@@ -31,14 +32,14 @@ class Precedence(unittest.TestCase):
     def test_pairs(self):
         for first in LEVEL:
             for second in LEVEL:
-                y, z = ("3" if s == ">>" else v for s, v in ((first, "b"), (second, "c")))
+                y, z = ("3" if s in SHIFTS else v for s, v in ((first, "b"), (second, "c")))
                 text = f"a {first} {y} {second} {z}"
                 if LEVEL[first] <= LEVEL[second]:
                     grouped = f"(a {first} {y}) {second} {z}"
                 else:
                     grouped = f"a {first} ({y} {second} {z})"
                 with self.subTest(text=text):
-                    if first == ">>" and LEVEL[second] < LEVEL[first]:
+                    if first in SHIFTS and LEVEL[second] < LEVEL[first]:
                         self.assertRaises(BadText, parse, text, 8)
                     else:
                         self.assertEqual(records(text), records(grouped))
@@ -51,10 +52,10 @@ class Precedence(unittest.TestCase):
     def test_prefix_binds_tightest(self):
         for sign in ("~", "-"):
             for symbol in LEVEL:
-                right = "3" if symbol == ">>" else "b"
+                right = "3" if symbol in SHIFTS else "b"
                 text = f"{sign}a {symbol} {right}"
                 self.assertEqual(records(text), records(f"({sign}a) {symbol} {right}"), text)
-                if symbol != ">>":
+                if symbol not in SHIFTS:
                     text = f"a {symbol} {sign}b"
                     self.assertEqual(records(text), records(f"a {symbol} ({sign}b)"), text)
 
@@ -95,7 +96,7 @@ class Operands(unittest.TestCase):
     def test_literals(self):
         for text, value in (
             ("0", 0), ("7", 7), ("18446744073709551615", 2**64 - 1), ("0x0", 0), ("0xfF", 255),
-            ("0XFF", 255), ("0b1010", 10), ("0B1", 1), ("0x0000000000000000000001", 1),
+            ("0XFF", 255), ("15u", 15), ("7UL", 7), ("0xffULL", 255), ("0b11ll", 3), ("200u8", 200), ("0b1010", 10), ("0B1", 1), ("0x0000000000000000000001", 1),
             ("0xffffffffffffffff", 2**64 - 1), ("0b" + "1" * 64, 2**64 - 1),
         ):
             self.assertEqual(records(text), [constant(value)], text)
@@ -103,6 +104,26 @@ class Operands(unittest.TestCase):
     def test_variables(self):
         for text, number in (("a", 0), ("v", 21), ("z", 25), ("v0", 0), ("v25", 25), ("v255", 255)):
             self.assertEqual(records(text), [variable(number)], text)
+
+    def test_names(self):
+        """Names other than a to z and v0 to v255 get the lowest numbers that are free."""
+        for text, numbers, names in (
+            ("flags", [0], {0: "flags"}),
+            ("flags + a", [1, 0], {1: "flags"}),
+            ("X1 + x + flags + X1", [0, 23, 1, 0], {0: "X1", 1: "flags"}),
+            ("v0 + v26", [0, 26], {0: "v0"}),
+            ("_t + ab + v1", [0, 2, 1], {0: "_t", 2: "ab", 1: "v1"}),
+        ):
+            parsed = parse(text, 8)
+            variables = [r.argument for r in parsed.expression.records if r.kind == VARIABLE]
+            self.assertEqual((variables, parsed.names), (numbers, names), text)
+
+    def test_most_names(self):
+        names = [f"n{i}" for i in range(256)]
+        self.assertEqual(len(parse(" ^ ".join(names), 8).names), 256)
+        with self.assertRaises(BadText) as caught:
+            parse(" ^ ".join([*names, "more"]), 8)
+        self.assertIn("256 variables", str(caught.exception))
 
     def test_each_kind(self):
         a, b = variable(0), variable(1)
@@ -121,6 +142,8 @@ class Operands(unittest.TestCase):
             ("sext(0, a)", [a, Record(SEXT, 0, 2, 0)]),
             ("trunc(255, a)", [a, Record(TRUNC, 255, 2, 0)]),
             ("concat(a, b)", [a, b, Record(CONCAT, 0, 3, 0)]),
+            ("a << 3", [a, constant(8), Record(MUL, 0, 3, 0)]),
+            ("a << 0x3f", [a, constant(2**63), Record(MUL, 0, 3, 0)]),
         ):
             self.assertEqual(records(text), expected, text)
 
@@ -132,13 +155,15 @@ class Operands(unittest.TestCase):
         self.assertEqual(len(records("~" * 1023 + "a")), 1024)
 
     def test_notes(self):
-        self.assertEqual(parse("255*a", 8).notes, [])
-        self.assertEqual(parse("a + 256", 8).notes, [(4, "256 is cut to 0 at width 8")])
-        self.assertEqual(parse("a + 256*257", 8).notes[0][1],
-                         "256 is cut to 0 at width 8; 1 more like this")
-        self.assertIn("R 6", parse("a >> 64", 8).notes[0][1])
-        self.assertEqual(parse("a >> 63", 8).notes, [])
-        self.assertIn("R 5", parse("trunc(4, a)", 8).notes[0][1])
+        for text, expected in (
+            ("255*a", []),
+            ("a >> 63", []),
+            ("a + 256", [(4, "256 is cut to 0 at width 8")]),
+            ("a + 256*257", [(4, "256 is cut to 0 at width 8; 1 more like this")]),
+            ("a >> 64", [(2, "shift count 64: counts above 63 are refused (6)")]),
+            ("trunc(4, a)", [(0, "Trunc: casts and Concat are refused (5)")]),
+        ):
+            self.assertEqual(notes(parse(text, 8)), expected, text)
 
 
 # text, line, column, part of the message
@@ -152,12 +177,18 @@ BAD = (
     ("a + \n * b", 2, 2, 'found "*"'),
     ("()", 1, 2, 'found ")"'),
     ("a b", 1, 3, "a product is written with *"),
+    ("a\nb", 2, 1, "one expression a line"),
+    ("(a &\n(b c", 2, 4, "a product is written with *"),
     ("3(a)", 1, 2, "a product is written with *"),
     ("16a", 1, 1, "a product is written 16*a"),
-    ("foo + a", 1, 1, 'unknown name "foo"'),
-    ("a + A", 1, 5, 'unknown name "A"'),
+    ("1e3", 1, 1, "numbers have no exponent: 1000"),
+    ("1.5*a", 1, 1, "numbers are whole"),
+    ("1_000", 1, 1, "without marks between them: 1000"),
+    ("0o17", 1, 1, "no octal literals: 15"),
+    ("\u00e9 + a", 1, 1, "expected a literal, a variable"),
     ("v256", 1, 1, "v0 to v255"),
     ("v01", 1, 1, "v0 to v255"),
+    ("v999", 1, 1, "v0 to v255"),
     ("18446744073709551616", 1, 1, "below 2^64"),
     ("a & 0x10000000000000000", 1, 5, "below 2^64"),
     ("9" * 5000, 1, 1, "below 2^64"),
@@ -167,10 +198,25 @@ BAD = (
     ("0xfg", 1, 1, "hexadecimal digits"),
     ("a >> b", 1, 6, "a shift count, a literal from 0 to 255"),
     ("a >> 256", 1, 6, "a shift count"),
+    ("a << 64", 1, 6, "a literal from 0 to 63"),
+    ("1 << a", 1, 6, "a shift count"),
     ("a >> -1", 1, 6, "a shift count"),
     ("a >> 1 + 2", 1, 6, "write (x >> n) in parentheses"),
-    ("a << 3", 1, 3, "x << 3 is written 8*x"),
-    ("a > 3", 1, 3, "the shift is written >>"),
+    ("a > 3", 1, 3, "a shift is written >>"),
+    ("a < 3", 1, 3, "a shift is written <<"),
+    ("a <= 3", 1, 3, "no comparisons"),
+    ("a == b", 1, 3, "no comparisons"),
+    ("a = b", 1, 3, "no equals sign"),
+    ("a && b", 1, 3, "no logical and; bit by bit it is &"),
+    ("a || b", 1, 3, "no logical or; bit by bit it is |"),
+    ("!a", 1, 1, "no logical not; bit by bit it is ~"),
+    ("a ** 2", 1, 3, "no powers"),
+    ("a % 8", 1, 3, "x % 8 is x & 7"),
+    ("a / 8", 1, 3, "x / 8 is x >> 3"),
+    ("x and y", 1, 3, "and is written &"),
+    ("x or y", 1, 3, "or is written |"),
+    ("not x", 1, 1, "not is written ~"),
+    ("x xor y", 1, 3, "xor is written ^"),
     ("2 \u00d7 a", 1, 3, "a product is written *"),
     ("a / 2", 1, 3, 'found "/"'),
     ("a $ b", 1, 3, 'found "$"'),
@@ -192,7 +238,7 @@ class Bad(unittest.TestCase):
                     parse(text, 8)
                 bad = caught.exception
                 self.assertEqual(line_and_column(text, bad.at), (line, column))
-                self.assertIn(part, bad.message)
+                self.assertIn(part, str(bad))
                 self.assertIn(f"line {line}, column {column}: ", located(text, bad.at, bad.message))
 
     def test_caret(self):
@@ -207,5 +253,5 @@ class Bad(unittest.TestCase):
         self.assertEqual(len(records("+".join("a" * 512))), 1023)
         with self.assertRaises(BadText) as caught:
             parse("+".join("a" * 513), 8)
-        self.assertIsNone(caught.exception.at)
+        self.assertEqual(caught.exception.at, 2 * 512 - 1)
         self.assertIn("1,025 records", caught.exception.message)

@@ -1,0 +1,146 @@
+"""hogzelt value, columns, show, write and normalize."""
+
+from __future__ import annotations
+
+import re
+import sys
+
+from ..calls import columns as columns_of
+from ..calls import value as value_of
+from ..records import Fault, read_answer, read_expression, read_form
+from ..render import bits_text, expression_text, mask_text, signed
+from ..show import counted, show_answer, show_columns, show_expression, show_form
+from ..tokens import BadWord, literal_value, variable_number
+from .files import write_whole
+from .options import Options, Usage
+from .report import name_of, variables_of
+from .source import Given, read_bytes, read_given, read_parsed, read_sheet, run, sort_of
+
+ASSIGNING = re.compile(r"\s*[A-Za-z_][0-9A-Za-z_]*\s*=(?!=)")
+ASSIGNMENT = re.compile(r"\s*([A-Za-z_][0-9A-Za-z_]*)\s*=\s*(-?)\s*(\S+)\s*")
+
+
+def value(options: Options) -> int:
+    """The value of a text, a tangle or a sheet under an assignment."""
+    assigned = [word for word in options.words if ASSIGNING.match(word)]
+    options.words = [word for word in options.words if not ASSIGNING.match(word)]
+    given = read_given(options, "value")
+    if given.sort == "sheet":
+        sheet = read_sheet(given)
+        data, width, numbers = sheet.data, sheet.form.width, {}
+    else:
+        parsed = read_parsed(given, options)
+        data, width = parsed.data, parsed.width
+        numbers = {name_of(i, parsed.names): i for i in variables_of(parsed)}
+    words = [0] * 256
+    for word in assigned:
+        number, amount = read_assignment(word, numbers)
+        words[number] = amount % (1 << width)
+    found = value_of(data, words)
+    if "quiet" in options:
+        print(found)
+    else:
+        unset = [name for name, i in numbers.items() if not any(is_of(w, name) for w in assigned)]
+        print(f"{found}  {mask_text(found, width)}  {bits_text(found, width)}"
+              f"  signed {signed(found, width)}")
+        if unset:
+            print(f"0 where nothing is given: {', '.join(unset)}")
+    return 0
+
+
+def is_of(word: str, name: str) -> bool:
+    return word.partition("=")[0].strip() == name
+
+
+def read_assignment(word: str, numbers: dict[str, int]) -> tuple[int, int]:
+    match = ASSIGNMENT.fullmatch(word)
+    if not match:
+        raise Usage(f"an assignment is NAME=NUMBER, not {word!r}")
+    name, sign, amount = match.groups()
+    number = numbers.get(name, variable_number(name))
+    if number is None:
+        known = ", ".join(numbers) or "a to z, v0 to v255"
+        raise Usage(f"{word!r}: there is no variable {name} here ({known})")
+    try:
+        found = literal_value(amount)
+    except BadWord as bad:
+        raise Usage(f"{word!r}: {bad}") from None
+    return number, -found if sign else found
+
+
+def columns(options: Options) -> int:
+    """The classes of places of a sheet, or of the sheet that an expression gives."""
+    given = read_given(options, "columns")
+    if given.sort == "sheet":
+        sheet, names = read_sheet(given), {}
+    else:
+        parsed = read_parsed(given, options)
+        sheet, names = run(parsed, options.passes(())), parsed.names
+    print("\n".join(show_columns(sheet.form, columns_of(sheet), names)))
+    return 0
+
+
+def show(options: Options) -> int:
+    """A tangle, a sheet or what par printed, as text."""
+    words, named = options.words, options.get("file")
+    if len(words) + (named is not None) > 1:
+        raise Usage("one file at a time (hogzelt show --help)")
+    if not words and named is None and sys.stdin.isatty():
+        raise Usage("say which file to show (hogzelt show --help)")
+    name = named or (words[0] if words else "-")
+    data = read_bytes(name)
+    given = Given(sort_of(data), "standard input" if name == "-" else name, data)
+    try:
+        lines = shown(given, options)
+    except Fault as bad:
+        raise Fault(f"{given.label}{bad}") from None
+    print("\n".join(lines))
+    return 0
+
+
+def shown(given: Given, options: Options) -> list[str]:
+    data = given.data
+    if not data:
+        raise Fault("the file is empty; it is to be a tangle, a sheet or what par printed")
+    if given.sort == "sheet":
+        return show_form(read_form(data))
+    if given.sort == "par":
+        return show_answer(read_answer(data), options.width())
+    if given.sort == "text":
+        raise Fault("this is text; hogzelt shorten, normalize and write read text")
+    expression = read_expression(data)
+    if "text" in options:
+        return [expression_text(expression.records, expression.width)]
+    return show_expression(expression)
+
+
+def write(options: Options) -> int:
+    """The tangle file of a text."""
+    given = read_given(options, "write")
+    if given.sort != "text":
+        raise Usage(f"{given.label}this is no text; hogzelt show shows it")
+    parsed = read_parsed(given, options)
+    data, output = parsed.data, options.get("output") or "-"
+    if output == "-":
+        if sys.stdout.isatty():
+            raise Usage("say where to write: -o FILE")
+        sys.stdout.flush()
+        sys.stdout.buffer.write(data)
+        return 0
+    write_whole(output, data, options.get("file"))
+    count = counted(len(parsed.records), "record")
+    print(f"{output}: width {parsed.width}, {count}, {len(data):,} bytes")
+    return 0
+
+
+def normalize(options: Options) -> int:
+    """The tangle of a text and the sheet that normalising makes of it."""
+    given = read_given(options, "normalize")
+    parsed = read_parsed(given, options)
+    sheet = run(parsed)
+    print("\n".join(show_expression(parsed.expression, parsed.names)) + "\n")
+    print("\n".join(show_form(sheet.form, parsed.names)))
+    output = options.get("output")
+    if output:
+        write_whole(output, sheet.data, options.get("file"))
+    return 0

@@ -1,0 +1,8 @@
+"""Tests that need the library, the command among them. Run from the top of the repository:
+
+    python3 -B -m unittest discover -q -s tools/tests/library -t tools/tests
+"""
+
+import samples
+
+samples.find_package()
