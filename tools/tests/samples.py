@@ -5,6 +5,7 @@ with the package."""
 from __future__ import annotations
 
 import ast
+import operator
 import os
 import random
 import sys
@@ -48,29 +49,38 @@ def form_bytes(width: int, constant: int, atoms: list, terms: list) -> bytes:
     return data + record_bytes(SUM, 0, 0, width, constant)
 
 
-def evaluate(text: str, width: int, assignment: dict[str, int]) -> int:
-    """The value of a text: Python has C's precedence for these operators. Each part is cut to the
+BINARY_OPERATORS = {
+    ast.Add: operator.add, ast.Sub: operator.sub, ast.Mult: operator.mul,
+    ast.BitAnd: operator.and_, ast.BitOr: operator.or_, ast.BitXor: operator.xor,
+    ast.LShift: operator.lshift, ast.RShift: operator.rshift,
+}
+
+
+class Evaluator:
+    """The values of a text. Python has C's precedence for these operators; each part is cut to the
     width."""
-    mask = (1 << width) - 1
-    operators = {
-        ast.Add: lambda x, y: x + y, ast.Sub: lambda x, y: x - y, ast.Mult: lambda x, y: x * y,
-        ast.BitAnd: lambda x, y: x & y, ast.BitOr: lambda x, y: x | y,
-        ast.BitXor: lambda x, y: x ^ y, ast.LShift: lambda x, y: x << y,
-        ast.RShift: lambda x, y: x >> y, ast.Invert: lambda x: ~x, ast.USub: lambda x: -x,
-    }
 
-    def of(node: ast.expr) -> int:
+    def __init__(self, text: str, width: int) -> None:
+        self.tree = ast.parse(text.strip(), mode="eval").body
+        self.mask = (1 << width) - 1
+
+    def at(self, assignment: dict[str, int]) -> int:
+        return self.value(self.tree, assignment)
+
+    def value(self, node: ast.expr, assignment: dict[str, int]) -> int:
         if isinstance(node, ast.Constant):
-            return node.value & mask
+            return node.value & self.mask
         if isinstance(node, ast.Name):
-            return assignment.get(node.id, 0) & mask
+            return assignment[node.id] & self.mask
         if isinstance(node, ast.UnaryOp):
-            return operators[type(node.op)](of(node.operand)) & mask
+            inner = self.value(node.operand, assignment)
+            return (~inner if isinstance(node.op, ast.Invert) else -inner) & self.mask
+        left = self.value(node.left, assignment)
         if isinstance(node.op, (ast.LShift, ast.RShift)):
-            return operators[type(node.op)](of(node.left), node.right.value) & mask
-        return operators[type(node.op)](of(node.left), of(node.right)) & mask
-
-    return of(ast.parse(text.strip(), mode="eval").body)
+            right = node.right.value
+        else:
+            right = self.value(node.right, assignment)
+        return BINARY_OPERATORS[type(node.op)](left, right) & self.mask
 
 
 A = (MIXED_ATOM, "a")

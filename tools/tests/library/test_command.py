@@ -1,55 +1,18 @@
-"""The command line, as a user calls it."""
+"""The commands other than shorten and draw, as a user calls them."""
 
-import contextlib
-import io
 import os
 import stat
-import subprocess
-import sys
-import tempfile
 import unittest
 
-import cli
-import engine
+from hogzelt import __version__
+from hogzelt.command.main import TABLE
 
-from tests.samples import FIXED_ANSWERS, ROOT, TANGLE, WORKED, bytes_of
-from tests.test_parse import BAD
-
-
-class Command(unittest.TestCase):
-    def setUp(self):
-        folder = tempfile.TemporaryDirectory()
-        self.addCleanup(folder.cleanup)
-        self.folder = folder.name
-
-    def path(self, name, data=None):
-        path = os.path.join(self.folder, name)
-        if data is not None:
-            with open(path, "wb") as out:
-                out.write(data)
-        return path
-
-    def read(self, name):
-        with open(self.path(name), "rb") as source:
-            return source.read()
-
-    def call(self, *words, status=0):
-        """In this process: what goes to standard output and to standard error."""
-        out, err = io.StringIO(), io.StringIO()
-        with contextlib.redirect_stdout(out), contextlib.redirect_stderr(err):
-            self.assertEqual(cli.main(list(words)), status, err.getvalue())
-        return out.getvalue(), err.getvalue()
-
-    def run_tool(self, *words, data=b"", status=0, **env):
-        """As a process of its own."""
-        env = {**{k: v for k, v in os.environ.items() if k != "HOGZELT_NORMALIZE"}, **env}
-        done = subprocess.run([sys.executable, "-B", TANGLE, *words], input=data, env=env,
-                              cwd=self.folder, stdout=subprocess.PIPE, stderr=subprocess.PIPE)
-        self.assertEqual(done.returncode, status, done.stderr)
-        return done.stdout, done.stderr.decode()
+from calling import Calls
+from plain.test_parse import BAD
+from samples import ROOT, WORKED, bytes_of
 
 
-class Write(Command):
+class Write(Calls):
     def test_file(self):
         out, err = self.call("write", "-w", "8", "-o", self.path("x"), "a ^ 15")
         self.assertEqual((self.read("x"), err), (bytes_of("a ^ 15"), ""))
@@ -61,14 +24,14 @@ class Write(Command):
             for name in ("new", "old"):
                 out, err = self.call("write", "-w8", "-o", self.path(name), "--", text, status=1)
                 self.assertEqual(out, "")
-                self.assertTrue(err.startswith(f"tangle: line {line}, column {column}: "), err)
-                self.assertIn(part, err)
+                self.assertTrue(err.startswith(f"hogzelt: line {line}, column {column}: "), err)
+                self.assertTrue(part in err.replace("\n  hint: ", "; "), err)
         self.assertEqual(os.listdir(self.folder), ["old"])
         self.assertEqual(self.read("old"), b"as it was")
 
     def test_too_many_records(self):
         err = self.call("write", "-w8", "-o", self.path("x"), "+".join("a" * 513), status=1)[1]
-        self.assertIn("1,025 records", err)
+        self.assertIn("line 1, column 1024: the text makes 1,025 records", err)
         self.assertEqual(os.listdir(self.folder), [])
 
     def test_usage(self):
@@ -104,7 +67,7 @@ class Write(Command):
         self.assertEqual(self.read("x"), bytes_of("a + (b & 3)", 16))
         self.path("p.txt", b"a +\n  (b & )\n")
         err = self.call("write", "-w", "8", "-o", self.path("y"), "-f", source, status=1)[1]
-        self.assertTrue(err.startswith(f"tangle: {source}: line 2, column 8: "), err)
+        self.assertTrue(err.startswith(f"hogzelt: {source}: line 2, column 8: "), err)
         self.assertTrue(err.endswith("\n    (b & )\n         ^\n"), err)
         self.path("p.txt", b"a")
         err = self.call("write", "-w", "8", "-o", source, "-f", source, status=2)[1]
@@ -112,11 +75,13 @@ class Write(Command):
         self.path("p.txt", b"\xff\xfe")
         self.assertIn("UTF-8", self.call("write", "-w8", "-f", source, status=1)[1])
         self.path("p.txt", bytes_of("a"))
-        self.assertIn("a tangle already", self.call("write", "-w8", "-f", source, status=2)[1])
+        self.assertIn("is no text", self.call("write", "-w8", "-f", source, status=2)[1])
 
     def test_file_name_as_text(self):
         source = self.path("p.txt", b"a")
-        self.assertIn(f"-f {source} reads it", self.call("write", "-w8", source, status=1)[1])
+        for words in (("-w8",), ()):
+            err = self.call("write", *words, source, status=2 - len(words))[1]
+            self.assertIn(f"-f {source} reads it", err)
 
     def test_replaces_whole(self):
         os.chmod(self.path("x", b"older"), 0o640)
@@ -146,189 +111,191 @@ class Write(Command):
         self.assertTrue(err.endswith("\n  (a\n    ^\n"), err)
 
 
-class Show(Command):
+class Show(Calls):
     def test_each_sort(self):
         for data, first in (
             (bytes_of("a ^ 15"), "tangle: width 8, 3 records"),
             (WORKED[8, "a ^ 15"], "sheet: width 8, 2 atoms, par 2"),
             (WORKED[8, "5"], "sheet: width 8, 0 atoms, par 0"),
             (b"C 000000000000000f\n", "par 0"),
-            (b"R 8\n", "refusal 8: not linear, as a*b or a & (b + c)"),
+            (b"R 8\n", "refusal 8: not a sum of weighted bitwise atoms, as a*b or a & (b + c)"),
         ):
-            out, err = self.call("show", self.path("x", data))
-            self.assertEqual((out.split("\n")[0], err), (first, ""))
+            for words in ((), ("-f",)):
+                out, err = self.call("show", *words, self.path("x", data))
+                self.assertEqual((out.split("\n")[0], err), (first, ""))
 
     def test_damaged(self):
         for data, part in (
             (b"", "is empty"),
             (bytes_of("a ^ 15")[16:], "record 1 (byte 16): a Xor has two children"),
             (WORKED[8, "a ^ 15"][:-16], "no sum record"),
-            (b"T 0 0000000000000001\n", "line 1: expected C"),
-            (b"a ^ 15\n", "text is read by 'tangle write'"),
+            (b"C 000000000000000f\nT 0 01\n", "line 2: expected T"),
+            (b"a ^ 15\n", "this is text"),
         ):
             path = self.path("x", data)
             out, err = self.call("show", path, status=1)
-            self.assertTrue(err.startswith(f"tangle: {path}: ") and part in err, err)
+            self.assertTrue(err.startswith(f"hogzelt: {path}: ") and part in err, err)
             self.assertEqual(out, "")
 
     def test_usage(self):
         self.assertIn("No such file", self.call("show", self.path("none"), status=2)[1])
         self.assertIn("one file", self.call("show", "x", "y", status=2)[1])
-        self.assertIn("no option -x", self.call("show", "-x", status=2)[1])
+        self.assertIn("no option --xx", self.call("show", "--xx", status=2)[1])
 
     def test_standard_input(self):
         out, _ = self.run_tool("show", "-w", "8", "-", data=b"C 00000000000000ff\n")
-        self.assertEqual(out, b"par 0\nconstant  255   (255 is -1)\n")
+        self.assertEqual(out, b"par 0\nconstant  0xff (-1)\n")
 
 
-class Normalize(Command):
+class Normalize(Calls):
     def test_text(self):
-        out, err = self.run_tool("normalize", "-w", "8", "a ^ 15", HOGZELT_NORMALIZE=FIXED_ANSWERS)
-        self.assertEqual(out.decode().split("\n"), [
+        out, err = self.call("normalize", "-w", "8", "a ^ 15")
+        self.assertEqual(out.split("\n"), [
             "tangle: width 8, 3 records",
             "a ^ 15",
-            "  mask 15, places 7 to 0: 00001111",
+            "  mask 0x0f, places 7 to 0: 00001111",
             "",
             "sheet: width 8, 2 atoms, par 2",
-            "constant  15",
-            "term 0    1*a",
-            "term 1    254*(a & 15)   (254 is -2)",
-            "              mask 15, places 7 to 0: 00001111",
+            "sum       15 + 1*a - 2*(a & 15)",
+            "constant  0x0f (15)",
+            "term 0    0x01 (1) * a",
+            "term 1    0xfe (-2) * (a & 15)",
+            "            mask 0x0f, places 7 to 0: 00001111",
             "",
         ])
         self.assertEqual(err, "")
 
     def test_tangle_file_and_output(self):
         path = self.path("x", bytes_of("a - a"))
-        program = ("--program", FIXED_ANSWERS)
-        out, _ = self.call("normalize", *program, "-f", path, "-o", self.path("s"))
+        out, _ = self.call("normalize", "-f", path, "-o", self.path("s"))
         self.assertEqual(self.read("s"), WORKED[8, "a - a"])
-        self.assertTrue(out.endswith("par 0\nconstant  0\natom 0    not used: a\n"), out)
-        err = self.call("normalize", *program, "-w9", "-f", path, status=2)[1]
-        self.assertIn("has width 8", err)
+        self.assertTrue(out.endswith("par 0\nsum       0\nconstant  0x00 (0)\n"
+                                     "atom 0    not used: a\n"), out)
+        err = self.call("normalize", "-w9", "-f", path, status=2)[1]
+        self.assertIn("its width is 8", err)
 
-    def test_refusal(self):
-        out, err = self.call("normalize", "--program", FIXED_ANSWERS, "-w8", "-o", self.path("s"),
-                             "a*b", status=1)
-        self.assertEqual((out.split("\n")[-2], err),
-                         ("refusal 8: not linear, as a*b or a & (b + c)", ""))
-        self.assertEqual(os.listdir(self.folder), [])
+    def test_worked_examples(self):
+        for (width, text), answer in WORKED.items():
+            words = ("normalize", f"-w{width}", "-o", self.path("s"), text)
+            if isinstance(answer, int):
+                err = self.call(*words, status=1)[1]
+                self.assertIn(f": refusal {answer}: ", err)
+            else:
+                self.call(*words)
+                self.assertEqual(self.read("s"), answer, text)
 
     def test_bad_input(self):
         err = self.call("normalize", "-w8", "a +", status=1)[1]
         self.assertIn("line 1, column 4", err)
         path = self.path("x", bytes_of("a ^ 15")[:-16])
         self.assertIn("record 0", self.call("normalize", "-f", path, status=1)[1])
-
-    def test_programs(self):
-        path = self.path("x", b"#!/bin/sh\necho no sheet\n")
-        err = self.call("normalize", "--program", path, "-w8", "a", status=2)[1]
-        self.assertIn("is no program", err)
-        os.chmod(path, 0o755)
-        err = self.call("normalize", "--program", path, "-w8", "a", status=2)[1]
-        self.assertIn("neither a sheet nor a refusal", err)
-        err = self.call("normalize", "--program", FIXED_ANSWERS, "-w8", "z", status=2)[1]
-        self.assertIn("ended with status 3", err)
+        path = self.path("x", WORKED[8, "a ^ 15"])
+        self.assertIn("this is a sheet", self.call("normalize", "-f", path, status=2)[1])
 
 
-PROGRAM = os.path.join(ROOT, "target", "bin", "normalize")
+class Value(Calls):
+    def test_values(self):
+        for words, shown in (
+            (("a ^ 15", "a=5", "b=0x10"), "10"),
+            (("flags & 254", "flags=-1"), "254"),
+            (("a + b", "a=200", "v1=100"), "44"),
+            (("--fold", "x & -2", "x=7u"), "6"),
+        ):
+            self.assertEqual(self.call("value", "-q", "-w", "8", *words)[0], shown + "\n")
+
+    def test_shown(self):
+        out, _ = self.call("value", "-w", "8", "a ^ b ^ 15", "a=0xf0")
+        self.assertEqual(out, "255  0xff  11111111  signed -1\n0 where nothing is given: b\n")
+
+    def test_files(self):
+        for data in (bytes_of("a ^ 15"), WORKED[8, "a ^ 15"]):
+            out, _ = self.call("value", "-q", "-f", self.path("x", data), "a=5")
+            self.assertEqual(out, "10\n")
+
+    def test_usage(self):
+        for words, part in (
+            (("a", "a="), "NAME=NUMBER"),
+            (("a", "flags=1"), "no variable flags here (a)"),
+            (("a", "a=1e3"), "no exponent: 1000"),
+        ):
+            self.assertIn(part, self.call("value", "-w8", *words, status=2)[1])
+        self.assertIn("no comparisons", self.call("value", "-w8", "a == b", status=1)[1])
+        self.assertIn("refusal 6", self.call("value", "-w8", "a >> 64", status=1)[1])
 
 
-@unittest.skipUnless(os.path.isfile(PROGRAM), "target/bin/normalize is not built")
-class BuiltProgram(unittest.TestCase):
-    def test_worked_examples(self):
-        """The program itself answers what its double does."""
-        for (width, text), answer in WORKED.items():
-            done = subprocess.run([PROGRAM], input=bytes_of(text, width), stdout=subprocess.PIPE)
-            expected = b"R %d\n" % answer if isinstance(answer, int) else answer
-            self.assertEqual(done.stdout, expected, text)
+class Columns(Calls):
+    def test_worked_example(self):
+        out, _ = self.call("columns", "-w", "8", "(a & 15) + (flags ^ a)")
+        self.assertEqual(out.split("\n"), [
+            "columns: width 8, 2 atoms, 2 classes",
+            "",
+            "class 0  mask 0x0f, places 7 to 0: ....1111",
+            "       a  0 1",
+            "  a & 15  0 1",
+            "          a  0 1 0 1",
+            "      flags  0 0 1 1",
+            "  flags ^ a  0 1 1 0",
+            "",
+            "class 1  mask 0xf0, places 7 to 0: 1111....",
+            "       a  0 1",
+            "  a & 15  0 0",
+            "          a  0 1 0 1",
+            "      flags  0 0 1 1",
+            "  flags ^ a  0 1 1 0",
+            "",
+        ])
+
+    def test_opaque_and_none(self):
+        self.assertIn("a >> 1: a shift, or more", self.call("columns", "-w8", "a >> 1")[0])
+        self.assertEqual(self.call("columns", "-w8", "7")[0],
+                         "columns: width 8, 0 atoms, 0 classes\n")
+
+    def test_sheet_and_passes(self):
+        out, _ = self.call("columns", "-f", self.path("x", WORKED[8, "a ^ 15"]))
+        self.assertIn("2 atoms, 2 classes", out)
+        out, _ = self.call("columns", "-w8", "--passes", "refine,compact", "16*(a & 255)")
+        self.assertIn("1 atom, 2 classes", out)
+        self.assertIn("no pass 'fold'", self.call("columns", "-w8", "--passes", "fold", "a",
+                                                  status=2)[1])
 
 
-class Builds(Command):
-    """Where target/bin/normalize is missing it is built; here by a double of rt, in a copy."""
-
-    def setUp(self):
-        super().setUp()
-        self.root = os.path.join(self.folder, "top")
-        os.makedirs(os.path.join(self.root, "crates"))
-        self.addCleanup(setattr, engine, "ROOT", engine.ROOT)
-        engine.ROOT = self.root
-        saved = {name: os.environ.get(name) for name in ("PATH", "HOGZELT_NORMALIZE")}
-        self.addCleanup(restore, saved)
-        os.environ.pop("HOGZELT_NORMALIZE", None)
-
-    def build(self, script, status):
-        os.makedirs(os.path.join(self.root, "crates", "normalize"), exist_ok=True)
-        os.makedirs(os.path.join(self.root, "bin"), exist_ok=True)
-        rt = self.path("top/bin/rt", b"#!/bin/sh\n" + script)
-        os.chmod(rt, 0o755)
-        os.environ["PATH"] = os.path.dirname(rt) + os.pathsep + os.environ["PATH"]
-        with open(self.path("log"), "w+") as log, contextlib.redirect_stderr(log):
-            out = io.StringIO()
-            with contextlib.redirect_stdout(out):
-                self.assertEqual(cli.main(["normalize", "-w8", "5"]), status)
-        return out.getvalue(), self.read("log").decode()
-
-    def test_built_once(self):
-        script = f'[ "$*" = "check normalize" ] && mkdir -p target/bin &&' \
-                 f' ln -s "{FIXED_ANSWERS}" target/bin/normalize; echo proving\n'.encode()
-        out, log = self.build(script, 0)
-        self.assertTrue(out.endswith("constant  5\n"), out)
-        self.assertIn("rt check normalize proves and builds it now", log)
-        self.assertIn("proving\n", log)
-        self.assertEqual(self.build(b"exit 1\n", 0), (out, ""))
-
-    def test_fails(self):
-        self.assertIn("status 1", self.build(b"exit 1\n", 2)[1])
-        self.assertIn("made no target/bin/normalize", self.build(b"exit 0\n", 2)[1])
-
-    def test_missing(self):
-        self.assertIn("no crates/normalize", self.call("normalize", "-w8", "a", status=2)[1])
-        os.makedirs(os.path.join(self.root, "crates", "normalize"))
-        os.environ["PATH"] = self.folder
-        self.assertIn("and so is rt", self.call("normalize", "-w8", "a", status=2)[1])
-
-
-class Help(Command):
+class Help(Calls):
     def test_help(self):
-        for words in ((), ("write",), ("show",), ("normalize",)):
+        for words in ((), *((name,) for name in TABLE)):
             out, err = self.call(*words, "--help")
-            self.assertTrue(out.startswith("usage: tangle") and err == "", out)
-            self.assertGreaterEqual(out.count("\n  tools/text/tangle "), 2)
+            self.assertTrue(out.startswith("usage: hogzelt") and err == "", out)
             self.assertLessEqual(max(map(len, out.split("\n"))), 100)
 
+    def test_examples(self):
+        """The examples of --help do what they say, but for those that use other programs."""
+        for name in TABLE:
+            text = self.call(name, "--help")[0].partition("Examples:\n")[2]
+            for line in filter(None, text.split("\n")):
+                if "|" not in line.replace(" | target", "|"):
+                    words = self.split(line)
+                    self.assertEqual(words[0], "tools/hogzelt")
+                    self.call(*words[1:])
+
+    def split(self, line):
+        import shlex
+        words = shlex.split(line)
+        places = {"examples": ROOT, "picture.svg": self.folder, "xor.tangle": self.folder,
+                  "xor.sheet": self.folder}
+        return [os.path.join(places[w.split("/")[0]], w) if w.split("/")[0] in places else w
+                for w in words]
+
+    def test_version(self):
+        self.assertEqual(self.call("--version")[0], f"hogzelt {__version__}\n")
+
     def test_commands(self):
-        self.assertIn("write, show and normalize", self.call(status=2)[1])
+        self.assertIn("shorten, value, draw", self.call(status=2)[1])
         self.assertIn("no command 'frob'", self.call("frob", status=2)[1])
 
-    def test_examples(self):
-        """The example files are what the tool makes of their text."""
+    def test_example_files(self):
+        """The example files are what the command makes of their text."""
         folder = os.path.join(ROOT, "examples")
         with open(os.path.join(folder, "xor15.tangle"), "rb") as source:
             self.assertEqual(source.read(), bytes_of("a ^ 15"))
         self.call("write", "-w", "16", "-o", self.path("x"), "-f", os.path.join(folder, "sum.txt"))
 
 
-class Walkthrough(Command):
-    def test_readme(self):
-        """Each command of the README prints there what it prints here."""
-        with open(os.path.join(ROOT, "README.md"), encoding="utf-8") as source:
-            text = source.read().split("## Puzzles as text\n")[1].split("\n## ")[0]
-        block = [line[4:] for line in text.split("\n") if line.startswith("    ") or not line]
-        steps = "\n".join(block).strip().split("$ ")[1:]
-        self.assertGreaterEqual(len(steps), 2)
-        os.symlink(os.path.join(ROOT, "tools"), self.path("tools"))
-        env = {**os.environ, "HOGZELT_NORMALIZE": FIXED_ANSWERS, "PYTHONDONTWRITEBYTECODE": "1"}
-        for step in steps:
-            command, expected = step.split("\n", 1)
-            done = subprocess.run(["sh", "-c", command], cwd=self.folder, env=env,
-                                  stdout=subprocess.PIPE, stderr=subprocess.STDOUT)
-            self.assertEqual(done.stdout.decode().strip(), expected.strip())
-
-
-def restore(saved):
-    for name, value in saved.items():
-        if value is None:
-            os.environ.pop(name, None)
-        else:
-            os.environ[name] = value

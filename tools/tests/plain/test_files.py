@@ -93,21 +93,22 @@ class Damaged(unittest.TestCase):
                 self.refused(read_answer, data, *parts)
 
 
+def stored_entries():
+    """Type, refusal, value, words and bytes of each entry of the vector file (docs/VECTORS.md)."""
+    with open(os.path.join(ROOT, "crates", "vectors", "stdin"), "rb") as source:
+        data = source.read()
+    at = 0
+    while data[at]:
+        words = int.from_bytes(data[at + 2 : at + 4], "little")
+        count = int.from_bytes(data[at + 4 : at + 8], "little")
+        value = int.from_bytes(data[at + 8 : at + 16], "little")
+        start = at + 16 + 8 * words
+        listed = [int.from_bytes(data[i : i + 8], "little") for i in range(at + 16, start, 8)]
+        yield data[at], data[at + 1], value, listed, data[start : start + count]
+        at = -(-(start + count) // 16) * 16
+
+
 class StoredAnswers(unittest.TestCase):
-    """Entries of the vector file (docs/VECTORS.md)."""
-
-    def entries(self):
-        with open(os.path.join(ROOT, "crates", "vectors", "stdin"), "rb") as source:
-            data = source.read()
-        at = 0
-        while data[at]:
-            words = int.from_bytes(data[at + 2 : at + 4], "little")
-            count = int.from_bytes(data[at + 4 : at + 8], "little")
-            value = int.from_bytes(data[at + 8 : at + 16], "little")
-            start = at + 16 + 8 * words
-            yield data[at], data[at + 1], value, data[start : start + count]
-            at = -(-(start + count) // 16) * 16
-
     def accepted(self, read, data):
         try:
             read(data)
@@ -118,7 +119,7 @@ class StoredAnswers(unittest.TestCase):
     def test_stored(self):
         """Refusals 5 and 6 stand in well-formed files; 1, 3, 4 and 10 do not."""
         seen = dict.fromkeys(range(15), 0)
-        for sort, refusal, value, data in self.entries():
+        for sort, refusal, value, _, data in stored_entries():
             seen[sort] += 1
             if sort == 1:
                 self.assertEqual(self.accepted(read_expression, data), refusal not in (1, 3, 4))

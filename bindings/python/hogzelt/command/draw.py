@@ -16,7 +16,7 @@ def draw(options: Options) -> int:
         picture = picture_of(read_sheet(given))
     else:
         parsed = read_parsed(given, options)
-        picture = picture_of(run(parsed, options.passes(())), parsed.names)
+        picture = picture_of(run(given, parsed, options.passes(())), parsed.names)
     output = options.get("svg")
     if output is None:
         print("\n".join(picture_lines(picture, wants_colour())))

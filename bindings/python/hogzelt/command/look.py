@@ -7,10 +7,11 @@ import sys
 
 from ..calls import columns as columns_of
 from ..calls import value as value_of
+from ..parse import notes
 from ..records import Fault, read_answer, read_expression, read_form
 from ..render import bits_text, expression_text, mask_text, signed
 from ..show import counted, show_answer, show_columns, show_expression, show_form
-from ..tokens import BadWord, literal_value, variable_number
+from ..tokens import BadWord, literal_value, located, variable_number
 from .files import write_whole
 from .options import Options, Usage
 from .report import name_of, variables_of
@@ -75,7 +76,7 @@ def columns(options: Options) -> int:
         sheet, names = read_sheet(given), {}
     else:
         parsed = read_parsed(given, options)
-        sheet, names = run(parsed, options.passes(())), parsed.names
+        sheet, names = run(given, parsed, options.passes(())), parsed.names
     print("\n".join(show_columns(sheet.form, columns_of(sheet), names)))
     return 0
 
@@ -120,6 +121,8 @@ def write(options: Options) -> int:
     if given.sort != "text":
         raise Usage(f"{given.label}this is no text; hogzelt show shows it")
     parsed = read_parsed(given, options)
+    for at, message in notes(parsed):
+        sys.stderr.write(f"hogzelt: note: {located(parsed.text, at, message, given.name)}\n")
     data, output = parsed.data, options.get("output") or "-"
     if output == "-":
         if sys.stdout.isatty():
@@ -137,7 +140,7 @@ def normalize(options: Options) -> int:
     """The tangle of a text and the sheet that normalising makes of it."""
     given = read_given(options, "normalize")
     parsed = read_parsed(given, options)
-    sheet = run(parsed)
+    sheet = run(given, parsed)
     print("\n".join(show_expression(parsed.expression, parsed.names)) + "\n")
     print("\n".join(show_form(sheet.form, parsed.names)))
     output = options.get("output")

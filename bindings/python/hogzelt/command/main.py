@@ -38,9 +38,7 @@ TABLE = {
 def main(words: Sequence[str]) -> int:
     try:
         return finish(run(words))
-    except Refusing as bad:
-        return complain(bad.shown(None), 1)
-    except (Fault, Refused) as bad:
+    except (Refusing, Fault, Refused) as bad:
         return complain(str(bad), 1)
     except (Usage, NoLibrary) as bad:
         return complain(str(bad), 2)

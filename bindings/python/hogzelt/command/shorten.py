@@ -69,7 +69,7 @@ def shorten(options: Options) -> int:
 
 def of_text(given: Given, options: Options, passes: tuple[int, ...]) -> Shortened:
     parsed = read_parsed(given, options)
-    steps = steps_from(Step("normalise", run(parsed), 0), passes)
+    steps = steps_from(Step("normalise", run(given, parsed), 0), passes)
     return Shortened(parsed.width, parsed.names, variables_of(parsed), parsed.text, steps)
 
 

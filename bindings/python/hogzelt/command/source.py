@@ -10,7 +10,7 @@ from typing import NamedTuple
 from ..calls import Refused, Sheet, engine, is_form
 from ..explain import explain
 from ..fold import fold
-from ..parse import Parsed, notes, parse
+from ..parse import Parsed, parse
 from ..records import Fault, read_expression, read_form
 from ..render import expression_text
 from ..tokens import BadText, line_and_column, located
@@ -39,11 +39,13 @@ class Given(NamedTuple):
 
 
 class Refusing(Exception):
-    """An expression that is refused: the number, 0 for a text that is none, and its place."""
+    """An expression that is refused: the number, 0 for a text that is none, and its place. `name`
+    is that of the file."""
 
     def __init__(self, number: int, text: str, at: int, message: str, hint: str) -> None:
         super().__init__(message)
         self.number, self.text, self.at, self.message, self.hint = number, text, at, message, hint
+        self.name: str | None = None
 
     @property
     def sentence(self) -> str:
@@ -53,9 +55,9 @@ class Refusing(Exception):
     def place(self) -> tuple[int, int]:
         return line_and_column(self.text, self.at)
 
-    def shown(self, name: str | None) -> str:
+    def __str__(self) -> str:
         hint = f"\n  hint: {self.hint}" if self.hint else ""
-        return located(self.text, self.at, self.sentence, name) + hint
+        return located(self.text, self.at, self.sentence, self.name) + hint
 
 
 def sort_of(data: bytes) -> str:
@@ -94,14 +96,15 @@ def read_bytes(name: str) -> bytes:
 def width_of(given: Given, options: Options) -> int:
     width = options.width()
     if width is None:
-        raise Usage(f"the width is missing: -w and a number from 1 to 64{file_hint(given)}")
+        hint = file_hint(given)
+        raise Usage("the width is missing: -w and a number from 1 to 64" + (hint and f" ({hint})"))
     return width
 
 
 def file_hint(given: Given) -> str:
     """A file's name in place of a text is a likely slip."""
     if given.name is None and os.path.isfile(given.data):
-        return f"\n(there is a file {given.text}: -f {given.text} reads it)"
+        return f"there is a file {given.text}: -f {given.text} reads it"
     return ""
 
 
@@ -115,7 +118,7 @@ def parsed_text(text: str, width: int, folds: bool) -> Parsed:
 
 def read_parsed(given: Given, options: Options) -> Parsed:
     """The expression of a text or a tangle. A tangle is read as the text that it is shown as, which
-    has the same bytes. Notes go to standard error."""
+    has the same bytes."""
     if given.sort == "tangle":
         return parsed_tangle(given, options)
     if given.sort != "text":
@@ -125,10 +128,9 @@ def read_parsed(given: Given, options: Options) -> Parsed:
     try:
         parsed = parsed_text(given.text, width, False)
     except Refusing as bad:
-        bad.hint += file_hint(given)
+        bad.name = given.name
+        bad.hint = file_hint(given) or bad.hint
         raise
-    for at, message in notes(parsed):
-        sys.stderr.write(f"hogzelt: note: {located(parsed.text, at, message, given.name)}\n")
     return fold(parsed) if "fold" in options else parsed
 
 
@@ -151,12 +153,14 @@ def read_sheet(given: Given) -> Sheet:
         raise Fault(f"{given.label}{bad}") from None
 
 
-def run(parsed: Parsed, passes: tuple[int, ...] = ()) -> Sheet:
+def run(given: Given, parsed: Parsed, passes: tuple[int, ...] = ()) -> Sheet:
     """The sheet after normalising and passes; a refusal comes with its place."""
     try:
         return engine().run(parsed.data, passes)
     except Refused as bad:
-        raise refusing(bad.number, parsed) from None
+        refusal = refusing(bad.number, parsed)
+        refusal.name = given.name
+        raise refusal from None
 
 
 def refusing(number: int, parsed: Parsed) -> Refusing:

@@ -26,13 +26,14 @@ Those of one row associate to the left; parentheses group. Literals are decimal,
 other name (flags, X1), which gets a number that is free. zext(16, x), sext(16, x), trunc(4, x) and
 concat(x, y) can be written and shown, and are refused.
 
-A sum is a constant and numbers times atoms; an atom has only variables, literals, & | ^ ~ and >>. So
-products of variables, and & | ^ ~ >> over + - *, are refused (8). Parts without a variable may be
-written as one literal by --fold: x & -2 is then read as x & 254 at width 8.
+A sum is a constant and numbers times atoms; an atom has only variables, literals, & | ^ ~ and >>.
+So products of variables, and & | ^ ~ >> over + - *, are refused (8). Parts without a variable are
+cut to one literal by --fold: x & -2 is then read as x & 254 at width 8.
 
-Exit status: 0 done; 1 a text is bad or something is refused; 2 wrong usage, or a file or the library
-is missing. HOGZELT_SO names the shared object of the library. In a checkout it is made where it is
-missing: 'rt staticlib hogzelt' proves and builds the archive, cc makes a shared object of it.
+Exit status: 0 done; 1 a text is bad or something is refused; 2 wrong usage, or a file or the
+library is missing. HOGZELT_SO names the shared object of the library. In a checkout it is made
+where it is missing: 'rt staticlib hogzelt' proves and builds the archive, cc makes a shared object
+of it.
 """
 
 COMMON = """\
@@ -89,7 +90,7 @@ usage: hogzelt columns -w WIDTH TEXT
        hogzelt columns -f FILE
 
 Prints the classes of places: those at which every atom of the normalised sheet has the same table.
-Under each class stands for each atom its table: a row of bits for each of its variables, then its own.
+Under each class stands each atom's table: a row of bits for each of its variables, then its own.
 
 {COMMON}{PASSES}\
                       (default: none)
@@ -103,8 +104,9 @@ usage: hogzelt draw -w WIDTH [--svg FILE] TEXT
        hogzelt draw [--svg FILE] -f FILE
 
 Draws the normalised sheet by place: a ruler, the constant, and each term's mask; bits that cannot
-matter beside the coefficient are dimmed, and a second row shows where an even coefficient moves them
-and what it pushes off the end. Colours stand only in a terminal, and not where NO_COLOR is set.
+matter beside the coefficient are dimmed, and a second row shows where an even coefficient moves
+them and what it pushes off the end. Colours stand only in a terminal, and not where NO_COLOR is
+set.
 
 {COMMON}{PASSES}\
                       (default: none)
@@ -131,8 +133,8 @@ Examples:
 usage: hogzelt write -w WIDTH [-o FILE] TEXT
        hogzelt write -w WIDTH [-o FILE] -f TEXTFILE    the file may have several lines
 
-Writes the tangle file of a text. Where the text is bad nothing is written. Literals stay whole in the
-file; a note says which are cut at this width.
+Writes the tangle file of a text. Where the text is bad nothing is written. Literals stay whole in
+the file; a note says which are cut at this width.
 
 {COMMON}\
   -o, --output FILE   the file to write; one that is there is replaced. Without it the bytes go to
@@ -145,9 +147,9 @@ Examples:
     "show": """\
 usage: hogzelt show [-w WIDTH] [--text] [FILE]        FILE may be - for standard input
 
-Shows a tangle, a sheet (its used length) or what the program par printed. A damaged file is answered
-by the record and its fault. Masks, constants and coefficients are shown in hexadecimal, numbers with
-their signed reading beside them.
+Shows a tangle, a sheet (its used length) or what the program par printed. A damaged file is
+answered by the record and its fault. Masks, the constant and coefficients are shown in hexadecimal,
+the last two with their signed reading beside them.
 
   --text              of a tangle only the text, which 'hogzelt write' makes the same bytes of
   -w, --width WIDTH   for what par printed, which has no width: show the signed readings too
