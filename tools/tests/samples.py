@@ -8,7 +8,9 @@ import ast
 import operator
 import os
 import random
+import shutil
 import sys
+import unittest
 
 HERE = os.path.dirname(os.path.realpath(__file__))
 ROOT = os.path.dirname(os.path.dirname(HERE))
@@ -22,6 +24,13 @@ def find_package() -> None:
     """Makes the package of this checkout the one that is imported."""
     if PACKAGE not in sys.path:
         sys.path.insert(0, PACKAGE)
+
+
+def need(test: unittest.TestCase, tool: str) -> None:
+    """Leaves the test out, and says so, where a tool is absent."""
+    if not shutil.which(tool):
+        sys.stderr.write(f"{tool} is absent: {test.id()} is left out\n")
+        test.skipTest(f"{tool} is absent")
 
 
 find_package()

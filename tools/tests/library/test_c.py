@@ -2,14 +2,13 @@
 
 import os
 import re
-import shutil
 import subprocess
 
 from hogzelt import build, records, refusals
 from hogzelt.calls import COLUMN_WORDS, OPAQUE, Pass
 
 from calling import Calls
-from samples import ROOT
+from samples import ROOT, need
 
 ANSWER = """\
 shortened: accepted, 144 bytes, 2 terms
@@ -23,12 +22,10 @@ HEADER = os.path.join(ROOT, "include", "hogzelt.h")
 class Installed(Calls):
     def setUp(self):
         super().setUp()
-        if not shutil.which("cc"):
-            self.skipTest("cc is absent")
+        need(self, "cc")
         self.prefix = self.path("prefix")
         self.env = dict(os.environ)
-        top_archive = os.path.join(ROOT, build.ARCHIVE)
-        self.env.setdefault("HOGZELT_LIB", top_archive)
+        self.env.setdefault("HOGZELT_LIB", os.path.join(ROOT, build.ARCHIVE))
         out = self.sh(os.path.join(ROOT, "tools", "install.sh"), self.prefix)
         self.assertEqual(out, f"hogzelt 1.0.0: {os.path.realpath(self.prefix)}\n")
 
@@ -60,15 +57,13 @@ class Installed(Calls):
         self.assertEqual(self.sh("./use"), ANSWER)
 
     def test_pkg_config(self):
-        if not shutil.which("pkg-config"):
-            self.skipTest("pkg-config is absent")
+        need(self, "pkg-config")
         self.sh(os.path.join(ROOT, "examples", "pkg-config", "build.sh"), self.path("use"),
                 PKG_CONFIG_PATH=f"{self.prefix}/lib/pkgconfig")
         self.assertEqual(self.sh("./use", LD_LIBRARY_PATH=f"{self.prefix}/lib"), ANSWER)
 
     def test_cmake(self):
-        if not shutil.which("cmake"):
-            self.skipTest("cmake is absent")
+        need(self, "cmake")
         self.sh("cmake", "-S", os.path.join(ROOT, "examples", "cmake"), "-B", "build",
                 f"-DCMAKE_PREFIX_PATH={self.prefix}")
         self.sh("cmake", "--build", "build")
@@ -109,8 +104,7 @@ class Header(Calls):
         self.assertEqual(numbers, [0, *sorted(refusals.REFUSALS)])
 
     def test_cpp(self):
-        if not shutil.which("c++"):
-            self.skipTest("c++ is absent")
+        need(self, "c++")
         source = self.path("x.cc", b'#include "hogzelt.h"\nint main() { return hogzelt_version() !='
                                    b" HOGZELT_VERSION || !*hogzelt_refusal_text(8); }\n")
         subprocess.run(["c++", "-Wall", "-Wextra", "-pedantic", "-Werror", "-I",

@@ -9,6 +9,7 @@ import sys
 import threading
 import unittest
 from ctypes import byref, c_uint64
+from importlib.util import find_spec
 
 import hogzelt
 from hogzelt import build
@@ -17,7 +18,7 @@ from hogzelt.records import FORM_BYTES
 
 from calling import Calls
 from plain.test_files import stored_entries
-from samples import PACKAGE, ROOT, bytes_of
+from samples import PACKAGE, ROOT
 
 
 def header_number(name):
@@ -189,15 +190,14 @@ class Building(Calls):
 class Installing(Calls):
     def test_pip(self):
         """From the folder, without network; then elsewhere, without the checkout."""
-        if subprocess.run([sys.executable, "-m", "pip", "--version"], stdout=subprocess.DEVNULL,
-                          stderr=subprocess.DEVNULL).returncode:
+        if not find_spec("pip"):
+            sys.stderr.write("pip is absent: installing the package is left out\n")
             self.skipTest("pip is absent")
         subprocess.run([sys.executable, "-m", "pip", "install", "--quiet", "--no-index",
                         "--disable-pip-version-check", "--target", self.path("site"), PACKAGE],
-                       check=True)
+                       env={**os.environ, "PIP_ROOT_USER_ACTION": "ignore"}, check=True)
         env = {**os.environ, "PYTHONPATH": self.path("site"), "PYTHONDONTWRITEBYTECODE": "1"}
         for words in ([sys.executable, "-m", "hogzelt"], [self.path("site/bin/hogzelt")]):
             done = subprocess.run([*words, "shorten", "-q", "-w8", "x ^ 15"], cwd=self.folder,
                                   env=env, stdout=subprocess.PIPE, check=True)
             self.assertEqual(done.stdout, b"15 + 1*x - 2*(x & 15)\n")
-        self.assertEqual(bytes_of("a"), hogzelt.parse("a", 8).data)

@@ -6,6 +6,9 @@ from ..render import mask_text
 from .picture import ABSENT, COUNTS, IDLE, Picture, Row
 
 CELL, LINE, EDGE, GAP = 18, 20, 16, 4
+LEGEND = (("counts", "counts"), ("idle", "cannot matter"), ("pushed", "pushed off the end"))
+LEGEND_STEP = 125
+LEGEND_WIDTH = 2 * EDGE + LEGEND_STEP * len(LEGEND)
 CLASSES = {COUNTS: "counts", IDLE: "idle", ABSENT: "absent"}
 STYLE = """
 text { font: 13px ui-monospace, monospace; fill: #1f2328 }
@@ -72,8 +75,9 @@ def svg_text(picture: Picture) -> str:
         canvas.text(canvas.x(place) + CELL // 2, str(place), "place")
     for number, row in enumerate(picture.rows):
         draw_row(canvas, number, row)
+    draw_legend(canvas)
     longest = max(len(picture.sum), *(len(row.title) for row in picture.rows))
-    width = max(canvas.x(0) + CELL + 150, EDGE * 2 + 10 * longest)
+    width = max(canvas.x(0) + CELL + 180, EDGE * 2 + 10 * longest, LEGEND_WIDTH)
     height = canvas.y + EDGE
     head = (f'<svg xmlns="http://www.w3.org/2000/svg" width="{width}" height="{height}"'
             f' viewBox="0 0 {width} {height}" role="img">')
@@ -89,5 +93,15 @@ def draw_row(canvas: Canvas, number: int, row: Row) -> None:
     canvas.y += 8
     canvas.row(f"mask {number}", row.cells(canvas.width), 0, mask_text(row.mask, canvas.width))
     if row.shift:
-        note = f"{row.shift} up" + (", some pushed off the end" if row.pushed else "")
+        pushed = bin(row.pushed).count("1")
+        note = f"{row.shift} up" + (f", {pushed} pushed off the end" if pushed else "")
         canvas.row(f"landing {number}", row.landing(canvas.width), row.pushed, note)
+
+
+def draw_legend(canvas: Canvas) -> None:
+    canvas.y += LINE
+    for number, (style, meaning) in enumerate(LEGEND):
+        x = EDGE + LEGEND_STEP * number
+        canvas.parts.append(f'<rect x="{x}" y="{canvas.y}" width="10" height="10" class="{style}"/>')
+        canvas.parts.append(f'<text x="{x + 16}" y="{canvas.y + 9}" class="note">{meaning}</text>')
+    canvas.y += 10
