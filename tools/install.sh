@@ -12,7 +12,9 @@ stop() {
     exit 2
 }
 
-[ $# -eq 1 ] && [ -n "$1" ] && [ "${1#-}" = "$1" ] || stop "usage: tools/install.sh PREFIX"
+case "$#:${1:-}" in
+1:-* | 1: | [!1]*:*) stop "usage: tools/install.sh PREFIX" ;;
+esac
 top=$(cd -- "$(dirname -- "${BASH_SOURCE[0]}")/.." && pwd)
 command -v cc > /dev/null 2>&1 || stop "cc, a C compiler, is missing"
 

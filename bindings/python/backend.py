@@ -56,7 +56,9 @@ def sources() -> list[str]:
     return found
 
 
-def build_wheel(wheel_directory, config_settings=None, metadata_directory=None):
+def build_wheel(
+    wheel_directory: str, config_settings: object = None, metadata_directory: object = None
+) -> str:
     files = {name: read(os.path.join(HERE, name)) for name in sources()}
     files[f"{NAME}/libhogzelt.so"] = read(find())
     files[f"{FOLDER}/METADATA"] = METADATA.encode()
@@ -71,7 +73,7 @@ def build_wheel(wheel_directory, config_settings=None, metadata_directory=None):
     return wheel
 
 
-def build_sdist(sdist_directory, config_settings=None):
+def build_sdist(sdist_directory: str, config_settings: object = None) -> str:
     """The sources alone; a wheel is built from them where HOGZELT_SO names a shared object."""
     top = f"{NAME}-{__version__}"
     with tarfile.open(os.path.join(sdist_directory, f"{top}.tar.gz"), "w:gz") as out:

@@ -13,7 +13,7 @@ from .calls import (
     OPAQUE, SHORTENING, Column, Pass, Refused, Sheet, can_change_coefficient_to, can_change_mask_to,
     columns, normalize, reduce_mask, run_pass, run_passes, shorten, value,
 )
-from .parse import parse
+from .parser import parse
 from .records import Fault, read_expression, read_form
 from .tokens import BadText
 

@@ -34,7 +34,7 @@ class Part(NamedTuple):
 
 
 def full_table(records: list[Record], width: int) -> Full:
-    keys = set()
+    keys: set[tuple[object, ...]] = set()
     tree_records = 0
     first_past = len(records) - 1
     for part in collected(records, width):
@@ -112,7 +112,7 @@ def constant_value(tree: tuple[Record, ...], width: int) -> int:
     return stack[-1]
 
 
-def sharing_key(tree: tuple[Record, ...]) -> tuple:
+def sharing_key(tree: tuple[Record, ...]) -> tuple[object, ...]:
     """Atoms with one key are one: the table over its variables where a tree has no literal, no shift
     and few variables, else the tree."""
     variables = sorted({record.argument for record in tree if record.kind == VARIABLE})

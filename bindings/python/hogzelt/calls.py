@@ -10,7 +10,7 @@ from enum import IntEnum
 from typing import Iterable, NamedTuple, Sequence
 
 from .library import load
-from .parse import parse
+from .parser import parse
 from .records import FORM_BYTES, HEAD, SUM, TERM, Form, read_form, split_form
 from .refusals import REFUSALS
 from .render import sum_text
@@ -80,7 +80,7 @@ class Engine:
         self.words = (c_uint64 * COLUMN_WORDS)()
         self.used, self.terms, self.flag = c_uint64(), c_uint64(), c_uint64()
         self.numbers = byref(self.used), byref(self.terms)
-        self.lists: dict[tuple[int, ...], ctypes.Array] = {}
+        self.lists: dict[tuple[int, ...], ctypes.Array[c_uint64]] = {}
 
     def write(self, name: str, data: bytes, *more: object) -> Sheet:
         writer = getattr(self.library, name)
@@ -120,11 +120,10 @@ THREADS = threading.local()
 
 
 def engine() -> Engine:
-    try:
-        return THREADS.engine
-    except AttributeError:
-        THREADS.engine = made = Engine()
-        return made
+    found: Engine | None = getattr(THREADS, "engine", None)
+    if found is None:
+        found = THREADS.engine = Engine()
+    return found
 
 
 def expression_of(expression: bytes | str, width: int | None) -> bytes:
@@ -199,14 +198,14 @@ def columns(sheet: Sheet | bytes) -> list[Column]:
 
 def reduce_mask(coefficient: int, mask: int, width: int) -> int:
     """The bits of a mask that count beside a coefficient."""
-    return engine().library.hogzelt_reduce_mask(coefficient, mask, width)
+    return int(engine().library.hogzelt_reduce_mask(coefficient, mask, width))
 
 
 def can_change_mask_to(coefficient: int, old: int, new: int, width: int) -> bool:
     """Whether one mask may stand for another beside a coefficient."""
-    return engine().library.hogzelt_can_change_mask_to(coefficient, old, new, width)
+    return bool(engine().library.hogzelt_can_change_mask_to(coefficient, old, new, width))
 
 
 def can_change_coefficient_to(old: int, new: int, mask: int, width: int) -> bool:
     """Whether one coefficient may stand for another beside a mask."""
-    return engine().library.hogzelt_can_change_coefficient_to(old, new, mask, width)
+    return bool(engine().library.hogzelt_can_change_coefficient_to(old, new, mask, width))

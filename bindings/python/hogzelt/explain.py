@@ -10,7 +10,7 @@ from typing import Callable, NamedTuple
 from .atoms import full_table
 from .facts import facts_of
 from .fold import fold
-from .parse import Parsed
+from .parser import Parsed
 from .records import (
     ADD, AND, ARITHMETIC, CASTS, KIND_NAMES, MOST_ATOMS, MOST_SHIFT, MOST_TREE_RECORDS, MUL, NEG,
     NOT, OR, SHR, XOR,

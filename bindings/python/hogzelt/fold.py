@@ -2,7 +2,7 @@
 
 from __future__ import annotations
 
-from .parse import Parsed
+from .parser import Parsed
 from .records import (
     ADD, AND, ARITY, CASTS, CONSTANT, LAYOUT, MUL, NEG, NOT, OR, SHR, VARIABLE, XOR,
 )

@@ -2,7 +2,7 @@
 
 from __future__ import annotations
 
-from typing import Iterable, Mapping
+from typing import Any, Iterable, Mapping, Tuple
 
 from .records import (
     ADD, AND, ARITY, CASTS, CONCAT, CONSTANT, KIND_NAMES, LAYOUT, MUL, NEG, NOT, OR, SHR, VARIABLE,
@@ -23,6 +23,9 @@ BARE_LEFT = {
 BARE_RIGHT = {MUL: TIGHT, ADD: TIGHT | {MUL}, AND: TIGHT, OR: TIGHT, XOR: TIGHT}
 BARE_INNER = {NOT: TIGHT, NEG: FACTOR}
 
+# the kind and text of an operand, and below a Neg the operand, which a minus sign takes over
+Piece = Tuple[int, str, Any]
+
 NO_NAMES: Mapping[int, str] = {}
 MOST_KEPT = 1 << 16
 # the texts of atoms as factors, by the bytes of their trees
@@ -36,7 +39,7 @@ def expression_text(records: list[Record], width: int, names: Mapping[int, str] 
 
 def piece(tree: bytes, width: int, names: Mapping[int, str]) -> tuple[int, str]:
     """The kind of the root and the text of a tree."""
-    stack: list[tuple] = []  # kind, text, and below a Neg the operand, which a minus sign takes over
+    stack: list[Piece] = []
     for kind, argument, _, _, literal in LAYOUT.iter_unpack(tree):
         if kind == CONSTANT:
             stack.append((kind, literal_text(literal, width), None))
@@ -52,7 +55,7 @@ def piece(tree: bytes, width: int, names: Mapping[int, str]) -> tuple[int, str]:
     return kind, text
 
 
-def binary_text(kind: int, left: tuple, right: tuple) -> str:
+def binary_text(kind: int, left: Piece, right: Piece) -> str:
     if kind == CONCAT:
         return f"concat({left[1]}, {right[1]})"
     first = left[1] if left[0] in BARE_LEFT[kind] else f"({left[1]})"
@@ -63,7 +66,7 @@ def binary_text(kind: int, left: tuple, right: tuple) -> str:
     return first + symbol + second
 
 
-def unary_text(kind: int, argument: int, inner: tuple) -> str:
+def unary_text(kind: int, argument: int, inner: Piece) -> str:
     if kind in CASTS:
         return f"{KIND_NAMES[kind].lower()}({argument}, {inner[1]})"
     bare = inner[0] in (BARE_LEFT[SHR] if kind == SHR else BARE_INNER[kind])

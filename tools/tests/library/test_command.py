@@ -2,7 +2,6 @@
 
 import os
 import stat
-import unittest
 
 from hogzelt import __version__
 from hogzelt.command.main import TABLE

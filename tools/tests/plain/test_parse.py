@@ -4,7 +4,7 @@ import ast
 import random
 import unittest
 
-from hogzelt.parse import notes, parse
+from hogzelt.parser import notes, parse
 from hogzelt.records import (
     ADD, AND, CONCAT, CONSTANT, MUL, NEG, NOT, OR, SEXT, SHR, TRUNC, VARIABLE, XOR, ZEXT, Record,
 )

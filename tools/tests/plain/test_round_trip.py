@@ -3,7 +3,7 @@
 import random
 import unittest
 
-from hogzelt.parse import parse
+from hogzelt.parser import parse
 from hogzelt.records import (
     ADD, AND, BINARY, CONSTANT, MUL, NEG, SHR, UNARY, VARIABLE, WITH_ARGUMENT, Expression, Fault,
     Record, expression_bytes, read_expression,

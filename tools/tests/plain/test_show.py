@@ -2,7 +2,7 @@
 
 import unittest
 
-from hogzelt.parse import parse
+from hogzelt.parser import parse
 from hogzelt.records import read_answer, read_expression, read_form
 from hogzelt.refusals import REFUSALS
 from hogzelt.render import bits_text, sum_text

@@ -9,7 +9,7 @@ from typing import Iterator, NamedTuple, Sequence
 
 from ..calls import Refused, Sheet, engine
 from ..fold import fold
-from ..parse import Parsed, parse
+from ..parser import Parsed, parse
 from ..tokens import BadText
 from .options import Options, Usage
 from .report import accepted, refused, sheet_text, variables_of

@@ -7,7 +7,7 @@ import sys
 
 from ..calls import columns as columns_of
 from ..calls import value as value_of
-from ..parse import notes
+from ..parser import notes
 from ..records import Fault, read_answer, read_expression, read_form
 from ..render import bits_text, expression_text, mask_text, signed
 from ..show import counted, show_answer, show_columns, show_expression, show_form

@@ -65,7 +65,7 @@ def run(words: Sequence[str]) -> int:
     if "help" in options:
         return show_help(words[0])
     module = import_module(f".{command.module}", __package__)
-    return getattr(module, words[0])(options)
+    return int(getattr(module, words[0])(options))
 
 
 def show_help(command: str | None) -> int:

@@ -5,7 +5,7 @@ from __future__ import annotations
 from typing import Mapping, Sequence
 
 from ..calls import Sheet
-from ..parse import Parsed
+from ..parser import Parsed
 from ..records import VARIABLE, split_form
 from ..render import NO_NAMES, factor_text, sum_text
 from ..tokens import variable_text

@@ -10,7 +10,7 @@ from typing import NamedTuple
 from ..calls import Refused, Sheet, engine, is_form
 from ..explain import explain
 from ..fold import fold
-from ..parse import Parsed, parse
+from ..parser import Parsed, parse
 from ..records import Fault, read_expression, read_form
 from ..render import expression_text
 from ..tokens import BadText, line_and_column, located

@@ -7,7 +7,7 @@ text a token stands is looked up only for a message."""
 
 from __future__ import annotations
 
-from typing import NamedTuple, NoReturn
+from typing import Any, NamedTuple, NoReturn, Tuple
 
 from .records import (
     ADD, AND, CASTS, CONCAT, CONSTANT, KIND_NAMES, LAYOUT, MOST_RECORDS, MOST_SHIFT, MUL, NEG, NOT,
@@ -59,10 +59,11 @@ RESERVED = frozenset(word for word in HINTS if word.isalpha())
 MOST_KEPT = 1 << 16
 
 
-# What waits is a tuple: precedence, kind, place. An open parenthesis or call has the precedence 0,
-# which keeps operators inside, the kind None or that of the cast, and two more: the cast's width, and
-# whether a comma has to come.
-BOTTOM = (-1, None, 0, 0, False)
+# What waits for its right operand: precedence, kind and place. An open parenthesis or call has the
+# precedence 0, which keeps operators inside, the kind None or that of the cast, and two more: the
+# cast's width, and whether a comma has to come.
+Waiting = Tuple[Any, ...]
+BOTTOM: Waiting = (-1, None, 0, 0, False)
 
 
 class Parsed(NamedTuple):
@@ -118,7 +119,7 @@ def parse(text: str, width: int) -> Parsed:
 
 def notes(parsed: Parsed) -> list[tuple[int, str]]:
     """For each sort of thing that is cut or refused its first place and how often it is met."""
-    found: dict[int, list] = {}
+    found: dict[int, list[Any]] = {}
     width = parsed.width
     for i, record in enumerate(parsed.expression.records):
         if record.kind == CONSTANT and record.literal >= 1 << width:
@@ -146,7 +147,7 @@ class Parser:
         self.records: list[bytes] = []
         self.places: list[int] = []
         self.sizes: list[int] = []  # those of the operands that have no parent yet
-        self.waiting: list[tuple] = [BOTTOM]
+        self.waiting: list[Waiting] = [BOTTOM]
         self.names: dict[int, str] = {}
         self.numbers: dict[str, int] = {}
 
@@ -195,7 +196,7 @@ class Parser:
                 if token == ",":
                     break
 
-    def ends(self, token: str, opening: tuple) -> bool:
+    def ends(self, token: str, opening: Waiting) -> bool:
         """Takes the end of an operand in an opening: its parenthesis, or the comma that it waits for.
         False where something else comes."""
         if opening is BOTTOM or token != ("," if opening[4] else ")"):
@@ -303,7 +304,7 @@ class Parser:
                 hint = "* + - bind tighter than a shift: write (x >> n) in parentheses"
             raise BadText(self.place(at + 1), f"expected a shift count, a literal from 0 to {most}",
                           hint)
-        return literal
+        return int(literal)
 
     def open_call(self, at: int) -> int:
         """The part of a cast before its operand: zext(16, or concat( . Gives the next place."""
@@ -324,7 +325,7 @@ class Parser:
         if self.tokens[at] != symbol:
             self.wrong(at, f'"{symbol}"')
 
-    def close_call(self, opening: tuple) -> None:
+    def close_call(self, opening: Waiting) -> None:
         _, kind, at, argument, _ = opening
         if kind == CONCAT:
             right = self.sizes.pop()
