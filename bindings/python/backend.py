@@ -1,7 +1,7 @@
 """The build backend that pip calls (PEP 517): a wheel of the package with the shared object in it.
 
-The shared object is the one that the package would load: that of HOGZELT_SO, or that of the checkout,
-which is made first where it is missing."""
+The shared object is the one that the package would load: that of HOGZELT_SO, or that of the
+checkout, which is made first where it is missing."""
 
 from __future__ import annotations
 

@@ -5,8 +5,8 @@
     >>> str(sheet), sheet.par
     ('15 + 1*x - 2*(x & 15)', 2)
 
-The functions are those of the C library (include/hogzelt.h), loaded as a shared object. A refusal is
-the exception Refused; a text that is no expression is BadText."""
+The functions are those of the C library (include/hogzelt.h), loaded as a shared object. A refusal
+is the exception Refused; a text that is no expression is BadText."""
 
 from .build import NoLibrary
 from .calls import (

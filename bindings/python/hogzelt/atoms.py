@@ -83,8 +83,8 @@ def collected(records: list[Record], width: int) -> Iterator[Part]:
 
 
 def masked_part(part: Part, left: Part, right: Part, width: int) -> Part:
-    """What is left under the mask of x & c, x | c or x ^ c, where x has a variable and c has none; an
-    And stays as it is, but for ~x & c."""
+    """What is left under the mask of x & c, x | c or x ^ c, where x has a variable and c has none;
+    an And stays as it is, but for ~x & c."""
     kind = part.tree[-1].kind
     operand, mask = (left, right) if has_variable(left.tree) else (right, left)
     inner = operand.tree
@@ -113,8 +113,8 @@ def constant_value(tree: tuple[Record, ...], width: int) -> int:
 
 
 def sharing_key(tree: tuple[Record, ...]) -> tuple[object, ...]:
-    """Atoms with one key are one: the table over its variables where a tree has no literal, no shift
-    and few variables, else the tree."""
+    """Atoms with one key are one: the table over its variables where a tree has no literal, no
+    shift and few variables, else the tree."""
     variables = sorted({record.argument for record in tree if record.kind == VARIABLE})
     opaque = any(record.kind in (CONSTANT, SHR) for record in tree)
     if opaque or len(variables) > MOST_TABLE_VARIABLES:

@@ -4,8 +4,6 @@ writes the archive, `cc` makes a shared object of it."""
 from __future__ import annotations
 
 import os
-import shutil
-import subprocess
 import sys
 
 ARCHIVE = os.path.join("target", "staticlib", "libhogzelt.a")
@@ -51,9 +49,12 @@ def read_stamp(shared: str) -> str | None:
 
 
 def prove_archive(top: str) -> None:
+    import shutil  # these two are slow to load, and seldom needed
+    import subprocess
+
     if not shutil.which("rt"):
-        raise NoLibrary(f"{ARCHIVE} is missing, and so is rt, the Rattle toolchain, which builds it;"
-                        " HOGZELT_SO can name a shared object that is elsewhere")
+        raise NoLibrary(f"{ARCHIVE} is missing, and so is rt, the Rattle toolchain, which builds"
+                        " it; HOGZELT_SO can name a shared object that is elsewhere")
     say(f"{ARCHIVE} is missing; 'rt staticlib hogzelt' proves and builds it, which takes about ten"
         " minutes the first time and prints a line for each crate:")
     status = subprocess.run(["rt", "staticlib", "hogzelt"], cwd=top, stdout=sys.stderr).returncode
@@ -66,6 +67,9 @@ def prove_archive(top: str) -> None:
 def link(archive: str, shared: str) -> None:
     """Makes the shared object beside its place and then gives it its name, so that a process that
     looks for it finds a whole one."""
+    import shutil
+    import subprocess
+
     if not shutil.which("cc"):
         raise NoLibrary("cc, a C compiler, is missing; it makes a shared object of the archive")
     os.makedirs(os.path.dirname(shared), exist_ok=True)

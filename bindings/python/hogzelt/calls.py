@@ -1,5 +1,5 @@
-"""What the library does, on bytes and numbers of Python: normalising, the passes, values, columns and
-the mask functions."""
+"""What the library does, on bytes and numbers of Python: normalising, the passes, values, columns
+and the mask functions."""
 
 from __future__ import annotations
 
@@ -99,8 +99,8 @@ class Engine:
         return self.sheet(refusal)
 
     def shorten(self, expression: bytes, passes: tuple[int, ...]) -> tuple[int, Sheet]:
-        """The par of the normalised form, and the form after the passes, or the normalised one where
-        that has fewer terms."""
+        """The par of the normalised form, and the form after the passes, or the normalised one
+        where that has fewer terms."""
         refusal = self.library.hogzelt_normalize_to_semilinear(
             expression, len(expression), self.form, FORM_BYTES, *self.numbers
         )
@@ -162,9 +162,11 @@ def run_pass(number: int, sheet: Sheet | bytes) -> Sheet:
     return engine().write(WRITERS[Pass(number)], data)
 
 
-def value(data: bytes | str | Sheet, variables: Sequence[int] = (), width: int | None = None) -> int:
-    """The value of a tangle or a sheet, told apart by the last record; variable i has the number i of
-    the sequence, 0 beyond its end."""
+def value(
+    data: bytes | str | Sheet, variables: Sequence[int] = (), width: int | None = None
+) -> int:
+    """The value of a tangle or a sheet, told apart by the first byte, or of a text; variable i has
+    the number i of the sequence, 0 beyond its end."""
     given = data.data if isinstance(data, Sheet) else expression_of(data, width)
     name = "hogzelt_semilinear_value" if is_form(given) else "hogzelt_expr_value"
     words = (c_uint64 * len(variables))(*variables)
@@ -181,9 +183,9 @@ def is_form(data: bytes) -> bool:
 
 
 def columns(sheet: Sheet | bytes) -> list[Column]:
-    """The places in classes, at which all atoms have the same tables (document 01: hint columns). Bit
-    i of an atom's table is its bit when its j-th smallest variable has bit j of i; a table from
-    OPAQUE on says nothing."""
+    """The places in classes, at which all atoms have the same tables (document 01: hint columns).
+    Bit i of an atom's table is its bit when its j-th smallest variable has bit j of i; a table
+    from OPAQUE on says nothing."""
     data = sheet.data if isinstance(sheet, Sheet) else bytes(sheet)
     own, count = engine(), c_uint64()
     refusal = own.library.hogzelt_compute_partitions(

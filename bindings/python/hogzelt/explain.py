@@ -94,8 +94,8 @@ class Tree:
             elif kind == MUL:
                 left, right = facts.children
                 if self.facts[left].variable and self.facts[right].variable:
-                    return Reason(at, "* has a variable on both sides; one of them must be a number",
-                                  "")
+                    message = "* has a variable on both sides; one of them must be a number"
+                    return Reason(at, message, "")
                 factor, other = (right, left) if self.facts[left].variable else (left, right)
                 stack.append((other, coefficient * self.facts[factor].value))
             elif facts.arithmetic:
@@ -133,6 +133,7 @@ class Tree:
         if table.atoms > MOST_ATOMS:
             message = f"{table.atoms:,} atoms; a sheet has at most {MOST_ATOMS}"
         else:
-            message = (f"{table.atoms:,} atoms of {table.tree_records:,} records together; in a sheet"
-                       f" they have at most {MOST_TREE_RECORDS:,}")
-        return Reason(table.first_past, message, "here the limit is passed; shorten the sum in parts")
+            message = (f"{table.atoms:,} atoms of {table.tree_records:,} records together; in a"
+                       f" sheet they have at most {MOST_TREE_RECORDS:,}")
+        hint = "here the limit is passed; shorten the sum in parts"
+        return Reason(table.first_past, message, hint)

@@ -2,8 +2,8 @@
 
 C's precedence, tightest first: ~ and - before an operand, *, + and -, << and >>, &, ^, |. Operators
 of one row associate to the left. Operators wait on a stack and the records come out in the order of
-the file, so nesting has no limit but the count of records. Places are numbers of tokens; where in the
-text a token stands is looked up only for a message."""
+the file, so nesting has no limit but the count of records. Places are numbers of tokens; where in
+the text a token stands is looked up only for a message."""
 
 from __future__ import annotations
 
@@ -14,47 +14,54 @@ from .records import (
     OR, SEXT, SHR, TRUNC, VARIABLE, XOR, ZEXT, Expression, tree_records,
 )
 from .tokens import (
-    MOST_VARIABLES, TOKEN, BadText, BadWord, clip, line_and_column, literal_value, token_place,
-    variable_number, variable_text,
+    MOST_VARIABLES, NAME, TOKEN, BadText, BadWord, clip, line_and_column, literal_value,
+    token_place, variable_number, variable_text,
 )
 
-# what waits for its right operand beside the kinds: x - y is Add of x and Neg of y, x << n is x * 2^n
+# two more that wait for a right operand: x - y is Add of x and Neg of y, x << n is x * 2^n
 SUBTRACT, SHL = 100, 101
 # symbol: precedence and what waits
 INFIX = {
     "*": (6, MUL), "+": (5, ADD), "-": (5, SUBTRACT), "<<": (4, SHL), ">>": (4, SHR),
     "&": (3, AND), "^": (2, XOR), "|": (1, OR),
 }
+ENDS = (1, None)  # any other token behind an operand
 PREFIX = {"~": (7, NOT), "-": (7, NEG)}
 PLAIN = frozenset((ADD, MUL, AND, OR, XOR))
 CASTS_BY_NAME = {"zext": ZEXT, "sext": SEXT, "trunc": TRUNC, "concat": CONCAT}
 
 OPERAND = 'a literal, a variable, "~", "-" or "("'
 OPERATOR = "an operator (* + - << >> & ^ |)"
-NO_LOGIC = "there is no logical {}; bit by bit it is {}"
+# words that are no names of variables
+RESERVED = {"and": "&", "or": "|", "xor": "^", "not": "~"}
+# by token, in small letters
 HINTS = {
-    "&&": NO_LOGIC.format("and", "&"),
-    "||": NO_LOGIC.format("or", "|"),
-    "!": NO_LOGIC.format("not", "~"),
-    "and": "and is written &",
-    "or": "or is written |",
-    "xor": "xor is written ^",
-    "not": "not is written ~",
+    **{word: f"{word} is written {symbol}" for word, symbol in RESERVED.items()},
+    **dict.fromkeys(("<", ">", "<=", ">=", "==", "!="), "there are no comparisons"),
+    "&&": "there is no logical and; bit by bit it is &",
+    "||": "there is no logical or; bit by bit it is |",
+    "!": "there is no logical not; bit by bit it is ~",
     "**": "there are no powers; a product is written *",
     "%": "there is no remainder; of a power of two it is a mask: x % 8 is x & 7",
+    "mod": "there is no remainder; of a power of two it is a mask: x mod 8 is x & 7",
     "/": "there is no division; by a power of two it is a shift: x / 8 is x >> 3",
-    ">": "there are no comparisons; a shift is written >>",
-    "<": "there are no comparisons; a shift is written <<",
+    "//": "neither a division nor a comment is read here",
+    "div": "there is no division; by a power of two it is a shift: x div 8 is x >> 3",
+    ">>>": "the shift that brings in zeros is written >>",
+    "shl": "the shift is written <<",
+    "shr": "the shift is written >>",
+    "+": "a sign + is left out",
     "=": "an expression has no equals sign",
+    ";": "an expression has no ; at its end",
+    "#": "a comment has a line of its own, in a file with one expression a line",
     "\u00d7": "a product is written *",
     "\u00b7": "a product is written *",
     "\u2212": "minus is written -",
     "\u00ac": "not is written ~",
+    "\u2227": "and is written &",
+    "\u2228": "or is written |",
     "\u2295": "xor is written ^",
 }
-HINTS.update(dict.fromkeys(("==", "!=", "<=", ">="), "there are no comparisons"))
-# words that are no names of variables
-RESERVED = frozenset(word for word in HINTS if word.isalpha())
 
 MOST_KEPT = 1 << 16
 
@@ -113,7 +120,8 @@ def parse(text: str, width: int) -> Parsed:
     count = len(parser.records)
     if count > MOST_RECORDS:
         at = token_place(text, parser.places[MOST_RECORDS])
-        raise BadText(at, f"the text makes {count:,} records; a tangle has {MOST_RECORDS:,} at most")
+        message = f"the text makes {count:,} records; a tangle has {MOST_RECORDS:,} at most"
+        raise BadText(at, message)
     return Parsed(text, width, parser.records, parser.places, parser.names)
 
 
@@ -154,6 +162,7 @@ class Parser:
     def run(self) -> None:
         tokens, waiting, leaves = self.tokens, self.waiting, LEAVES[self.width]
         records, places, sizes = self.records, self.places, self.sizes
+        nodes = NODES[self.width]
         at = 0
         while True:
             token = tokens[at]
@@ -174,31 +183,56 @@ class Parser:
             records.append(leaf)
             places.append(at)
             sizes.append(1)
-            at += 1
             while True:
-                token = tokens[at]
-                infix = INFIX.get(token)
-                if infix is not None:
-                    precedence, kind = infix
-                    if waiting[-1][0] >= precedence:
-                        self.reduce(precedence)
-                    waiting.append((precedence, kind, at))
-                    at += 1
-                    break
-                if waiting[-1][0] > 0:
-                    self.reduce(1)
-                opening = waiting[-1]
-                if token == "" and opening is BOTTOM:
-                    return
-                if not self.ends(token, opening):
-                    self.wrong_operator(at)
                 at += 1
+                token = tokens[at]
+                precedence, kind = INFIX.get(token, ENDS)
+                top = waiting[-1]
+                while top[0] >= precedence:  # these bind at least so tight, and have their operands
+                    waiting.pop()
+                    if top[1] in PLAIN:
+                        size = 1 + sizes.pop()
+                        sizes[-1] = size = size + sizes[-1]
+                        records.append(nodes[size << 4 | top[1]])
+                        places.append(top[2])
+                    else:
+                        self.take_operands(top[1], top[2])
+                    top = waiting[-1]
+                if kind is not None:
+                    waiting.append((precedence, kind, at))
+                    break
+                if token == "" and top is BOTTOM:
+                    return
+                if not self.ends(token, top):
+                    self.wrong_operator(at)
                 if token == ",":
                     break
+            at += 1
+
+    def take_operands(self, kind: int, at: int) -> None:
+        """Gives a prefix operator, a minus sign or a shift its operands, which stand last."""
+        sizes, nodes = self.sizes, NODES[self.width]
+        if kind == SHR:
+            self.shift_right(at)
+            return
+        if kind == SUBTRACT:
+            self.records.append(nodes[sizes[-1] + 1 << 4 | NEG])
+            self.places.append(at)
+            size = 2 + sizes.pop() + sizes[-1]
+            kind = ADD
+        elif kind == SHL:
+            self.shift_left(at)
+            size = 2 + sizes[-1]
+            kind = MUL
+        else:
+            size = 1 + sizes[-1]
+        sizes[-1] = size
+        self.records.append(nodes[size << 4 | kind])
+        self.places.append(at)
 
     def ends(self, token: str, opening: Waiting) -> bool:
-        """Takes the end of an operand in an opening: its parenthesis, or the comma that it waits for.
-        False where something else comes."""
+        """Takes the end of an operand in an opening: its parenthesis, or the comma that it waits
+        for. False where something else comes."""
         if opening is BOTTOM or token != ("," if opening[4] else ")"):
             return False
         if token == ",":
@@ -209,38 +243,11 @@ class Parser:
             self.close_call(opening)
         return True
 
-    def reduce(self, precedence: int) -> None:
-        """Gives their operands to the waiting operators that bind at least so tight."""
-        waiting, sizes, nodes = self.waiting, self.sizes, NODES[self.width]
-        while waiting[-1][0] >= precedence:
-            _, kind, at = waiting.pop()
-            if kind in PLAIN:
-                size = 1 + sizes.pop()
-                size += sizes[-1]
-            elif kind == SUBTRACT:
-                self.records.append(nodes[sizes[-1] + 1 << 4 | NEG])
-                self.places.append(at)
-                size = 2 + sizes.pop()
-                size += sizes[-1]
-                kind = ADD
-            elif kind == SHR:
-                self.shift_right(at)
-                continue
-            elif kind == SHL:
-                self.shift_left(at)
-                size = 2 + sizes[-1]
-                kind = MUL
-            else:
-                size = 1 + sizes[-1]
-            sizes[-1] = size
-            self.records.append(nodes[size << 4 | kind])
-            self.places.append(at)
-
     def leaf(self, token: str, at: int) -> bytes:
         """The record of a literal or a variable. Those that are the same in every text are kept."""
         if token[:1].isdigit():
             record = LAYOUT.pack(CONSTANT, 0, 1, self.width, self.literal(token, at))
-        elif (token[:1].isalpha() or token[:1] == "_") and token.isascii() and token not in RESERVED:
+        elif NAME.fullmatch(token) and token.lower() not in RESERVED:
             number = self.number(token, at)
             record = LAYOUT.pack(VARIABLE, number, 1, self.width, 0)
             if token != variable_text(number):
@@ -353,15 +360,20 @@ class Parser:
     def wrong(self, at: int, expected: str, operator: bool = False) -> NoReturn:
         token, place = self.tokens[at], self.place(at)
         found = f'"{clip(token)}"' if token else "the end of the text"
-        hint = HINTS.get(token, "")
-        begins = token[:1].isalnum() or token[:1] == "_" or token == "("
+        hint = HINTS.get(token.lower(), "")
         if not self.text.strip():
             hint = "the text is empty"
-        elif operator and begins and not hint:
-            line, _ = line_and_column(self.text, place)
-            before, _ = line_and_column(self.text, self.place(at - 1))
-            hint = "a product is written with *"
-            if line > before:
-                hint = (f"the text reads on from line {before}; for one expression a line:"
-                        " hogzelt shorten -f FILE")
+        elif operator and not hint and (NAME.match(token) or token[:1].isdigit() or token == "("):
+            hint = self.missing_operator(at)
         raise BadText(place, f"expected {expected}, found {found}", hint)
+
+    def missing_operator(self, at: int) -> str:
+        """A hint where an operand stands right behind another."""
+        line, _ = line_and_column(self.text, self.place(at))
+        before, _ = line_and_column(self.text, self.place(at - 1))
+        if line > before:
+            return (f"the text reads on from line {before}; for one expression a line:"
+                    " hogzelt shorten -f FILE")
+        if self.tokens[at] == "(" and NAME.fullmatch(self.tokens[at - 1]):
+            return "there are no functions; a product is written with *"
+        return "a product is written with *"

@@ -87,8 +87,8 @@ def record_bytes(kind: int, argument: int, size: int, width: int, word: int) -> 
 
 
 def expression_bytes(expression: Expression) -> bytes:
-    width = expression.width
-    return b"".join([LAYOUT.pack(k, a, size, width, word) for k, a, size, word in expression.records])
+    width, records = expression
+    return b"".join([LAYOUT.pack(k, a, size, width, word) for k, a, size, word in records])
 
 
 def tree_records(data: bytes) -> list[Record]:

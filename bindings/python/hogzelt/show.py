@@ -100,8 +100,9 @@ def show_columns(
              f" {len(classes)} {'class' if len(classes) == 1 else 'classes'}"]
     for number, column in enumerate(classes):
         lines.append("")
-        lines.append(f"class {number}  mask {mask_text(column.mask, width)}, places {width - 1} to 0:"
-                     f" {bits_text(column.mask, width).replace('0', '.')}")
+        places = bits_text(column.mask, width).replace("0", ".")
+        lines.append(f"class {number}  mask {mask_text(column.mask, width)},"
+                     f" places {width - 1} to 0: {places}")
         for atom, table in zip(form.atoms, column.tables):
             lines += ["  " + line for line in table_lines(atom, table, width, names)]
     return lines

@@ -4,15 +4,17 @@ from __future__ import annotations
 
 import re
 
-# words, operators of two characters (those that are only refused too), and single characters
-TOKEN = re.compile(r"[0-9][0-9A-Za-z_.']*|[A-Za-z_][0-9A-Za-z_]*|>>|<<|&&|\|\||\*\*|[=!<>]=|\S")
+# words, operators of several characters (those that are only refused too), single characters
+TOKEN = re.compile(
+    r"[0-9][0-9A-Za-z_.']*|[A-Za-z_][0-9A-Za-z_]*|>>>?|<<|&&|\|\||\*\*|//|[=!<>]=|\S"
+)
 NUMBER = re.compile(
     r"(0[xX][0-9A-Fa-f]+|0[bB][01]+|0|[1-9][0-9]*)"
     r"(?:[uU](?:ll|LL|[lL])?|(?:ll|LL|[lL])[uU]?|[iu](?:8|16|32|64))?"  # a suffix of C or Rust
 )
+NAME = re.compile(r"[A-Za-z_][0-9A-Za-z_]*")
 FIXED_NAME = re.compile(r"[a-z]|v(?:0|[1-9][0-9]{0,2})")
 MOST_VARIABLES = 256
-BASES = {"0x": (16, "hexadecimal"), "0b": (2, "binary")}
 
 
 class BadWord(Exception):
@@ -52,7 +54,7 @@ def located(text: str, at: int, message: str, name: str | None = None) -> str:
 
 
 def token_place(text: str, index: int) -> int:
-    """Where in the text the token number `index` starts; behind the last one, where the text ends."""
+    """Where in the text a token starts; behind the last one, where the text ends."""
     for number, match in enumerate(TOKEN.finditer(text)):
         if number == index:
             return match.start()
@@ -65,24 +67,23 @@ def literal_value(word: str) -> int:
     if not match:
         raise bad_literal(word)
     digits = match.group(1)
-    base = BASES.get(digits[:2].lower(), (10, ""))[0]
-    body = digits if base == 10 else digits[2:].lstrip("0") or "0"
-    if len(body) > 64 or int(body, base) >= 2**64:
+    value = 2**64 if len(digits) > 20 and digits.isdigit() else int(digits, 0)
+    if value >= 2**64:
         raise BadWord(f"expected a literal below 2^64, found {clip(word)}")
-    return int(body, base)
+    return value
 
 
 def bad_literal(word: str) -> BadWord:
     """What is wrong with a word that begins with a digit."""
-    name = BASES.get(word[:2].lower(), (10, "decimal"))[1]
+    name = {"0x": "hexadecimal", "0b": "binary"}.get(word[:2].lower(), "decimal")
     found = f'expected {name} digits, found "{clip(word)}"'
     bare = re.sub("[_']", "", word)
     product = re.fullmatch(r"([1-9][0-9]*)([A-Za-z_][0-9A-Za-z_]*)", word)
     power = re.fullmatch(r"([0-9]+)[eE]([0-9])", word)
     if re.fullmatch(r"0[0-9]+", word):
         shown = clip(word.lstrip("0") or "0")
-        return BadWord(f'expected {shown}, found "{clip(word)}": a decimal literal has no leading 0',
-                       "there are none in octal")
+        message = f'expected {shown}, found "{clip(word)}": a decimal literal has no leading 0'
+        return BadWord(message, "there are none in octal")
     if power:
         value = int(power.group(1)) * 10 ** int(power.group(2))
         return BadWord(found, f"numbers have no exponent: {value}")

@@ -21,8 +21,8 @@ ANSWERS = """\
 # two good ones, and three that are not
 15 + 1*x - 2*(x & 15)
 
-# line 4, column 3: refusal 8: & works bit by bit, and -2 below it is a negative; write 254 for -2, \
-or add --fold
+# line 4, column 3: refusal 8: & works bit by bit, and -2 below it is a negative; write 254 for \
+-2, or add --fold
 1*flags
 # line 6, column 4: expected a literal, a variable, "~", "-" or "(", found the end of the text
 # line 7, column 2: refusal 8: * has a variable on both sides; one of them must be a number
@@ -87,8 +87,8 @@ class Batch(Calls):
         self.assertIn("--steps is for one", self.call("shorten", "-w8", "--steps", "-f", path,
                                                       status=2)[1])
         self.assertIn("the width is missing", self.call("shorten", "-f", path, status=2)[1])
-        self.assertIn("--jobs takes a number", self.call("shorten", "-w8", "--jobs", "0", "-f", path,
-                                                         status=2)[1])
+        err = self.call("shorten", "-w8", "--jobs", "0", "-f", path, status=2)[1]
+        self.assertIn("--jobs takes a number", err)
 
     def test_example(self):
         path = os.path.join(ROOT, "examples", "daily.txt")

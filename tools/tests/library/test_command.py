@@ -211,6 +211,14 @@ class Value(Calls):
             out, _ = self.call("value", "-q", "-f", self.path("x", data), "a=5")
             self.assertEqual(out, "10\n")
 
+    def test_width_of_a_file(self):
+        for data in (bytes_of("a ^ 15"), WORKED[8, "a ^ 15"]):
+            path = self.path("x", data)
+            for command in ("value", "columns", "draw", "shorten"):
+                self.call(command, "-w8", "-f", path)
+                err = self.call(command, "-w9", "-f", path, status=2)[1]
+                self.assertIn("its width is 8; leave -w out", err)
+
     def test_usage(self):
         for words, part in (
             (("a", "a="), "NAME=NUMBER"),

@@ -38,7 +38,8 @@ class Functions(unittest.TestCase):
             return bad.number, None
 
     def test_stored_answers(self):
-        """Every entry of the vector file whose result slice has the right length (docs/VECTORS.md)."""
+        """Every entry of the vector file (docs/VECTORS.md) whose result slices have the right
+        length."""
         passes = {7: hogzelt.Pass.COMPACT, 9: hogzelt.Pass.REFINE, 10: hogzelt.Pass.FLATTEN,
                   12: hogzelt.Pass.RECOVER, 13: hogzelt.Pass.COALESCE}
         numbers = {3: lambda a, b, c, w: hogzelt.reduce_mask(a, b, w),

@@ -1,4 +1,5 @@
-"""hogzelt shorten: sums of the same value and no higher par, refusals with places and true hints."""
+"""hogzelt shorten: sums of the same value and no higher par, refusals with their places and hints
+that are true."""
 
 import json
 import random
@@ -40,7 +41,7 @@ class Sums(Calls):
                 self.assertEqual(value(answer, words, width), expected, answer)
 
     def test_every_list(self):
-        """Each list of passes keeps the value, and what is printed has no more terms than before."""
+        """Each list of passes keeps the value; what is printed has no more terms than before."""
         source = random.Random(131)
         for _ in range(200):
             width = source.choice((1, 8, 16, 64))
@@ -86,7 +87,8 @@ class Shown(Calls):
     def test_answer(self):
         out, err = self.call("shorten", "-w", "8", "(flags & 15) + (flags & 240) + x")
         self.assertEqual(out.split("\n"), [
-            "1*x + 1*flags", "par 2, normalised 3; width 8", "variables: flags is v0, x is v23", ""])
+            "1*x + 1*flags", "par 2, normalised 3; width 8", "variables: flags is v0, x is v23",
+            ""])
         self.assertEqual(err, "")
 
     def test_steps(self):
@@ -207,7 +209,7 @@ class Refusals(Calls):
         text = " + ".join([*names, "(v0 & v1)", "(v0 | v1)"])
         err = self.call("shorten", "-w8", text, status=1)[1]
         column = text.index("v0 & v1") + 4
-        self.assertIn(f"line 1, column {column}: refusal 9: 258 atoms; a sheet has at most 256", err)
+        self.assertIn(f"column {column}: refusal 9: 258 atoms; a sheet has at most 256", err)
         self.call("shorten", "-w8", " + ".join(names))
         chain = "a" + "".join(f" ^ {i}" for i in range(1, 56))
         err = self.call("shorten", "-w8", chain, status=1)[1]

@@ -131,7 +131,8 @@ class StoredAnswers(unittest.TestCase):
                 self.assertFalse(self.accepted(read_form, data))
             elif sort in (8, 14) and refusal not in (2, 32):
                 split = len(data) - value % 2**32
-                self.assertEqual(self.accepted(read_expression, data[:split]), refusal not in (1, 3, 4))
+                found = self.accepted(read_expression, data[:split])
+                self.assertEqual(found, refusal not in (1, 3, 4))
                 if refusal == 0:
                     self.assertTrue(self.accepted(read_form, data[split:]))
         self.assertTrue(seen[1] and seen[2] and all(seen[sort] for sort in range(6, 15)), seen)

@@ -96,7 +96,8 @@ class Operands(unittest.TestCase):
     def test_literals(self):
         for text, value in (
             ("0", 0), ("7", 7), ("18446744073709551615", 2**64 - 1), ("0x0", 0), ("0xfF", 255),
-            ("0XFF", 255), ("15u", 15), ("7UL", 7), ("0xffULL", 255), ("0b11ll", 3), ("200u8", 200), ("0b1010", 10), ("0B1", 1), ("0x0000000000000000000001", 1),
+            ("0XFF", 255), ("15u", 15), ("7UL", 7), ("0xffULL", 255), ("0b11ll", 3),
+            ("200u8", 200), ("0b1010", 10), ("0B1", 1), ("0x0000000000000000000001", 1),
             ("0xffffffffffffffff", 2**64 - 1), ("0b" + "1" * 64, 2**64 - 1),
         ):
             self.assertEqual(records(text), [constant(value)], text)
@@ -202,8 +203,17 @@ BAD = (
     ("1 << a", 1, 6, "a shift count"),
     ("a >> -1", 1, 6, "a shift count"),
     ("a >> 1 + 2", 1, 6, "write (x >> n) in parentheses"),
-    ("a > 3", 1, 3, "a shift is written >>"),
-    ("a < 3", 1, 3, "a shift is written <<"),
+    ("a > 3", 1, 3, "no comparisons"),
+    ("a < 3", 1, 3, "no comparisons"),
+    ("a >>> 3", 1, 3, "brings in zeros is written >>"),
+    ("a shl 3", 1, 3, "the shift is written <<"),
+    ("a mod 8", 1, 3, "x mod 8 is x & 7"),
+    ("a // 8", 1, 3, "neither a division nor a comment"),
+    ("a;", 1, 2, "no ; at its end"),
+    ("a # b", 1, 3, "a line of its own"),
+    ("+a", 1, 1, "a sign + is left out"),
+    ("f(a)", 1, 2, "there are no functions"),
+    ("x AND y", 1, 3, "and is written &"),
     ("a <= 3", 1, 3, "no comparisons"),
     ("a == b", 1, 3, "no comparisons"),
     ("a = b", 1, 3, "no equals sign"),

@@ -26,10 +26,10 @@ class Task(NamedTuple):
 
 
 def run_batch(given: Given, options: Options, passes: tuple[int, ...]) -> int:
-    """A line for each line of the file. What is refused is a comment line, so that the output can be
-    read again; blank lines and lines that begin with # stay as they are."""
+    """A line for each line of the file. What is refused is a comment line, so that the output can
+    be read again; blank lines and lines that begin with # stay as they are."""
     task = Task(width_of(given, options), passes, "fold" in options, "json" in options)
-    lines = given.text.splitlines()
+    lines = given.text.replace("\r\n", "\n").removesuffix("\n").split("\n")
     bad_lines = done = 0
     progress = Progress(len(lines))
     for printed, bad in results(lines, task, jobs_of(options)):
@@ -39,7 +39,8 @@ def run_batch(given: Given, options: Options, passes: tuple[int, ...]) -> int:
         progress.show(done)
     progress.end()
     if bad_lines:
-        sys.stderr.write(f"hogzelt: {given.name}: {bad_lines:,} of {len(lines):,} lines are refused\n")
+        count = f"{bad_lines:,} of {len(lines):,} lines"
+        sys.stderr.write(f"hogzelt: {given.name}: {count} are refused\n")
     return 1 if bad_lines else 0
 
 
@@ -60,8 +61,10 @@ def results(lines: Sequence[str], task: Task, jobs: int) -> Iterator[tuple[str, 
         yield from map(run_chunk, chunks)
         return
     from multiprocessing import get_context
+    from signal import SIG_IGN, SIGINT, signal
 
-    with get_context("fork").Pool(min(jobs, len(chunks))) as pool:
+    count = min(jobs, len(chunks))
+    with get_context("fork").Pool(count, initializer=signal, initargs=(SIGINT, SIG_IGN)) as pool:
         yield from pool.imap(run_chunk, chunks)
 
 

@@ -13,7 +13,7 @@ from .terminal import picture_lines, wants_colour
 def draw(options: Options) -> int:
     given = read_given(options, "draw")
     if given.sort == "sheet":
-        picture = picture_of(read_sheet(given))
+        picture = picture_of(read_sheet(given, options))
     else:
         parsed = read_parsed(given, options)
         picture = picture_of(run(given, parsed, options.passes(())), parsed.names)

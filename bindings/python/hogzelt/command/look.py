@@ -27,7 +27,7 @@ def value(options: Options) -> int:
     options.words = [word for word in options.words if not ASSIGNING.match(word)]
     given = read_given(options, "value")
     if given.sort == "sheet":
-        sheet = read_sheet(given)
+        sheet = read_sheet(given, options)
         data, width, numbers = sheet.data, sheet.form.width, {}
     else:
         parsed = read_parsed(given, options)
@@ -73,7 +73,7 @@ def columns(options: Options) -> int:
     """The classes of places of a sheet, or of the sheet that an expression gives."""
     given = read_given(options, "columns")
     if given.sort == "sheet":
-        sheet, names = read_sheet(given), {}
+        sheet, names = read_sheet(given, options), {}
     else:
         parsed = read_parsed(given, options)
         sheet, names = run(given, parsed, options.passes(())), parsed.names

@@ -16,7 +16,7 @@ from .source import Refusing
 
 
 class Command(NamedTuple):
-    """The module of a command, which is loaded where it is called, and the options that it knows."""
+    """The module of a command, loaded where it is called, and the options that it knows."""
 
     module: str
     valued: Sequence[str]

@@ -53,7 +53,10 @@ def shorten(options: Options) -> int:
             raise Usage("--steps is for one expression; a file has one on each line")
         return run_batch(given, options, passes)
     try:
-        result = of_sheet(given, passes) if given.sort == "sheet" else of_text(given, options, passes)
+        if given.sort == "sheet":
+            result = of_sheet(given, options, passes)
+        else:
+            result = of_text(given, options, passes)
     except Refusing as bad:
         if "json" not in options:
             raise
@@ -73,8 +76,8 @@ def of_text(given: Given, options: Options, passes: tuple[int, ...]) -> Shortene
     return Shortened(parsed.width, parsed.names, variables_of(parsed), parsed.text, steps)
 
 
-def of_sheet(given: Given, passes: tuple[int, ...]) -> Shortened:
-    sheet = read_sheet(given)
+def of_sheet(given: Given, options: Options, passes: tuple[int, ...]) -> Shortened:
+    sheet = read_sheet(given, options)
     form = sheet.form
     variables = {r.argument for atom in form.atoms for r in atom.records if r.kind == VARIABLE}
     steps = steps_from(Step("as given", sheet, 0), passes)

@@ -20,7 +20,7 @@ PAR_OUTPUT = re.compile(rb"(C [0-9a-f]{16}|R [0-9]+)\s")
 
 
 class Given(NamedTuple):
-    """`sort` is text, tangle, sheet or par; `name` is that of the file, None on the command line."""
+    """`sort` is text, tangle, sheet or par; `name` is that of the file, if it is one."""
 
     sort: str
     name: str | None
@@ -139,18 +139,24 @@ def parsed_tangle(given: Given, options: Options) -> Parsed:
         expression = read_expression(given.data)
     except Fault as bad:
         raise Fault(f"{given.label}{bad}") from None
-    if options.width() not in (None, expression.width):
-        raise Usage(f"{given.label}its width is {expression.width}; leave -w out")
+    check_width(given, options, expression.width)
     text = expression_text(expression.records, expression.width)
     return parsed_text(text, expression.width, "fold" in options)
 
 
-def read_sheet(given: Given) -> Sheet:
+def read_sheet(given: Given, options: Options) -> Sheet:
     """The sheet that a file holds."""
     try:
-        return Sheet(given.data, len(read_form(given.data).terms))
+        form = read_form(given.data)
     except Fault as bad:
         raise Fault(f"{given.label}{bad}") from None
+    check_width(given, options, form.width)
+    return Sheet(given.data, len(form.terms))
+
+
+def check_width(given: Given, options: Options, width: int) -> None:
+    if options.width() not in (None, width):
+        raise Usage(f"{given.label}its width is {width}; leave -w out")
 
 
 def run(given: Given, parsed: Parsed, passes: tuple[int, ...] = ()) -> Sheet:

@@ -39,7 +39,7 @@ class Canvas:
         self.y = EDGE + LINE
 
     def x(self, place: int) -> int:
-        """The left edge of a place; a gap stands between the eighths, a wider one behind the end."""
+        """The left edge of a place; gaps stand between the eighths and behind the end."""
         from_left = self.width + self.beyond - 1 - place
         eighths = (self.width - 1) // 8 - place // 8 if place < self.width else -1
         return EDGE + CELL * from_left + (GAP * (eighths + 2) if self.beyond else GAP * eighths)
@@ -102,6 +102,8 @@ def draw_legend(canvas: Canvas) -> None:
     canvas.y += LINE
     for number, (style, meaning) in enumerate(LEGEND):
         x = EDGE + LEGEND_STEP * number
-        canvas.parts.append(f'<rect x="{x}" y="{canvas.y}" width="10" height="10" class="{style}"/>')
-        canvas.parts.append(f'<text x="{x + 16}" y="{canvas.y + 9}" class="note">{meaning}</text>')
+        canvas.parts += [
+            f'<rect x="{x}" y="{canvas.y}" width="10" height="10" class="{style}"/>',
+            f'<text x="{x + 16}" y="{canvas.y + 9}" class="note">{meaning}</text>',
+        ]
     canvas.y += 10

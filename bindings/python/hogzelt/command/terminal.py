@@ -23,10 +23,11 @@ def picture_lines(picture: Picture, colour: bool) -> list[str]:
     lines += [gutter("place", i == 0) + row for i, row in enumerate(ruler(width))]
     for row in picture.rows:
         lines += ["", row.title]
-        lines.append(gutter("") + painted(row.cells(width), colour) + f"  {mask_text(row.mask, width)}")
+        cells = painted(row.cells(width), colour)
+        lines.append(f"{gutter('')}{cells}  {mask_text(row.mask, width)}")
         if row.shift:
-            lines.append(gutter(off_the_end(row)) + painted(row.landing(width), colour)
-                         + f"  {row.shift} up")
+            landing = painted(row.landing(width), colour)
+            lines.append(f"{gutter(off_the_end(row))}{landing}  {row.shift} up")
     if any(row.pushed for row in picture.rows):
         lines += ["", "< pushed off the end: " + "; ".join(
             f"{bin(row.pushed).count('1')} of {row.title}" for row in picture.rows if row.pushed)]
