@@ -8,7 +8,9 @@ import ast
 import operator
 import os
 import random
+import re
 import shutil
+import subprocess
 import sys
 import unittest
 
@@ -26,11 +28,17 @@ def find_package() -> None:
         sys.path.insert(0, PACKAGE)
 
 
-def need(test: unittest.TestCase, tool: str) -> None:
-    """Leaves the test out, and says so, where a tool is absent."""
-    if not shutil.which(tool):
-        sys.stderr.write(f"{tool} is absent: {test.id()} is left out\n")
-        test.skipTest(f"{tool} is absent")
+def need(test: unittest.TestCase, tool: str, oldest: tuple[int, int] | None = None) -> None:
+    """Leaves the test out, and says so, where a tool is absent or older than it must be."""
+    missing = "" if shutil.which(tool) else f"{tool} is absent"
+    if oldest and not missing:
+        said = subprocess.run([tool, "--version"], stdout=subprocess.PIPE, stderr=subprocess.PIPE)
+        version = re.search(rb"([0-9]+)\.([0-9]+)", said.stdout)
+        if not version or (int(version[1]), int(version[2])) < oldest:
+            missing = f"{tool} is older than {oldest[0]}.{oldest[1]}, or does not start"
+    if missing:
+        sys.stderr.write(f"{missing}: {test.id()} is left out\n")
+        test.skipTest(missing)
 
 
 find_package()

@@ -63,7 +63,7 @@ class Installed(Calls):
         self.assertEqual(self.sh("./use", LD_LIBRARY_PATH=f"{self.prefix}/lib"), ANSWER)
 
     def test_cmake(self):
-        need(self, "cmake")
+        need(self, "cmake", (3, 13))
         self.sh("cmake", "-S", os.path.join(ROOT, "examples", "cmake"), "-B", "build",
                 f"-DCMAKE_PREFIX_PATH={self.prefix}")
         self.sh("cmake", "--build", "build")

@@ -123,16 +123,23 @@ class Show(Calls):
                 out, err = self.call("show", *words, self.path("x", data))
                 self.assertEqual((out.split("\n")[0], err), (first, ""))
 
+    def test_text(self):
+        path = self.path("x", b"flags ^ 15\n")
+        self.assertEqual(self.call("show", "-w8", path)[0],
+                         "tangle: width 8, 3 records\nflags ^ 15\n"
+                         "  mask 0x0f, places 7 to 0: 00001111\n")
+        self.assertIn("the width is missing", self.call("show", path, status=2)[1])
+
     def test_damaged(self):
         for data, part in (
             (b"", "is empty"),
             (bytes_of("a ^ 15")[16:], "record 1 (byte 16): a Xor has two children"),
             (WORKED[8, "a ^ 15"][:-16], "no sum record"),
             (b"C 000000000000000f\nT 0 01\n", "line 2: expected T"),
-            (b"a ^ 15\n", "this is text"),
+            (b"a ^\n", "line 1, column 4: expected a literal"),
         ):
             path = self.path("x", data)
-            out, err = self.call("show", path, status=1)
+            out, err = self.call("show", "-w8", path, status=1)
             self.assertTrue(err.startswith(f"hogzelt: {path}: ") and part in err, err)
             self.assertEqual(out, "")
 

@@ -14,6 +14,7 @@ from importlib.util import find_spec
 import hogzelt
 from hogzelt import build
 from hogzelt.calls import COLUMN_WORDS, OPAQUE, WRITERS, engine
+from hogzelt.library import find
 from hogzelt.records import FORM_BYTES
 
 from calling import Calls
@@ -196,7 +197,8 @@ class Installing(Calls):
             self.skipTest("pip is absent")
         subprocess.run([sys.executable, "-m", "pip", "install", "--quiet", "--no-index",
                         "--disable-pip-version-check", "--target", self.path("site"), PACKAGE],
-                       env={**os.environ, "PIP_ROOT_USER_ACTION": "ignore"}, check=True)
+                       env={**os.environ, "HOGZELT_SO": find(), "PIP_ROOT_USER_ACTION": "ignore"},
+                       check=True)
         env = {**os.environ, "PYTHONPATH": self.path("site"), "PYTHONDONTWRITEBYTECODE": "1"}
         for words in ([sys.executable, "-m", "hogzelt"], [self.path("site/bin/hogzelt")]):
             done = subprocess.run([*words, "shorten", "-q", "-w8", "x ^ 15"], cwd=self.folder,

@@ -11,7 +11,7 @@ from samples import ROOT, need
 
 class Crate(unittest.TestCase):
     def test_crate(self):
-        need(self, "cargo")
+        need(self, "cargo", (1, 73))
         archive = os.environ.get("HOGZELT_LIB", os.path.join(ROOT, build.ARCHIVE))
         if not os.path.isfile(archive):
             self.skipTest(f"{build.ARCHIVE} is not built")

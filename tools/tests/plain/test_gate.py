@@ -1,4 +1,4 @@
-"""The order of .ci/run and its last line, with doubles of rt and of the tests."""
+"""The order of .ci/run and its last line, with doubles of rt, cc and the tests."""
 
 import os
 import shutil
@@ -36,6 +36,7 @@ class Gate(unittest.TestCase):
         os.makedirs(os.path.join(self.folder, ".ci"))
         shutil.copy(os.path.join(ROOT, ".ci", "run"), os.path.join(self.folder, ".ci"))
         self.write("bin/rt", RT)
+        self.write("bin/cc", "#!/bin/sh\ncat > /dev/null\n")
         self.write("tools/check_docs.sh", DOCS)
         for sort in ("plain", "library"):
             self.write(f"tools/tests/{sort}/__init__.py", "")
@@ -85,7 +86,11 @@ class Gate(unittest.TestCase):
             os.remove(os.path.join(self.folder, "calls"))
 
     def test_without_cc(self):
-        for name in ("bash", "env", "python3", "tee", "tail", "rm", "mktemp", "dirname", "sh"):
+        self.write("bin/cc", "#!/bin/sh\nexit 1\n")
+        self.assertEqual(self.run_gate(), (0, [CLEAN], ALL[:4]))
+        for name in ("cc", "../calls"):
+            os.remove(os.path.join(self.folder, "bin", name))
+        for name in ("bash", "env", "python3", "tee", "tail", "rm", "mktemp", "dirname", "sh", "cat"):
             found = sys.executable if name == "python3" else shutil.which(name)
             os.symlink(found, os.path.join(self.folder, "bin", name))
         self.assertEqual(self.run_gate(path="/nonexistent"), (0, [CLEAN], ALL[:4]))

@@ -5,7 +5,8 @@ from __future__ import annotations
 import json
 import os
 import sys
-from typing import Iterator, NamedTuple, Sequence
+from itertools import count
+from typing import Iterator, NamedTuple, Sequence, Tuple, Union
 
 from ..calls import Refused, Sheet, engine
 from ..fold import fold
@@ -16,6 +17,11 @@ from .report import accepted, refused, sheet_text, variables_of
 from .source import Given, Refusing, refusing, width_of
 
 CHUNK = 1000
+
+
+# what a line is read as, and what is found for it
+Read = Union[Parsed, Refusing, None]
+Found = Union[Tuple[int, Sheet], Refusing, None]
 
 
 class Task(NamedTuple):
@@ -30,18 +36,18 @@ def run_batch(given: Given, options: Options, passes: tuple[int, ...]) -> int:
     be read again; blank lines and lines that begin with # stay as they are."""
     task = Task(width_of(given, options), passes, "fold" in options, "json" in options)
     lines = given.text.replace("\r\n", "\n").removesuffix("\n").split("\n")
-    bad_lines = done = 0
+    refused_lines = done = 0
     progress = Progress(len(lines))
-    for printed, bad in results(lines, task, jobs_of(options)):
+    for printed, more in results(lines, task, jobs_of(options)):
         sys.stdout.write(printed)
-        bad_lines += bad
+        refused_lines += more
         done += CHUNK
         progress.show(done)
     progress.end()
-    if bad_lines:
-        count = f"{bad_lines:,} of {len(lines):,} lines"
-        sys.stderr.write(f"hogzelt: {given.name}: {count} are refused\n")
-    return 1 if bad_lines else 0
+    if refused_lines:
+        share = f"{refused_lines:,} of {len(lines):,} lines"
+        sys.stderr.write(f"hogzelt: {given.name}: {share} are refused\n")
+    return 1 if refused_lines else 0
 
 
 def jobs_of(options: Options) -> int:
@@ -63,59 +69,59 @@ def results(lines: Sequence[str], task: Task, jobs: int) -> Iterator[tuple[str, 
     from multiprocessing import get_context
     from signal import SIG_IGN, SIGINT, signal
 
-    count = min(jobs, len(chunks))
-    with get_context("fork").Pool(count, initializer=signal, initargs=(SIGINT, SIG_IGN)) as pool:
+    jobs = min(jobs, len(chunks))
+    with get_context("fork").Pool(jobs, initializer=signal, initargs=(SIGINT, SIG_IGN)) as pool:
         yield from pool.imap(run_chunk, chunks)
 
 
 def run_chunk(chunk: tuple[int, Sequence[str], Task]) -> tuple[str, int]:
+    """In three rounds, each over all lines: a call of the library clears some 100 KiB, and what the
+    other rounds work on would leave the processor's caches at each line."""
     first, lines, task = chunk
+    read = [read_line(text, task) for text in lines]
+    found = [shortened(one, task) if isinstance(one, Parsed) else one for one in read]
     line_text = json_line if task.as_json else plain_line
-    printed, bad_lines = [], 0
-    for number, text in enumerate(lines, first + 1):
-        if not text or text.isspace() or text.lstrip()[0] == "#":
-            if not task.as_json:
-                printed.append(text)
-            continue
-        try:
-            printed.append(line_text(number, text, task))
-        except Refusing as bad:
-            bad_lines += 1
-            printed.append(refused_line(number, bad, task))
-    return "".join([line + "\n" for line in printed]), bad_lines
+    printed = [line_text(*each) for each in zip(count(first + 1), lines, read, found)]
+    refused_lines = sum(isinstance(one, Refusing) for one in found)
+    return "".join([line + "\n" for line in printed if line is not None]), refused_lines
 
 
-def shortened(text: str, task: Task) -> tuple[Parsed, int, Sheet]:
-    """The expression, the par of its normalised sheet, and the shortened one."""
+def read_line(text: str, task: Task) -> Parsed | Refusing | None:
+    """The expression of a line; none where the line is blank or a comment."""
+    if not text or text.isspace() or text.lstrip()[0] == "#":
+        return None
     try:
         parsed = parse(text, task.width)
     except BadText as bad:
-        raise Refusing(0, text, bad.at, bad.message, bad.hint) from None
-    if task.folds:
-        parsed = fold(parsed)
+        return Refusing(0, task.width, text, bad.at, bad.message, bad.hint)
+    return fold(parsed) if task.folds else parsed
+
+
+def shortened(parsed: Parsed, task: Task) -> tuple[int, Sheet] | Refusing:
+    """The par of the normalised sheet, and the shortened one."""
     try:
-        before, sheet = engine().shorten(parsed.data, task.passes)
+        return engine().shorten(parsed.data, task.passes)
     except Refused as bad:
-        raise refusing(bad.number, parsed) from None
-    return parsed, before, sheet
+        return refusing(bad.number, parsed)
 
 
-def plain_line(number: int, text: str, task: Task) -> str:
-    parsed, _, sheet = shortened(text, task)
-    return sheet_text(sheet, parsed.names)
+def plain_line(number: int, text: str, read: Read, found: Found) -> str | None:
+    if isinstance(found, Refusing):
+        hint = f"; {found.hint}" if found.hint else ""
+        return f"# line {number}, column {found.place[1]}: {found.sentence}{hint}"
+    if found is None or not isinstance(read, Parsed):
+        return text
+    return sheet_text(found[1], read.names)
 
 
-def json_line(number: int, text: str, task: Task) -> str:
-    parsed, before, sheet = shortened(text, task)
-    found = accepted(text, parsed.names, variables_of(parsed), before, sheet)
-    return json.dumps({"line": number, **found})
-
-
-def refused_line(number: int, bad: Refusing, task: Task) -> str:
-    if task.as_json:
-        return json.dumps({"line": number, **refused(bad, task.width)})
-    hint = f"; {bad.hint}" if bad.hint else ""
-    return f"# line {number}, column {bad.place[1]}: {bad.sentence}{hint}"
+def json_line(number: int, text: str, read: Read, found: Found) -> str | None:
+    if isinstance(found, Refusing):
+        return json.dumps({"line": number, **refused(found)})
+    if found is None or not isinstance(read, Parsed):
+        return None
+    before, sheet = found
+    said = accepted(text, read.names, variables_of(read), before, sheet)
+    return json.dumps({"line": number, **said})
 
 
 class Progress:

@@ -82,7 +82,7 @@ def columns(options: Options) -> int:
 
 
 def show(options: Options) -> int:
-    """A tangle, a sheet or what par printed, as text."""
+    """A tangle, a sheet, a text or what par printed, for people."""
     words, named = options.words, options.get("file")
     if len(words) + (named is not None) > 1:
         raise Usage("one file at a time (hogzelt show --help)")
@@ -108,7 +108,8 @@ def shown(given: Given, options: Options) -> list[str]:
     if given.sort == "par":
         return show_answer(read_answer(data), options.width())
     if given.sort == "text":
-        raise Fault("this is text; hogzelt shorten, normalize and write read text")
+        parsed = read_parsed(given, options)
+        return show_expression(parsed.expression, parsed.names)
     expression = read_expression(data)
     if "text" in options:
         return [expression_text(expression.records, expression.width)]

@@ -46,10 +46,10 @@ def accepted(
     }
 
 
-def refused(bad: Refusing, width: int | None) -> dict[str, object]:
+def refused(bad: Refusing) -> dict[str, object]:
     """The object of an expression that is refused; the number is 0 where a text is none."""
     line, column = bad.place
     refusal = {"number": bad.number, "line": line, "column": column, "message": bad.message,
                "hint": bad.hint}
-    return {"width": width, "text": bad.text, "refusal": refusal, "sum": None, "constant": None,
+    return {"width": bad.width, "text": bad.text, "refusal": refusal, "sum": None, "constant": None,
             "terms": None, "par": None, "variables": None}

@@ -42,9 +42,12 @@ class Refusing(Exception):
     """An expression that is refused: the number, 0 for a text that is none, and its place. `name`
     is that of the file."""
 
-    def __init__(self, number: int, text: str, at: int, message: str, hint: str) -> None:
+    def __init__(
+        self, number: int, width: int, text: str, at: int, message: str, hint: str
+    ) -> None:
         super().__init__(message)
-        self.number, self.text, self.at, self.message, self.hint = number, text, at, message, hint
+        self.number, self.width, self.text, self.at = number, width, text, at
+        self.message, self.hint = message, hint
         self.name: str | None = None
 
     @property
@@ -112,7 +115,7 @@ def parsed_text(text: str, width: int, folds: bool) -> Parsed:
     try:
         parsed = parse(text, width)
     except BadText as bad:
-        raise Refusing(0, text, bad.at, bad.message, bad.hint) from None
+        raise Refusing(0, width, text, bad.at, bad.message, bad.hint) from None
     return fold(parsed) if folds else parsed
 
 
@@ -171,7 +174,8 @@ def run(given: Given, parsed: Parsed, passes: tuple[int, ...] = ()) -> Sheet:
 
 def refusing(number: int, parsed: Parsed) -> Refusing:
     reason = explain(number, parsed, is_accepted)
-    return Refusing(number, parsed.text, parsed.place(reason.record), reason.message, reason.hint)
+    at = parsed.place(reason.record)
+    return Refusing(number, parsed.width, parsed.text, at, reason.message, reason.hint)
 
 
 def is_accepted(expression: bytes) -> bool:

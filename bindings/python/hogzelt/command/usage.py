@@ -147,12 +147,12 @@ Examples:
     "show": """\
 usage: hogzelt show [-w WIDTH] [--text] [FILE]        FILE may be - for standard input
 
-Shows a tangle, a sheet (its used length) or what the program par printed. A damaged file is
-answered by the record and its fault. Masks, the constant and coefficients are shown in hexadecimal,
-the last two with their signed reading beside them.
+Shows a tangle, a sheet (its used length), a text as the tangle that it makes, or what the program
+par printed. A damaged file is answered by the record and its fault. Masks, the constant and
+coefficients are shown in hexadecimal, the last two with their signed reading beside them.
 
   --text              of a tangle only the text, which 'hogzelt write' makes the same bytes of
-  -w, --width WIDTH   for what par printed, which has no width: show the signed readings too
+  -w, --width WIDTH   for a text, and for what par printed, to show the signed readings too
 
 Examples:
   tools/hogzelt show examples/xor15.tangle
