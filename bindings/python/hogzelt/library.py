@@ -53,5 +53,5 @@ def load() -> ctypes.CDLL:
             function.argtypes = arguments
             function.restype = c_bool if name in TESTS else c_uint64
     except (OSError, AttributeError) as bad:
-        raise NoLibrary(f"{path} is not to be used: {bad}") from None
+        raise NoLibrary(f"{path} cannot be used: {bad}; HOGZELT_SO can name another") from None
     return library

@@ -65,7 +65,6 @@ HINTS = {
 
 MOST_KEPT = 1 << 16
 
-
 # What waits for its right operand: precedence, kind and place. An open parenthesis or call has the
 # precedence 0, which keeps operators inside, the kind None or that of the cast, and two more: the
 # cast's width, and whether a comma has to come.
@@ -147,6 +146,8 @@ def notes(parsed: Parsed) -> list[tuple[int, str]]:
 
 
 class Parser:
+    """A text on its way to records. Operators wait until what binds tighter has its operands."""
+
     def __init__(self, text: str, width: int) -> None:
         self.text = text
         self.tokens = TOKEN.findall(text)
@@ -160,6 +161,8 @@ class Parser:
         self.numbers: dict[str, int] = {}
 
     def run(self) -> None:
+        """An operand, with what opens before it, and then what comes behind it, by turns. In this
+        loop reading a batch spends its time: what is frequent stands in it, the rest is called."""
         tokens, waiting, leaves = self.tokens, self.waiting, LEAVES[self.width]
         records, places, sizes = self.records, self.places, self.sizes
         nodes = NODES[self.width]
@@ -298,7 +301,7 @@ class Parser:
 
     def shift_left(self, at: int) -> None:
         """The count becomes the factor."""
-        factor = (1 << self.take_count(at, 63)) % 2**64
+        factor = 1 << self.take_count(at, MOST_SHIFT)
         self.records[-1] = LAYOUT.pack(CONSTANT, 0, 1, self.width, factor)
 
     def take_count(self, at: int, most: int) -> int:

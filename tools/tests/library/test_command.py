@@ -212,6 +212,8 @@ class Value(Calls):
     def test_shown(self):
         out, _ = self.call("value", "-w", "8", "a ^ b ^ 15", "a=0xf0")
         self.assertEqual(out, "255  0xff  11111111  signed -1\n0 where nothing is given: b\n")
+        out, _ = self.call("value", "-w", "8", "x + y", "v23=1", "y=2")
+        self.assertEqual(out, "3  0x03  00000011  signed 3\n")
 
     def test_files(self):
         for data in (bytes_of("a ^ 15"), WORKED[8, "a ^ 15"]):
@@ -234,7 +236,8 @@ class Value(Calls):
         ):
             self.assertIn(part, self.call("value", "-w8", *words, status=2)[1])
         self.assertIn("no comparisons", self.call("value", "-w8", "a == b", status=1)[1])
-        self.assertIn("refusal 6", self.call("value", "-w8", "a >> 64", status=1)[1])
+        err = self.call("value", "-w8", "a >> 64", status=1)[1]
+        self.assertIn("line 1, column 3: refusal 6: a shift by 64", err)
 
 
 class Columns(Calls):

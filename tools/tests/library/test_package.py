@@ -184,7 +184,7 @@ class Building(Calls):
     def test_named(self):
         out, err = self.run_tool("shorten", "-w8", "a", status=2, HOGZELT_SO=self.path("none.so"))
         self.assertEqual(out, b"")
-        self.assertIn("none.so is not to be used", err)
+        self.assertIn("none.so cannot be used", err)
         path = self.path("empty.so", b"")
         self.run_tool("shorten", "-w8", "a", status=2, HOGZELT_SO=path)
 

@@ -90,7 +90,7 @@ class Gate(unittest.TestCase):
         self.assertEqual(self.run_gate(), (0, [CLEAN], ALL[:4]))
         for name in ("cc", "../calls"):
             os.remove(os.path.join(self.folder, "bin", name))
-        for name in ("bash", "env", "python3", "tee", "tail", "rm", "mktemp", "dirname", "sh", "cat"):
+        for name in "bash cat dirname env mktemp python3 rm sh tail tee".split():
             found = sys.executable if name == "python3" else shutil.which(name)
             os.symlink(found, os.path.join(self.folder, "bin", name))
         self.assertEqual(self.run_gate(path="/nonexistent"), (0, [CLEAN], ALL[:4]))

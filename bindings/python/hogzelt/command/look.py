@@ -5,17 +5,20 @@ from __future__ import annotations
 import re
 import sys
 
+from ..calls import Refused
 from ..calls import columns as columns_of
 from ..calls import value as value_of
 from ..parser import notes
 from ..records import Fault, read_answer, read_expression, read_form
 from ..render import bits_text, expression_text, mask_text, signed
 from ..show import counted, show_answer, show_columns, show_expression, show_form
-from ..tokens import BadWord, literal_value, located, variable_number
+from ..tokens import MOST_VARIABLES, BadWord, literal_value, located, variable_number
 from .files import write_whole
 from .options import Options, Usage
 from .report import name_of, variables_of
-from .source import Given, read_bytes, read_given, read_parsed, read_sheet, run, sort_of
+from .source import (
+    Given, read_bytes, read_given, read_parsed, read_sheet, refusing, run, sort_of,
+)
 
 ASSIGNING = re.compile(r"\s*[A-Za-z_][0-9A-Za-z_]*\s*=(?!=)")
 ASSIGNMENT = re.compile(r"\s*([A-Za-z_][0-9A-Za-z_]*)\s*=\s*(-?)\s*(\S+)\s*")
@@ -23,7 +26,7 @@ ASSIGNMENT = re.compile(r"\s*([A-Za-z_][0-9A-Za-z_]*)\s*=\s*(-?)\s*(\S+)\s*")
 
 def value(options: Options) -> int:
     """The value of a text, a tangle or a sheet under an assignment."""
-    assigned = [word for word in options.words if ASSIGNING.match(word)]
+    assignments = [word for word in options.words if ASSIGNING.match(word)]
     options.words = [word for word in options.words if not ASSIGNING.match(word)]
     given = read_given(options, "value")
     if given.sort == "sheet":
@@ -33,27 +36,27 @@ def value(options: Options) -> int:
         parsed = read_parsed(given, options)
         data, width = parsed.data, parsed.width
         numbers = {name_of(i, parsed.names): i for i in variables_of(parsed)}
-    words = [0] * 256
-    for word in assigned:
-        number, amount = read_assignment(word, numbers)
+    words = [0] * MOST_VARIABLES
+    assigned = dict(read_assignment(word, numbers) for word in assignments)
+    for number, amount in assigned.items():
         words[number] = amount % (1 << width)
-    found = value_of(data, words)
+    try:
+        found = value_of(data, words)
+    except Refused as bad:  # a sheet that is read is never refused
+        raise refusing(bad.number, parsed) from None
     if "quiet" in options:
         print(found)
-    else:
-        unset = [name for name, i in numbers.items() if not any(is_of(w, name) for w in assigned)]
-        print(f"{found}  {mask_text(found, width)}  {bits_text(found, width)}"
-              f"  signed {signed(found, width)}")
-        if unset:
-            print(f"0 where nothing is given: {', '.join(unset)}")
+        return 0
+    print(f"{found}  {mask_text(found, width)}  {bits_text(found, width)}"
+          f"  signed {signed(found, width)}")
+    unset = [name for name, number in numbers.items() if number not in assigned]
+    if unset:
+        print(f"0 where nothing is given: {', '.join(unset)}")
     return 0
 
 
-def is_of(word: str, name: str) -> bool:
-    return word.partition("=")[0].strip() == name
-
-
 def read_assignment(word: str, numbers: dict[str, int]) -> tuple[int, int]:
+    """The number of a variable and what it is given; `numbers` has the names of the text."""
     match = ASSIGNMENT.fullmatch(word)
     if not match:
         raise Usage(f"an assignment is NAME=NUMBER, not {word!r}")
