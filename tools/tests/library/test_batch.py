@@ -56,7 +56,7 @@ class Batch(Calls):
         self.assertEqual(found[0]["terms"], [{"coefficient": 1, "atom": "x"},
                                              {"coefficient": 254, "atom": "(x & 15)"}])
         self.assertEqual(found[1]["refusal"], {
-            "number": 8, "line": 1, "column": 3, "hint": "write 254 for -2, or add --fold",
+            "number": 8, "line": 4, "column": 3, "hint": "write 254 for -2, or add --fold",
             "message": "& works bit by bit, and -2 below it is a negative"})
         self.assertEqual(found[2]["par"], {"before": 2, "after": 1})
         self.assertEqual(found[2]["variables"], {"flags": 0})
@@ -81,6 +81,12 @@ class Batch(Calls):
             assignment = {name: source.getrandbits(16) for name in "abcd"}
             self.assertEqual(Evaluator(line, 16).at(assignment),
                              Evaluator(text, 16).at(assignment), text)
+
+    def test_few_lines(self):
+        for data, shown in (
+            (b"", ""), (b"\n", "\n"), (b"a", "1*a\n"), (b"a\r\n\r\nb\r\n", "1*a\n\n1*b\n"),
+        ):
+            self.assertEqual(self.call("shorten", "-w8", "-f", self.path("x", data))[0], shown)
 
     def test_usage(self):
         path = self.path("lines", LINES)

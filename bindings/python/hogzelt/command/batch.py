@@ -18,13 +18,14 @@ from .source import Given, Refusing, refusing, width_of
 
 CHUNK = 1000
 
-
 # what a line is read as, and what is found for it
 Read = Union[Parsed, Refusing, None]
 Found = Union[Tuple[int, Sheet], Refusing, None]
 
 
 class Task(NamedTuple):
+    """What is done with each line."""
+
     width: int
     passes: tuple[int, ...]
     folds: bool
@@ -35,7 +36,8 @@ def run_batch(given: Given, options: Options, passes: tuple[int, ...]) -> int:
     """A line for each line of the file. What is refused is a comment line, so that the output can
     be read again; blank lines and lines that begin with # stay as they are."""
     task = Task(width_of(given, options), passes, "fold" in options, "json" in options)
-    lines = given.text.replace("\r\n", "\n").removesuffix("\n").split("\n")
+    text = given.text.replace("\r\n", "\n")
+    lines = text.removesuffix("\n").split("\n") if text else []
     refused_lines = done = 0
     progress = Progress(len(lines))
     for printed, more in results(lines, task, jobs_of(options)):
@@ -116,7 +118,7 @@ def plain_line(number: int, text: str, read: Read, found: Found) -> str | None:
 
 def json_line(number: int, text: str, read: Read, found: Found) -> str | None:
     if isinstance(found, Refusing):
-        return json.dumps({"line": number, **refused(found)})
+        return json.dumps({"line": number, **refused(found, number)})
     if found is None or not isinstance(read, Parsed):
         return None
     before, sheet = found

@@ -46,10 +46,10 @@ def accepted(
     }
 
 
-def refused(bad: Refusing) -> dict[str, object]:
-    """The object of an expression that is refused; the number is 0 where a text is none."""
-    line, column = bad.place
-    refusal = {"number": bad.number, "line": line, "column": column, "message": bad.message,
+def refused(bad: Refusing, line: int) -> dict[str, object]:
+    """The object of an expression that is refused, on this line of its source; the number is 0
+    where a text is none."""
+    refusal = {"number": bad.number, "line": line, "column": bad.place[1], "message": bad.message,
                "hint": bad.hint}
     return {"width": bad.width, "text": bad.text, "refusal": refusal, "sum": None, "constant": None,
             "terms": None, "par": None, "variables": None}

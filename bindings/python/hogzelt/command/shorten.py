@@ -60,7 +60,7 @@ def shorten(options: Options) -> int:
     except Refusing as bad:
         if "json" not in options:
             raise
-        print(json.dumps(refused(bad)))
+        print(json.dumps(refused(bad, bad.place[0])))
         return 1
     if "json" in options:
         first, last = result.first, result.last
