@@ -120,12 +120,20 @@ class Tree:
         kind, facts = self.records[at].kind, self.facts[at]
         if not self.facts[child].variable:
             return self.literal_hint(child)
-        if kind == NOT and is_top:
+        if not is_top:
+            return ""
+        full = (1 << self.width) - 1
+        masks = [self.facts[c].value for c in facts.children if not self.facts[c].variable]
+        bits = [self.facts[c].bits for c in facts.children]
+        every = literal_text(full, self.width)
+        if kind == NOT:
             return "~x is -x - 1, which may stand over arithmetic"
-        if kind in (OR, XOR) and is_top:
-            left, right = (self.facts[c].bits for c in facts.children)
-            if left & right == 0:
-                return f"the two sides share no bit, so + gives the same value as {OPERATORS[kind]}"
+        if kind == XOR and masks == [full]:
+            return f"x ^ {every} is -x - 1 at this width, which may stand over arithmetic"
+        if kind == AND and masks == [full]:
+            return f"& {every} keeps every bit at this width: leave it out"
+        if kind in (OR, XOR) and bits[0] & bits[1] == 0:
+            return f"the two sides share no bit, so + gives the same value as {OPERATORS[kind]}"
         return ""
 
     def full(self) -> Reason:

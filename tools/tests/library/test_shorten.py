@@ -157,6 +157,8 @@ REFUSED = (
     ("a + b*(c ^ 1)*d", 8, 1, 14, "a variable on both sides", ""),
     ("3*x +\n (y & (x + 1))", 8, 2, 5, "& works bit by bit, and x + 1 below it is a sum", ""),
     ("~(x + y)", 8, 1, 1, "~ works bit by bit", "~x is -x - 1"),
+    ("(x + y) & 0xff", 8, 1, 9, "& works bit by bit", "& 255 keeps every bit at this width"),
+    ("255 ^ (x + y)", 8, 1, 5, "^ works bit by bit", "x ^ 255 is -x - 1 at this width"),
     ("x & ~(y + 1)", 8, 1, 5, "~ works bit by bit", ""),
     ("(x + y) >> 1", 8, 1, 9, ">> works bit by bit", ""),
     ("(x & -2)*y", 8, 1, 9, "a variable on both sides", ""),
@@ -196,6 +198,7 @@ class Refusals(Calls):
     def test_rewriting_hints_are_true(self):
         source = random.Random(133)
         for old, new in (("(x<<1)|1", "(x<<1)+1"), ("~(x + y)", "-(x + y) - 1"),
+                         ("(x + y) & 0xff", "x + y"), ("255 ^ (x + y)", "-(x + y) - 1"),
                          ("((x & 3)*4) ^ (y & 3)", "((x & 3)*4) + (y & 3)")):
             err = self.call("shorten", "-w8", old, status=1)[1]
             self.assertIn("hint: ", err)
