@@ -5,6 +5,7 @@ import json
 import random
 
 from hogzelt import Pass, Refused, normalize, parse, run_passes, shorten, value
+from hogzelt.atoms import full_table
 from hogzelt.fold import fold
 
 from calling import Calls
@@ -90,6 +91,12 @@ class Shown(Calls):
             "1*x + 1*flags", "par 2, normalised 3; width 8", "variables: flags is v0, x is v23",
             ""])
         self.assertEqual(err, "")
+
+    def test_plainer(self):
+        out, _ = self.call("shorten", "-w8", "(x^y)+2*(x&y)")
+        self.assertEqual(out.split("\n"), [
+            "1*(x ^ y) + 2*(x & y)", "par 2, normalised 2; width 8",
+            "variables: x is v23, y is v24", "by truth tables, not proved: 1*x + 1*y", ""])
 
     def test_steps(self):
         out, _ = self.call("shorten", "-w8", "--steps", "--passes", "refine,compact",
@@ -218,6 +225,17 @@ class Refusals(Calls):
         err = self.call("shorten", "-w8", chain, status=1)[1]
         self.assertIn("56 atoms of 3,136 records together", err)
         self.call("shorten", "-w8", chain.rpartition(" ^ ")[0])
+
+    def test_counted_atoms(self):
+        """The atoms that refusal 9 counts are those that normalising makes."""
+        source = random.Random(135)
+        for _ in range(500):
+            width = source.choice((1, 2, 8, 64))
+            text = random_text(source, width)
+            table = full_table(parse(text, width).expression.records, width)
+            atoms = normalize(text, width).form.atoms
+            self.assertEqual((table.atoms, table.tree_records),
+                             (len(atoms), sum(len(atom.records) for atom in atoms)), text)
 
     def test_any_text(self):
         """Any text gives a sum, or is refused with a place in it."""

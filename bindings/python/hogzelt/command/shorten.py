@@ -8,6 +8,7 @@ from typing import Mapping, NamedTuple
 from ..calls import SHORTENING, Pass, Refused, Sheet, run_pass
 from ..records import VARIABLE
 from ..render import NO_NAMES
+from ..tables import plainer
 from .batch import run_batch
 from .options import PASSES, Options, Usage
 from .report import accepted, names_text, refused, sheet_text, variables_of
@@ -106,6 +107,9 @@ def shown(result: Shortened, with_steps: bool, quiet: bool) -> list[str]:
     lines.append(f"par {result.last.par}, {start} {result.first.par}; width {result.width}")
     if result.variables:
         lines.append("variables: " + names_text(result.variables, result.names))
+    other = plainer(result.last, result.names)
+    if other is not None:
+        lines.append(f"by truth tables, not proved: {other}")
     return lines
 
 

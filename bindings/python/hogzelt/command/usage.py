@@ -54,7 +54,9 @@ usage: hogzelt shorten -w WIDTH [OPTIONS] TEXT
 
 Normalises, runs a list of passes and prints the sum on one line, which can be read again, with its
 par (the count of its terms) and the numbers of the variables. Where the passes would leave more
-terms than normalising, the normalised sum is printed.
+terms than normalising, the normalised sum is printed. What is printed so far has the value that the
+library is proved to keep; where the truth tables of up to three variables give a plainer sum, as
+x + y for (x ^ y) + 2*(x & y), a last line has that, which is tested and not proved.
 
 A text file has one expression a line; blank lines and lines that begin with # stay as they are. For
 each line there is one, in order; what is refused becomes a line that begins with #.
