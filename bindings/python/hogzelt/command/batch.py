@@ -8,7 +8,7 @@ import sys
 from itertools import count
 from typing import Iterator, NamedTuple, Sequence, Tuple, Union
 
-from ..calls import Refused, Sheet, engine
+from ..calls import Engine, Refused, Sheet, engine
 from ..fold import fold
 from ..parser import Parsed, parse
 from ..tokens import BadText
@@ -80,8 +80,9 @@ def run_chunk(chunk: tuple[int, Sequence[str], Task]) -> tuple[str, int]:
     """In three rounds, each over all lines: a call of the library clears some 100 KiB, and what the
     other rounds work on would leave the processor's caches at each line."""
     first, lines, task = chunk
+    own = engine()
     read = [read_line(text, task) for text in lines]
-    found = [shortened(one, task) if isinstance(one, Parsed) else one for one in read]
+    found = [shortened(own, one, task) if isinstance(one, Parsed) else one for one in read]
     line_text = json_line if task.as_json else plain_line
     printed = [line_text(*each) for each in zip(count(first + 1), lines, read, found)]
     refused_lines = sum(isinstance(one, Refusing) for one in found)
@@ -99,12 +100,12 @@ def read_line(text: str, task: Task) -> Parsed | Refusing | None:
     return fold(parsed) if task.folds else parsed
 
 
-def shortened(parsed: Parsed, task: Task) -> tuple[int, Sheet] | Refusing:
+def shortened(own: Engine, parsed: Parsed, task: Task) -> tuple[int, Sheet] | Refusing:
     """The par of the normalised sheet, and the shortened one."""
     try:
-        return engine().shorten(parsed.data, task.passes)
+        return own.shorten(parsed.data, task.passes)
     except Refused as bad:
-        return refusing(bad.number, parsed)
+        return refusing(bad.number, parsed, None)
 
 
 def plain_line(number: int, text: str, read: Read, found: Found) -> str | None:

@@ -43,7 +43,7 @@ def value(options: Options) -> int:
     try:
         found = value_of(data, words)
     except Refused as bad:  # a sheet that is read is never refused
-        raise refusing(bad.number, parsed) from None
+        raise refusing(bad.number, parsed, given.name) from None
     if "quiet" in options:
         print(found)
         return 0

@@ -167,15 +167,16 @@ def run(given: Given, parsed: Parsed, passes: tuple[int, ...] = ()) -> Sheet:
     try:
         return engine().run(parsed.data, passes)
     except Refused as bad:
-        refusal = refusing(bad.number, parsed)
-        refusal.name = given.name
-        raise refusal from None
+        raise refusing(bad.number, parsed, given.name) from None
 
 
-def refusing(number: int, parsed: Parsed) -> Refusing:
+def refusing(number: int, parsed: Parsed, name: str | None) -> Refusing:
+    """What is said of a refusal: its place, a sentence and a hint."""
     reason = explain(number, parsed, is_accepted)
     at = parsed.place(reason.record)
-    return Refusing(number, parsed.width, parsed.text, at, reason.message, reason.hint)
+    found = Refusing(number, parsed.width, parsed.text, at, reason.message, reason.hint)
+    found.name = name
+    return found
 
 
 def is_accepted(expression: bytes) -> bool:
