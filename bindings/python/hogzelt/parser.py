@@ -192,14 +192,15 @@ class Parser:
                 precedence, kind = INFIX.get(token, ENDS)
                 top = waiting[-1]
                 while top[0] >= precedence:  # these bind at least so tight, and have their operands
-                    waiting.pop()
-                    if top[1] in PLAIN:
-                        size = 1 + sizes.pop()
-                        sizes[-1] = size = size + sizes[-1]
-                        records.append(nodes[size << 4 | top[1]])
-                        places.append(top[2])
+                    del waiting[-1]
+                    _, operator, place = top
+                    if operator in PLAIN:
+                        size = sizes.pop() + sizes[-1] + 1
+                        sizes[-1] = size
+                        records.append(nodes[size << 4 | operator])
+                        places.append(place)
                     else:
-                        self.take_operands(top[1], top[2])
+                        self.take_operands(operator, place)
                     top = waiting[-1]
                 if kind is not None:
                     waiting.append((precedence, kind, at))
