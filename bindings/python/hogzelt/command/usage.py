@@ -1,7 +1,7 @@
 """What --help prints."""
 
 HELP = """\
-usage: hogzelt shorten -w WIDTH TEXT             the shortest sum that a list of passes finds
+usage: hogzelt shorten -w WIDTH TEXT             a sum of few terms, by a list of passes
        hogzelt value -w WIDTH TEXT NAME=NUMBER   the value under an assignment
        hogzelt draw -w WIDTH TEXT                the masks by place, as a picture
        hogzelt columns -w WIDTH TEXT             the places in classes, with each atom's table
@@ -54,9 +54,9 @@ usage: hogzelt shorten -w WIDTH [OPTIONS] TEXT
 
 Normalises, runs a list of passes and prints the sum on one line, which can be read again, with its
 par (the count of its terms) and the numbers of the variables. Where the passes would leave more
-terms than normalising, the normalised sum is printed. What is printed so far has the value that the
-library is proved to keep; where the truth tables of up to three variables give a plainer sum, as
-x + y for (x ^ y) + 2*(x & y), a last line has that, which is tested and not proved.
+terms than normalising, the normalised sum is printed. Normalising and each pass are proved to keep
+the value. Where the truth tables of up to three variables give a plainer sum, as x + y for
+(x ^ y) + 2*(x & y), a last line has that too; this step is tested and not proved.
 
 A text file has one expression a line; blank lines and lines that begin with # stay as they are. For
 each line there is one, in order; what is refused becomes a line that begins with #.
