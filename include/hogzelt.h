@@ -1,5 +1,16 @@
 /*
- * Hogzelt: the functions of the static library libhogzelt.a.
+ * Hogzelt: the functions of the library, libhogzelt.a or libhogzelt.so.
+ *
+ * There is no global state: a call reads its inputs, writes its results and keeps nothing, so that any
+ * number of threads may call at a time. Nothing is allocated; what a call needs beside its results is
+ * on its stack. That is measured, not proved, and at most, rounded up to a KiB, on the longest inputs:
+ *
+ *   hogzelt_normalize_to_semilinear    624 KiB      hogzelt_refine_terms            376 KiB
+ *   hogzelt_run_passes                 624 KiB      hogzelt_recover_structure       389 KiB
+ *   hogzelt_expr_value                 129 KiB      hogzelt_coalesce_terms          364 KiB
+ *   hogzelt_semilinear_value           385 KiB      hogzelt_flatten_complex_atoms   387 KiB
+ *   hogzelt_compute_partitions         405 KiB      hogzelt_compact_atom_table      337 KiB
+ *   the three mask functions             1 KiB
  *
  * Every pointer must be valid for its length: expr for expr_len bytes, s for s_len bytes, vars for
  * vars_len words, out for out_len bytes (for out_len words of 64 bits in hogzelt_compute_partitions),
@@ -17,6 +28,93 @@
 #ifdef __cplusplus
 extern "C" {
 #endif
+
+/* The version: major * 10000 + minor * 100 + patch, and as text. */
+#define HOGZELT_VERSION 10000
+#define HOGZELT_VERSION_TEXT "1.0.0"
+
+/* Lengths: of a record, of the longest expression, and of the result slices. */
+#define HOGZELT_RECORD_BYTES 16
+#define HOGZELT_EXPR_BYTES 16384     /* at most */
+#define HOGZELT_FORM_BYTES 57360     /* out_len, but for columns */
+#define HOGZELT_COLUMN_WORDS 16448   /* out_len of hogzelt_compute_partitions */
+#define HOGZELT_MOST_ATOMS 256
+#define HOGZELT_MOST_TREE_RECORDS 3072
+
+/* Byte 0 of the records of an expression, and of a form. */
+enum hogzelt_kind {
+    HOGZELT_CONSTANT = 0,
+    HOGZELT_VARIABLE = 1,
+    HOGZELT_ADD = 2,
+    HOGZELT_MUL = 3,
+    HOGZELT_AND = 4,
+    HOGZELT_OR = 5,
+    HOGZELT_XOR = 6,
+    HOGZELT_NOT = 7,
+    HOGZELT_NEG = 8,
+    HOGZELT_SHR = 9,
+    HOGZELT_ZEXT = 10,
+    HOGZELT_SEXT = 11,
+    HOGZELT_TRUNC = 12,
+    HOGZELT_CONCAT = 13,
+    HOGZELT_SUM = 32,
+    HOGZELT_HEAD = 33,
+    HOGZELT_TERM = 34
+};
+
+/* The passes, by their numbers in a list of calls. */
+enum hogzelt_pass {
+    HOGZELT_REFINE = 1,
+    HOGZELT_RECOVER = 2,
+    HOGZELT_COALESCE = 3,
+    HOGZELT_FLATTEN = 4,
+    HOGZELT_COMPACT = 5
+};
+
+/* What is returned. */
+enum hogzelt_refusal {
+    HOGZELT_ACCEPTED = 0,
+    HOGZELT_INPUT_LENGTH = 1,
+    HOGZELT_RESULT_LENGTH = 2,
+    HOGZELT_MALFORMED = 3,
+    HOGZELT_WIDTH = 4,
+    HOGZELT_CAST = 5,
+    HOGZELT_SHIFT_COUNT = 6,
+    HOGZELT_SUM_IN_CONSTANT = 7,
+    HOGZELT_NONLINEAR = 8,
+    HOGZELT_TABLE_FULL = 9,
+    HOGZELT_NO_FORM = 10,
+    HOGZELT_NO_LIST = 32
+};
+
+/* An atom's word among the columns that is no table: this, with the atom's number in the low bits. */
+#define HOGZELT_OPAQUE UINT64_C(0xDEAD000000000000)
+
+/* The version that the caller was compiled with. */
+static inline uint64_t hogzelt_version(void)
+{
+    return HOGZELT_VERSION;
+}
+
+/* A refusal in words. */
+static inline const char *hogzelt_refusal_text(uint64_t refusal)
+{
+    switch (refusal) {
+    case HOGZELT_ACCEPTED: return "accepted";
+    case HOGZELT_INPUT_LENGTH: return "the length of the input is 0, not a multiple of 16 or too great";
+    case HOGZELT_RESULT_LENGTH: return "the length of the result slice is wrong";
+    case HOGZELT_MALFORMED: return "a kind above 13, a wrong size, or a non-zero byte that must be 0";
+    case HOGZELT_WIDTH: return "a width of 0, above 64, or differing between records";
+    case HOGZELT_CAST: return "a cast or a concatenation";
+    case HOGZELT_SHIFT_COUNT: return "a shift count above 63";
+    case HOGZELT_SUM_IN_CONSTANT: return "arithmetic below bitwise operators without a variable";
+    case HOGZELT_NONLINEAR: return "not a sum of weighted bitwise atoms";
+    case HOGZELT_TABLE_FULL: return "more than 256 atoms, or more than 3,072 records in their trees";
+    case HOGZELT_NO_FORM: return "not a semilinear form, or a hash that is not its tree's";
+    case HOGZELT_NO_LIST: return "not a list of passes";
+    default: return "no refusal of this library";
+    }
+}
 
 /*
  * The value of an expression file (document 01: tangle file) under an assignment. Returns 0 for

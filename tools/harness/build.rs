@@ -1,8 +1,7 @@
 //! Writes the module file that compiles the published Rust sources where they stand, below the
 //! directory named by COBRA_SRC, with the stand-ins of this package beside them, and then again in
 //! two builds with edited text (edits.rs): `sorted`, whose maps are sorted, and `parted`, which also
-//! has document 01's partings. Edited files stand in OUT_DIR. With the feature `library` it also
-//! links the archive named by HOGZELT_LIB.
+//! has document 01's partings. Edited files stand in OUT_DIR.
 
 mod edits;
 
@@ -57,9 +56,6 @@ fn main() {
     let edits: [&[Edit]; 5] = [&SORTED_MAPS, &PARTING_1, &PARTING_2, &PARTING_3, &PARTING_5];
     text += &edited_build("parted", &edits, &CALLED, &sources, &package, &out);
     write(&out.join("published.rs"), &text);
-    if env::var_os("CARGO_FEATURE_LIBRARY").is_some() {
-        link_library();
-    }
 }
 
 fn variable(name: &str) -> String {
@@ -146,13 +142,4 @@ fn write(file: &Path, text: &str) {
 fn submodule(name: &str, folder: &Path) -> String {
     let file = folder.join(format!("{name}.rs"));
     format!("    #[path = {file:?}]\n    pub mod {name};\n")
-}
-
-fn link_library() {
-    println!("cargo:rerun-if-env-changed=HOGZELT_LIB");
-    let archive = PathBuf::from(variable("HOGZELT_LIB"));
-    let folder = archive.parent().expect("the archive stands in a folder");
-    println!("cargo:rerun-if-changed={}", archive.display());
-    println!("cargo:rustc-link-search=native={}", folder.display());
-    println!("cargo:rustc-link-lib=static=hogzelt");
 }

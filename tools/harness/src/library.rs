@@ -1,47 +1,10 @@
 //! The functions of the static library (include/hogzelt.h) that give a number, and what the others
-//! share (library_forms.rs).
-
-mod raw {
-    extern "C" {
-        pub fn hogzelt_expr_value(
-            expr: *const u8,
-            expr_len: usize,
-            vars: *const u64,
-            vars_len: usize,
-            value: *mut u64,
-        ) -> u64;
-        pub fn hogzelt_reduce_mask(coeff: u64, mask: u64, w: u32) -> u64;
-        pub fn hogzelt_can_change_mask_to(coeff: u64, old: u64, new: u64, w: u32) -> bool;
-        pub fn hogzelt_can_change_coefficient_to(old: u64, new: u64, mask: u64, w: u32) -> bool;
-        pub fn hogzelt_semilinear_value(
-            s: *const u8,
-            s_len: usize,
-            vars: *const u64,
-            vars_len: usize,
-            value: *mut u64,
-        ) -> u64;
-    }
-}
-
-/// Functions that write a form: input, result slice, used length and count of terms.
-macro_rules! writers {
-    ($($name:ident),* $(,)?) => {
-        extern "C" {
-            $(pub fn $name(
-                input: *const u8,
-                input_len: usize,
-                out: *mut u8,
-                out_len: usize,
-                used: *mut u64,
-                terms: *mut u64,
-            ) -> u64;)*
-        }
-    };
-}
-pub(crate) use writers;
+//! share (library_forms.rs). They are called as the crate hogzelt declares them, with results that
+//! hold other numbers before.
 
 use crate::entry::{CHANGE_COEFFICIENT, CHANGE_MASK, REDUCE_MASK};
 use crate::model::Answer;
+use hogzelt::raw;
 
 /// What stands in a result before a call, so that one which is not written shows.
 pub const UNWRITTEN: u64 = 0xBAD0_BAD0_BAD0_BAD0;
@@ -106,11 +69,8 @@ pub fn guarded<T>(length: usize, call: impl FnOnce(&mut [u8]) -> T) -> (T, Vec<u
     (answer, out)
 }
 
-/// A function of `writers`.
-pub type Writer = unsafe extern "C" fn(*const u8, usize, *mut u8, usize, *mut u64, *mut u64) -> u64;
-
 /// A form written to `out`: the refusal, the used length, the count of terms.
-pub fn write_into(writer: Writer, input: &[u8], out: &mut [u8]) -> [u64; 3] {
+pub fn write_into(writer: raw::Writer, input: &[u8], out: &mut [u8]) -> [u64; 3] {
     let (mut used, mut terms) = (UNWRITTEN, UNWRITTEN);
     // SAFETY: both slices are valid for their lengths; what is written lies in neither and apart.
     let refusal = unsafe {

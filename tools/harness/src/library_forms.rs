@@ -1,50 +1,11 @@
 //! The functions of the static library (include/hogzelt.h) that write a form or the columns of one.
 
 use crate::columns::Columns;
-use crate::library::{guarded, write_into, writers, Writer, GUARD, UNWRITTEN};
+use crate::library::{guarded, write_into, GUARD, UNWRITTEN};
 use crate::list;
 use crate::pass::Pass;
 use crate::written::Written;
-
-mod raw {
-    super::writers!(
-        hogzelt_normalize_to_semilinear,
-        hogzelt_refine_terms,
-        hogzelt_recover_structure,
-        hogzelt_coalesce_terms,
-        hogzelt_compact_atom_table,
-    );
-    extern "C" {
-        pub fn hogzelt_flatten_complex_atoms(
-            s: *const u8,
-            s_len: usize,
-            out: *mut u8,
-            out_len: usize,
-            used: *mut u64,
-            terms: *mut u64,
-            flattened: *mut u64,
-        ) -> u64;
-        pub fn hogzelt_compute_partitions(
-            s: *const u8,
-            s_len: usize,
-            out: *mut u64,
-            out_len: usize,
-            classes: *mut u64,
-        ) -> u64;
-        pub fn hogzelt_run_passes(
-            expr: *const u8,
-            expr_len: usize,
-            calls: *const u64,
-            calls_len: usize,
-            sheet: *mut u8,
-            sheet_len: usize,
-            spare: *mut u8,
-            spare_len: usize,
-            used: *mut u64,
-            terms: *mut u64,
-        ) -> u64;
-    }
-}
+use hogzelt::raw;
 
 /// Normalising into `out`: the refusal, the used length, the count of terms.
 pub fn normalize_into(file: &[u8], out: &mut [u8]) -> [u64; 3] {
@@ -53,7 +14,7 @@ pub fn normalize_into(file: &[u8], out: &mut [u8]) -> [u64; 3] {
 
 /// A pass into `out`: the refusal, the used length, the count of terms, the flag.
 pub fn pass_into(pass: Pass, form: &[u8], out: &mut [u8]) -> [u64; 4] {
-    let writer: Writer = match pass {
+    let writer: raw::Writer = match pass {
         Pass::Refine => raw::hogzelt_refine_terms,
         Pass::Recover => raw::hogzelt_recover_structure,
         Pass::Coalesce => raw::hogzelt_coalesce_terms,

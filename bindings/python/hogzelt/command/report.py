@@ -1,0 +1,55 @@
+"""What is said of one expression: its sum, the table of names, the object that --json prints."""
+
+from __future__ import annotations
+
+from typing import Mapping, Sequence
+
+from ..calls import Sheet
+from ..parser import Parsed
+from ..records import VARIABLE, split_form
+from ..render import NO_NAMES, factor_text, sum_text
+from ..tokens import variable_text
+from .source import Refusing
+
+
+def sheet_text(sheet: Sheet, names: Mapping[int, str] = NO_NAMES) -> str:
+    return sum_text(*split_form(sheet.data), names)
+
+
+def variables_of(parsed: Parsed) -> list[int]:
+    return sorted({record[1] for record in parsed.records if record[0] == VARIABLE})
+
+
+def name_of(variable: int, names: Mapping[int, str]) -> str:
+    return names.get(variable) or variable_text(variable)
+
+
+def names_text(variables: Sequence[int], names: Mapping[int, str]) -> str:
+    """The table of names: x is v23."""
+    return ", ".join(f"{name_of(i, names)} is v{i}" for i in variables)
+
+
+def accepted(
+    text: str | None, names: Mapping[int, str], variables: Sequence[int], before: int, sheet: Sheet
+) -> dict[str, object]:
+    """The object of an expression that is accepted; the text of a sheet is null."""
+    width, constant, terms = split_form(sheet.data)
+    return {
+        "width": width,
+        "text": text,
+        "refusal": None,
+        "sum": sum_text(width, constant, terms, names),
+        "constant": constant,
+        "terms": [{"coefficient": c, "atom": factor_text(t, width, names)} for c, t in terms],
+        "par": {"before": before, "after": sheet.par},
+        "variables": {name_of(i, names): i for i in variables},
+    }
+
+
+def refused(bad: Refusing, line: int) -> dict[str, object]:
+    """The object of an expression that is refused, on this line of its source; the number is 0
+    where a text is none."""
+    refusal = {"number": bad.number, "line": line, "column": bad.place[1], "message": bad.message,
+               "hint": bad.hint}
+    return {"width": bad.width, "text": bad.text, "refusal": refusal, "sum": None, "constant": None,
+            "terms": None, "par": None, "variables": None}

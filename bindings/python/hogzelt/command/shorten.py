@@ -1,0 +1,121 @@
+"""hogzelt shorten: an expression as a sum of few weighted atoms."""
+
+from __future__ import annotations
+
+import json
+from typing import Mapping, NamedTuple
+
+from ..calls import SHORTENING, Pass, Refused, Sheet, run_pass
+from ..records import VARIABLE
+from ..render import NO_NAMES
+from ..tables import plainer
+from .batch import run_batch
+from .options import PASSES, Options, Usage
+from .report import accepted, names_text, refused, sheet_text, variables_of
+from .source import Given, Refusing, read_given, read_parsed, read_sheet, run
+
+NAMES = {number: name for name, number in PASSES.items()}
+
+
+class Step(NamedTuple):
+    """A sheet on the way; `refusal` is that of the call, which then left the sheet as it was."""
+
+    name: str
+    sheet: Sheet
+    refusal: int
+
+
+class Shortened(NamedTuple):
+    """What is printed: the last sheet, or the first one where that has fewer terms."""
+
+    width: int
+    names: Mapping[int, str]
+    variables: list[int]
+    text: str | None
+    steps: list[Step]
+
+    @property
+    def first(self) -> Sheet:
+        return self.steps[0].sheet
+
+    @property
+    def last(self) -> Sheet:
+        last = self.steps[-1].sheet
+        return last if last.par <= self.first.par else self.first
+
+
+def shorten(options: Options) -> int:
+    given = read_given(options, "shorten")
+    passes = options.passes(SHORTENING)
+    if given.sort == "par":
+        raise Usage(f"{given.label}what par printed has no atoms; give the tangle or a text")
+    if given.sort == "text" and given.name is not None:
+        if "steps" in options:
+            raise Usage("--steps is for one expression; a file has one on each line")
+        return run_batch(given, options, passes)
+    try:
+        if given.sort == "sheet":
+            result = of_sheet(given, options, passes)
+        else:
+            result = of_text(given, options, passes)
+    except Refusing as bad:
+        if "json" not in options:
+            raise
+        print(json.dumps(refused(bad, bad.place[0])))
+        return 1
+    if "json" in options:
+        first, last = result.first, result.last
+        print(json.dumps(accepted(result.text, result.names, result.variables, first.par, last)))
+    else:
+        print("\n".join(shown(result, "steps" in options, "quiet" in options)))
+    return 0
+
+
+def of_text(given: Given, options: Options, passes: tuple[int, ...]) -> Shortened:
+    parsed = read_parsed(given, options)
+    steps = steps_from(Step("normalise", run(given, parsed), 0), passes)
+    return Shortened(parsed.width, parsed.names, variables_of(parsed), parsed.text, steps)
+
+
+def of_sheet(given: Given, options: Options, passes: tuple[int, ...]) -> Shortened:
+    sheet = read_sheet(given, options)
+    form = sheet.form
+    variables = {r.argument for atom in form.atoms for r in atom.records if r.kind == VARIABLE}
+    steps = steps_from(Step("as given", sheet, 0), passes)
+    return Shortened(form.width, NO_NAMES, sorted(variables), None, steps)
+
+
+def steps_from(first: Step, passes: tuple[int, ...]) -> list[Step]:
+    """The sheets after each call; one that is refused leaves the sheet as it was."""
+    steps = [first]
+    for number in passes:
+        sheet = steps[-1].sheet
+        try:
+            steps.append(Step(NAMES[number], run_pass(Pass(number), sheet), 0))
+        except Refused as bad:
+            steps.append(Step(NAMES[number], sheet, bad.number))
+    return steps
+
+
+def shown(result: Shortened, with_steps: bool, quiet: bool) -> list[str]:
+    answer = sheet_text(result.last, result.names)
+    if quiet:
+        return [answer]
+    lines = [step_line(step, result.names) for step in result.steps] if with_steps else []
+    lines.append(answer)
+    start = result.steps[0].name.replace("normalise", "normalised")
+    lines.append(f"par {result.last.par}, {start} {result.first.par}; width {result.width}")
+    if result.variables:
+        lines.append("variables: " + names_text(result.variables, result.names))
+    other = plainer(result.last, result.names)
+    if other is not None:
+        lines.append(f"by truth tables, not proved: {other}")
+    return lines
+
+
+def step_line(step: Step, names: Mapping[int, str]) -> str:
+    if step.refusal:
+        return f"{step.name:<10} refused by {step.refusal}; the sheet stays"
+    atoms = len(step.sheet.form.atoms)
+    counts = f"par {step.sheet.par}, atoms {atoms}"
+    return f"{step.name:<10} {counts:<18} {sheet_text(step.sheet, names)}"

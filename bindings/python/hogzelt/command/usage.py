@@ -1,0 +1,163 @@
+"""What --help prints."""
+
+HELP = """\
+usage: hogzelt shorten -w WIDTH TEXT             a sum of few terms, by a list of passes
+       hogzelt value -w WIDTH TEXT NAME=NUMBER   the value under an assignment
+       hogzelt draw -w WIDTH TEXT                the masks by place, as a picture
+       hogzelt columns -w WIDTH TEXT             the places in classes, with each atom's table
+       hogzelt normalize -w WIDTH TEXT           the tangle and the normalised sheet
+       hogzelt write -w WIDTH -o FILE TEXT       text to a tangle file
+       hogzelt show FILE                         a tangle, a sheet or what par printed, as text
+       hogzelt --version
+
+'hogzelt COMMAND --help' says more. In place of TEXT, -f FILE or - (standard input) takes a text, a
+tangle (the bytes of an expression) or a sheet (those of a sum); which it is, is seen by the bytes.
+
+Text, its operators from the tightest to the loosest, as in C:
+  ~x  -x
+  x*y
+  x + y  x - y      x - y is x + (-y)
+  x << n  x >> n    n is a literal; x << n is x times 2^n
+  x & y
+  x ^ y
+  x | y
+Those of one row associate to the left; parentheses group. Literals are decimal, 0x.. or 0b.., below
+2^64; a suffix (15u, 0xffULL, 3u8) is left out. Variables are a to z, v0 to v255 (a is v0), and any
+other name (flags, X1), which gets a number that is free. zext(16, x), sext(16, x), trunc(4, x) and
+concat(x, y) can be written and shown, and are refused.
+
+A sum is a constant and numbers times atoms; an atom has only variables, literals, & | ^ ~ and >>.
+So products of variables, and & | ^ ~ >> over + - *, are refused (8). Parts without a variable are
+cut to one literal by --fold: x & -2 is then read as x & 254 at width 8.
+
+Exit status: 0 done; 1 a text is bad or something is refused; 2 wrong usage, or a file or the
+library is missing. HOGZELT_SO names the shared object of the library. In a checkout it is made
+where it is missing: 'rt staticlib hogzelt' proves and builds the archive, cc makes a shared object
+of it.
+"""
+
+COMMON = """\
+  -w, --width WIDTH   the width in bits, 1 to 64; a tangle or a sheet brings its own
+  -f, --file FILE     read FILE in place of TEXT; - is standard input
+  --fold              cut parts without a variable to one literal first
+"""
+
+PASSES = """\
+  --passes LIST       the passes, by name with commas between: refine, recover, coalesce, flatten,
+                      compact
+"""
+
+COMMANDS = {
+    "shorten": f"""\
+usage: hogzelt shorten -w WIDTH [OPTIONS] TEXT
+       hogzelt shorten [-w WIDTH] [OPTIONS] -f FILE    or - for standard input
+
+Normalises, runs a list of passes and prints the sum on one line, which can be read again, with its
+par (the count of its terms) and the numbers of the variables. Where the passes would leave more
+terms than normalising, the normalised sum is printed. Normalising and each pass are proved to keep
+the value. Where the truth tables of up to three variables give a plainer sum, as x + y for
+(x ^ y) + 2*(x & y), a last line has that too; this step is tested and not proved.
+
+A text file has one expression a line; blank lines and lines that begin with # stay as they are. For
+each line there is one, in order; what is refused becomes a line that begins with #.
+
+{COMMON}{PASSES}\
+                      (default: flatten,coalesce,recover,refine)
+  --steps             show the sheet after each call
+  -q, --quiet         print only the sum
+  --json              one object a line: width, text, refusal with its place, sum, constant, terms,
+                      par before and after, variables
+  --jobs N            processes for a file (default: one for each processor)
+
+Examples:
+  tools/hogzelt shorten -w 8 'x ^ 15'
+  tools/hogzelt shorten -w 8 --fold --steps '(x & -2) + (x & 1)'
+  tools/hogzelt shorten -w 64 --json -f examples/daily.txt
+""",
+    "value": f"""\
+usage: hogzelt value -w WIDTH [--fold] [-q] TEXT [NAME=NUMBER]..
+       hogzelt value -f FILE [NAME=NUMBER]..
+
+Prints the value of a text, a tangle or a sheet; variables without a number are 0.
+
+{COMMON}\
+  -q, --quiet         print only the number
+
+Examples:
+  tools/hogzelt value -w 8 'a ^ 15' a=5
+  tools/hogzelt value -w 8 'flags & ~1' flags=0x1f
+""",
+    "columns": f"""\
+usage: hogzelt columns -w WIDTH TEXT
+       hogzelt columns -f FILE
+
+Prints the classes of places: those at which every atom of the normalised sheet has the same table.
+Under each class stands each atom's table: a row of bits for each of its variables, then its own.
+
+{COMMON}{PASSES}\
+                      (default: none)
+
+Examples:
+  tools/hogzelt columns -w 8 '(a & 15) + (a ^ b)'
+  tools/hogzelt columns -w 8 --passes refine '16*(a & 255)'
+""",
+    "draw": f"""\
+usage: hogzelt draw -w WIDTH [--svg FILE] TEXT
+       hogzelt draw [--svg FILE] -f FILE
+
+Draws the normalised sheet by place: a ruler, the constant, and each term's mask; bits that cannot
+matter beside the coefficient are dimmed, and a second row shows where an even coefficient moves
+them and what it pushes off the end. Colours stand only in a terminal, and not where NO_COLOR is
+set.
+
+{COMMON}{PASSES}\
+                      (default: none)
+  --svg FILE          write the picture to FILE, for a browser
+
+Examples:
+  tools/hogzelt draw -w 8 '16*(a & 255) + (b ^ 15)'
+  tools/hogzelt draw -w 8 --svg picture.svg '16*(a & 255) + (b ^ 15)'
+""",
+    "normalize": f"""\
+usage: hogzelt normalize -w WIDTH [-o FILE] TEXT
+       hogzelt normalize [-o FILE] -f FILE
+
+Shows the tangle and its normalised sheet.
+
+{COMMON}\
+  -o, --output FILE   also write the sheet's bytes to FILE; one that is there is replaced
+
+Examples:
+  tools/hogzelt normalize -w 8 'a ^ 15'
+  tools/hogzelt normalize -o xor.sheet -f examples/xor15.tangle
+""",
+    "write": f"""\
+usage: hogzelt write -w WIDTH [-o FILE] TEXT
+       hogzelt write -w WIDTH [-o FILE] -f TEXTFILE    the file may have several lines
+
+Writes the tangle file of a text. Where the text is bad nothing is written. Literals stay whole in
+the file; a note says which are cut at this width.
+
+{COMMON}\
+  -o, --output FILE   the file to write; one that is there is replaced. Without it the bytes go to
+                      standard output, if that is no terminal
+
+Examples:
+  tools/hogzelt write -w 8 -o xor.tangle 'a ^ 15'
+  tools/hogzelt write -w 8 'a ^ 15' | target/bin/par
+""",
+    "show": """\
+usage: hogzelt show [-w WIDTH] [--text] [FILE]        FILE may be - for standard input
+
+Shows a tangle, a sheet (its used length), a text as the tangle that it makes, or what the program
+par printed. A damaged file is answered by the record and its fault. Masks, the constant and
+coefficients are shown in hexadecimal, the last two with their signed reading beside them.
+
+  --text              of a tangle only the text, which 'hogzelt write' makes the same bytes of
+  -w, --width WIDTH   for a text, and for what par printed, to show the signed readings too
+
+Examples:
+  tools/hogzelt show examples/xor15.tangle
+  tools/hogzelt show --text examples/xor15.tangle
+""",
+}

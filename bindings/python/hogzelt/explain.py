@@ -1,0 +1,147 @@
+"""Why an expression is refused, and where: the record that a refusal is about, a sentence, a hint.
+
+Nothing here decides about a refusal; the library does. What is told of one is found by the rules of
+include/hogzelt.h."""
+
+from __future__ import annotations
+
+from typing import Callable, NamedTuple
+
+from .atoms import full_table
+from .facts import facts_of
+from .fold import fold
+from .parser import Parsed
+from .records import (
+    ADD, AND, ARITHMETIC, CASTS, KIND_NAMES, MOST_ATOMS, MOST_SHIFT, MOST_TREE_RECORDS, MUL, NEG,
+    NOT, OR, SHR, XOR,
+)
+from .refusals import REFUSALS
+from .render import expression_text, literal_text
+from .tokens import clip
+
+OPERATORS = {ADD: "+", MUL: "*", AND: "&", OR: "|", XOR: "^", NOT: "~", NEG: "-", SHR: ">>"}
+NOUNS = {ADD: "a sum", MUL: "a product", NEG: "a negative"}
+BITWISE_CONSTANT = (AND, OR, XOR, NOT)
+
+
+class Reason(NamedTuple):
+    record: int
+    message: str
+    hint: str
+
+
+def explain(number: int, parsed: Parsed, accepts: Callable[[bytes], bool]) -> Reason:
+    """The reason of a refusal of normalising; `accepts` says whether normalising takes an
+    expression, so that only hints are given that help."""
+    tree = Tree(parsed, accepts)
+    reasons = {5: tree.cast, 6: tree.shift_count, 7: tree.constant, 8: tree.nonlinear, 9: tree.full}
+    found = reasons[number]() if number in reasons else None
+    return found or Reason(len(tree.records) - 1, REFUSALS[number], "")
+
+
+class Tree:
+    def __init__(self, parsed: Parsed, accepts: Callable[[bytes], bool]) -> None:
+        self.parsed = parsed
+        self.accepts = accepts
+        self.width = parsed.width
+        self.records = parsed.expression.records
+        self.facts = facts_of(self.records, self.width)
+
+    def text(self, at: int) -> str:
+        records = self.records[at + 1 - self.records[at].size : at + 1]
+        return clip(expression_text(records, self.width, self.parsed.names))
+
+    def cast(self) -> Reason | None:
+        for i, record in enumerate(self.records):
+            if record.kind in CASTS:
+                return Reason(i, f"{KIND_NAMES[record.kind].lower()} is refused: all parts have one"
+                                 " width", "")
+        return None
+
+    def shift_count(self) -> Reason | None:
+        for i, record in enumerate(self.records):
+            if record.kind == SHR and record.argument > MOST_SHIFT:
+                return Reason(i, f"a shift by {record.argument}; the most is {MOST_SHIFT}",
+                              f"at width {self.width} the value is 0")
+        return None
+
+    def constant(self) -> Reason | None:
+        for i, record in enumerate(self.records):
+            facts = self.facts[i]
+            if record.kind in BITWISE_CONSTANT and not facts.variable and facts.arithmetic:
+                symbol = OPERATORS[record.kind]
+                message = f"{self.text(i)} has no variable, and {symbol} stands over arithmetic"
+                return Reason(i, message, self.literal_hint(i))
+        return None
+
+    def literal_hint(self, at: int) -> str:
+        value = literal_text(self.facts[at].value, self.width)
+        hint = f"write {value} for {self.text(at)}"
+        return hint + ", or add --fold" if self.accepts(fold(self.parsed).data) else hint
+
+    def nonlinear(self) -> Reason | None:
+        """The first operator in the text that takes more than a sum of weighted atoms may have."""
+        stack = [(len(self.records) - 1, 1)]
+        while stack:
+            at, coefficient = stack.pop()
+            kind, facts = self.records[at].kind, self.facts[at]
+            if coefficient % (1 << self.width) == 0 or not facts.variable:
+                continue
+            if kind == NEG:
+                stack.append((facts.children[0], -coefficient))
+            elif kind == ADD:
+                stack += [(child, coefficient) for child in reversed(facts.children)]
+            elif kind == MUL:
+                left, right = facts.children
+                if self.facts[left].variable and self.facts[right].variable:
+                    message = "* has a variable on both sides; one of them must be a number"
+                    return Reason(at, message, "")
+                factor, other = (right, left) if self.facts[left].variable else (left, right)
+                stack.append((other, coefficient * self.facts[factor].value))
+            elif facts.arithmetic:
+                return self.over_arithmetic(at)
+        return None
+
+    def over_arithmetic(self, top: int) -> Reason:
+        """A bitwise operator over arithmetic: the innermost one that has it as an operand."""
+        at = top
+        while True:
+            child = next(c for c in self.facts[at].children if self.facts[c].arithmetic)
+            if self.records[child].kind in ARITHMETIC:
+                break
+            at = child
+        record, below = self.records[at], self.records[child]
+        message = (f"{OPERATORS[record.kind]} works bit by bit, and {self.text(child)} below it is"
+                   f" {NOUNS[below.kind]}")
+        return Reason(at, message, self.rewritten(at, child, at == top))
+
+    def rewritten(self, at: int, child: int, is_top: bool) -> str:
+        """What could be written instead, with the same value."""
+        kind, facts = self.records[at].kind, self.facts[at]
+        if not self.facts[child].variable:
+            return self.literal_hint(child)
+        if not is_top:
+            return ""
+        full = (1 << self.width) - 1
+        masks = [self.facts[c].value for c in facts.children if not self.facts[c].variable]
+        bits = [self.facts[c].bits for c in facts.children]
+        every = literal_text(full, self.width)
+        if kind == NOT:
+            return "~x is -x - 1, which may stand over arithmetic"
+        if kind == XOR and masks == [full]:
+            return f"x ^ {every} is -x - 1 at this width, which may stand over arithmetic"
+        if kind == AND and masks == [full]:
+            return f"& {every} keeps every bit at this width: leave it out"
+        if kind in (OR, XOR) and bits[0] & bits[1] == 0:
+            return f"the two sides share no bit, so + gives the same value as {OPERATORS[kind]}"
+        return ""
+
+    def full(self) -> Reason:
+        table = full_table(self.records, self.width)
+        if table.atoms > MOST_ATOMS:
+            message = f"{table.atoms:,} atoms; a sheet has at most {MOST_ATOMS}"
+        else:
+            message = (f"{table.atoms:,} atoms of {table.tree_records:,} records together; in a"
+                       f" sheet they have at most {MOST_TREE_RECORDS:,}")
+        hint = "here the limit is passed; shorten the sum in parts"
+        return Reason(table.first_past, message, hint)

@@ -1,0 +1,15 @@
+"""The refusals of the library by number (include/hogzelt.h), each in a sentence."""
+
+REFUSALS = {
+    1: "the length is 0, not a multiple of 16, or above 16,384 bytes (tangle) or 57,360 (sheet)",
+    2: "the length of the result slice is wrong",
+    3: "a kind above 13, a wrong size, or a non-zero byte that must be 0",
+    4: "a width of 0, above 64, or differing between records",
+    5: "a cast or a concatenation",
+    6: "a shift count above 63",
+    7: "a sum or product below bitwise operators without a variable, as in 3 & (1 + 2)",
+    8: "not a sum of weighted bitwise atoms, as a*b or a & (b + c)",
+    9: "more than 256 atoms, or more than 3,072 records in their trees",
+    10: "not a sheet, or a hash that is not its tree's",
+    32: "not a list of passes",
+}

@@ -1,0 +1,128 @@
+//! The types: refusals as errors, allocated and lent results, the parts of a sheet.
+
+use hogzelt::{
+    columns, normalize, normalize_into, run_calls_into, run_pass, run_pass_into, run_passes, Call,
+    Expr, Pass, Refusal, EXPR_BYTES, FORM_BYTES, OPAQUE, RECORD_BYTES,
+};
+use std::error::Error;
+
+fn a() -> Expr {
+    Expr::variable(8, 0)
+}
+
+fn number(value: u64) -> Expr {
+    Expr::constant(8, value)
+}
+
+#[test]
+fn refusals() {
+    let numbers: Vec<u64> = Refusal::ALL.iter().map(|r| r.number()).collect();
+    assert_eq!(numbers, [1, 2, 3, 4, 5, 6, 7, 8, 9, 10, 32]);
+    for refusal in Refusal::ALL {
+        assert_eq!(Refusal::check(refusal.number()), Err(refusal));
+        let error: Box<dyn Error> = refusal.into();
+        assert!(!error.to_string().is_empty());
+    }
+    assert_eq!(Refusal::check(0), Ok(()));
+    assert_eq!(normalize([]), Err(Refusal::InputLength));
+    assert_eq!(
+        normalize(vec![0; EXPR_BYTES + 16]),
+        Err(Refusal::InputLength)
+    );
+    assert_eq!(normalize(a() >> 64), Err(Refusal::ShiftCount));
+    assert_eq!(normalize(Expr::variable(65, 0)), Err(Refusal::Width));
+    assert_eq!(normalize(a() + Expr::variable(9, 0)), Err(Refusal::Width));
+    assert_eq!(normalize(a() & -number(2)), Err(Refusal::Nonlinear));
+    assert_eq!(
+        normalize(number(3) & (number(1) + number(2))),
+        Err(Refusal::SumInConstant)
+    );
+    assert_eq!(run_pass(Pass::Refine, a()), Err(Refusal::NoForm));
+}
+
+#[test]
+fn a_refused_call_clears_its_slice() {
+    let mut out = vec![0xA5; FORM_BYTES - 1];
+    assert_eq!(normalize_into(a(), &mut out), Err(Refusal::ResultLength));
+    assert!(out.iter().all(|&byte| byte == 0));
+}
+
+#[test]
+fn parts_of_a_sheet() {
+    let sheet = normalize(a() ^ number(15)).expect("it is linear");
+    assert_eq!((sheet.width(), sheet.constant(), sheet.par()), (8, 15, 2));
+    let masked = a() & number(15);
+    assert_eq!(sheet.atoms(), [a().as_bytes(), masked.as_bytes()]);
+    let terms: Vec<(u64, &[u8])> = sheet
+        .terms()
+        .iter()
+        .map(|t| (t.coefficient, t.atom))
+        .collect();
+    assert_eq!(terms, [(1, a().as_bytes()), (254, masked.as_bytes())]);
+    let constant = normalize(number(5)).expect("a number is linear");
+    assert_eq!((constant.constant(), constant.par()), (5, 0));
+    assert_eq!(constant.columns().expect("a sheet").classes().len(), 0);
+}
+
+#[test]
+fn lists() {
+    let sum = (a() & number(15)) + (a() & number(240));
+    let sheet = run_passes(&sum, &[Pass::Refine, Pass::Compact]).expect("it is linear");
+    assert_eq!((sheet.par(), sheet.atoms().len()), (1, 1));
+    let calls = [
+        Call {
+            pass: Pass::Refine,
+            length: RECORD_BYTES,
+        },
+        Call {
+            pass: Pass::Compact,
+            length: FORM_BYTES,
+        },
+    ];
+    let (mut out, mut spare) = (vec![0; FORM_BYTES], vec![0; FORM_BYTES]);
+    let written = run_calls_into(&sum, &calls, &mut out, &mut spare).expect("it is linear");
+    assert_eq!(written.terms, 2, "a call that is refused leaves the form");
+    assert_eq!(
+        &out[..written.used],
+        normalize(&sum).expect("it is linear").as_bytes()
+    );
+}
+
+#[test]
+fn passes_keep_the_value() {
+    let sum = number(3) * (!(a() ^ number(9))) - (a() >> 2) + (a() | Expr::variable(8, 1));
+    for pass in Pass::ALL {
+        let sheet = normalize(&sum)
+            .and_then(|s| s.pass(pass))
+            .expect("it is linear");
+        for x in 0..=255 {
+            assert_eq!(sheet.value(&[x, 77]), sum.value(&[x, 77]));
+        }
+    }
+}
+
+#[test]
+fn flattening_says_whether_it_did() {
+    let mut out = vec![0; FORM_BYTES];
+    let flattened = |expr: Expr, out: &mut [u8]| {
+        let sheet = normalize(expr).expect("it is linear");
+        run_pass_into(Pass::Flatten, &sheet, out)
+            .expect("a sheet")
+            .flattened
+    };
+    assert!(flattened(!a(), &mut out));
+    assert!(!flattened(a(), &mut out));
+}
+
+#[test]
+fn opaque_columns() {
+    let sheet = normalize((a() >> 1) + a()).expect("it is linear");
+    let found = columns(&sheet).expect("a sheet");
+    let classes: Vec<_> = found.classes().collect();
+    assert_eq!(classes.len(), 1);
+    assert_eq!(
+        (classes[0].mask, classes[0].tables),
+        (255, &[OPAQUE, 2][..])
+    );
+    assert_eq!(found.as_words(), [255, OPAQUE, 2]);
+}

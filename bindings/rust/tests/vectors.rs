@@ -1,0 +1,163 @@
+//! Replays the stored answers of crates/vectors (docs/VECTORS.md) through the safe functions.
+
+use hogzelt::{
+    can_change_coefficient_to, can_change_mask_to, columns_into, expr_value, normalize_into,
+    reduce_mask, run_calls_into, run_pass_into, sheet_value, Call, Pass, Refusal, Written,
+};
+use std::path::PathBuf;
+
+const FLAG: u64 = 1 << 63;
+
+struct Entry<'a> {
+    sort: u8,
+    refusal: u64,
+    value: u64,
+    words: Vec<u64>,
+    bytes: &'a [u8],
+}
+
+impl Entry<'_> {
+    /// From type 7 on: the input, and the expected result, as long as its used length.
+    fn input(&self) -> (&[u8], &[u8]) {
+        let used = (self.value & 0xFFFF_FFFF) as usize;
+        self.bytes.split_at(self.bytes.len() - used)
+    }
+
+    /// What was found of a value.
+    fn value_is(&self, found: Result<u64, Refusal>) -> bool {
+        match found {
+            Ok(value) => self.refusal == 0 && value == self.value,
+            Err(refusal) => refusal.number() == self.refusal && self.value == 0,
+        }
+    }
+
+    /// What was found of a form: the numbers, and every byte of the slice.
+    fn form_is(&self, found: Result<Written, Refusal>, out: &[u8]) -> bool {
+        let (_, expected) = self.input();
+        let numbers = match found {
+            Ok(w) => {
+                let flag = if w.flattened { FLAG } else { 0 };
+                self.refusal == 0 && flag | (w.terms as u64) << 32 | w.used as u64 == self.value
+            }
+            Err(refusal) => refusal.number() == self.refusal && self.value == 0,
+        };
+        let (head, tail) = out.split_at(expected.len().min(out.len()));
+        numbers && head == expected && tail.iter().all(|&byte| byte == 0)
+    }
+
+    fn holds(&self) -> bool {
+        let words = &self.words;
+        match self.sort {
+            1 => self.value_is(expr_value(self.bytes, words)),
+            3 => reduce_mask(words[0], words[1], words[3] as u32) == self.value,
+            4 => {
+                let found = can_change_mask_to(words[0], words[1], words[2], words[3] as u32);
+                u64::from(found) == self.value
+            }
+            5 => {
+                let found =
+                    can_change_coefficient_to(words[0], words[1], words[2], words[3] as u32);
+                u64::from(found) == self.value
+            }
+            6 => self.value_is(sheet_value(self.bytes, words)),
+            7 => self.pass_holds(Pass::Compact),
+            8 => {
+                let mut out = vec![0xA5; words[0] as usize];
+                self.form_is(normalize_into(self.input().0, &mut out), &out)
+            }
+            9 => self.pass_holds(Pass::Refine),
+            10 => self.pass_holds(Pass::Flatten),
+            11 => self.columns_hold(),
+            12 => self.pass_holds(Pass::Recover),
+            13 => self.pass_holds(Pass::Coalesce),
+            14 => self.list_holds(),
+            _ => unreachable!("type {}", self.sort),
+        }
+    }
+
+    fn pass_holds(&self, pass: Pass) -> bool {
+        let mut out = vec![0xA5; self.words[0] as usize];
+        self.form_is(run_pass_into(pass, self.input().0, &mut out), &out)
+    }
+
+    fn columns_hold(&self) -> bool {
+        let (input, expected) = self.input();
+        let mut out = vec![0xA5; self.words[0] as usize];
+        let found = match columns_into(input, &mut out) {
+            Ok(classes) => self.refusal == 0 && classes as u64 == self.value >> 32,
+            Err(refusal) => refusal.number() == self.refusal && self.value == 0,
+        };
+        let bytes: Vec<u8> = out.iter().flat_map(|word| word.to_le_bytes()).collect();
+        let (head, tail) = bytes.split_at(expected.len().min(bytes.len()));
+        found && head == expected && tail.iter().all(|&byte| byte == 0)
+    }
+
+    /// A list whose words are calls; the others cannot be written in Rust's types.
+    fn list_holds(&self) -> bool {
+        let Some(calls) = self.calls() else {
+            return self.refusal != 0;
+        };
+        let mut sheet = vec![0xA5; self.words[0] as usize];
+        let mut spare = vec![0xA5; self.words[1] as usize];
+        let found = run_calls_into(self.input().0, &calls, &mut sheet, &mut spare);
+        self.form_is(found, &sheet) && spare.iter().all(|&byte| byte == 0)
+    }
+
+    fn calls(&self) -> Option<Vec<Call>> {
+        let words = &self.words[2..];
+        let call = |pair: &[u64]| {
+            let pass = Pass::ALL.into_iter().find(|&pass| pass as u64 == pair[0])?;
+            let length = usize::try_from(pair[1]).ok()?;
+            Some(Call { pass, length })
+        };
+        match words.len() % 2 {
+            0 => words.chunks(2).map(call).collect(),
+            _ => None,
+        }
+    }
+}
+
+fn word(bytes: &[u8]) -> u64 {
+    bytes
+        .iter()
+        .rev()
+        .fold(0, |all, &byte| all << 8 | u64::from(byte))
+}
+
+/// The entries up to the end entry, whose value is their count.
+fn entries(file: &[u8]) -> Vec<Entry<'_>> {
+    let mut found = Vec::new();
+    let mut at = 0;
+    while file[at] != 0 {
+        let head = &file[at..at + 16];
+        let (words, bytes) = (word(&head[2..4]) as usize, word(&head[4..8]) as usize);
+        let start = at + 16 + 8 * words;
+        found.push(Entry {
+            sort: head[0],
+            refusal: u64::from(head[1]),
+            value: word(&head[8..16]),
+            words: file[at + 16..start].chunks(8).map(word).collect(),
+            bytes: &file[start..start + bytes],
+        });
+        at = (start + bytes).next_multiple_of(16);
+    }
+    assert_eq!(word(&file[at + 8..at + 16]), found.len() as u64);
+    found
+}
+
+#[test]
+fn stored_answers() {
+    let package = PathBuf::from(env!("CARGO_MANIFEST_DIR"));
+    let path = package.join("../../crates/vectors/stdin");
+    let file = std::fs::read(&path).expect("the vector file");
+    let mut seen = [0; 15];
+    for (number, entry) in entries(&file).iter().enumerate() {
+        // the structural hash is no function of the library
+        if entry.sort != 2 {
+            assert!(entry.holds(), "entry {number}, type {}", entry.sort);
+            seen[usize::from(entry.sort)] += 1;
+        }
+    }
+    let tried: Vec<usize> = (0..15).filter(|&sort| seen[sort] > 0).collect();
+    assert_eq!(tried, [1, 3, 4, 5, 6, 7, 8, 9, 10, 11, 12, 13, 14]);
+}
