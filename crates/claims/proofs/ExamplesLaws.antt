@@ -36,7 +36,7 @@ use Rattle.semilinear_normalizer.specs.Collect.{joinCollected, collectAtom, col
 use Rattle.semilinear_normalizer.specs.Collect.{collectNot, isMaskedNot, collectAnd, andCoeff, collectMasked}
 use Rattle.semilinear_normalizer.specs.Collect.{collectTerms}
 use Rattle.semilinear_normalizer.specs.Normalize.{collectedForm, collectedOutcome, normalizeTree, normalizeToSemilinear}
-use Rattle.semilinear_normalizer.specs.Register.{familyOf, detectProvenance, sameSlot, newestRow}
+use Rattle.semilinear_normalizer.specs.Register.{familyOf, joinProvenance, detectProvenance, sameSlot, newestRow}
 use Rattle.semilinear_normalizer.specs.Register.{firstRow, hasTree, sharedRow, addRow, registerAtom, registerAll}
 use Rattle.group.specs.Collapse.{thirdFits, findThird, secondFits, findSecond, firstFits, findFirst}
 use Rattle.group.specs.Collapse.{collapseAt, threeTermCollapse}
@@ -70,7 +70,8 @@ unfolding trailingZeros onesIn bitAt effectiveMask reduceMask canChangeCoefficie
     emptyGroup pushEntry isLive consumed work onGroup createRow maskedTree createMasked viewRow anyBasis variableBasis
     insertBasis basesOf groupOf ungrouped addCoeff settleAt settle turnsF forIn firstF firstIn formOutcome limitOutcome
     joinCollected collectAtom collectConstant isNot operand collectNot isMaskedNot collectAnd andCoeff collectMasked
-    collectTerms collectedForm collectedOutcome normalizeTree familyOf detectProvenance isPure sameTable sameSlot
+    collectTerms collectedForm collectedOutcome normalizeTree familyOf joinProvenance detectProvenance isPure sameTable
+    sameSlot
     newestRow firstRow hasTree sharedRow addRow registerAtom registerAll hasShift bitBinary bitOf rowBits tableF
     table thirdFits findThird secondFits findSecond firstFits findFirst collapseAt threeTermCollapse refineGroup
     refineAll refineForm remasked cutAt cutMasks dropAt dropZero joinAt slotFits placeAt placeBucket insertKey keyAt

@@ -1,7 +1,7 @@
--- Tables that hold the rows of another, with the same trees under the same numbers, whatever the coefficients: what a
--- pass makes of a form, group by group.
+-- The rows of a form with the terms of groups taken off (specs/Group.antt, `ungrouped`): the same trees under the same
+-- numbers.
 use mathlib.Core.Path.{_≡_, refl, ap, ap₂, _∙_}
-use Prim.Native.Nat.{ℕ, zero, suc, _≤_, _<_}
+use Prim.Native.Nat.{ℕ, zero, suc}
 use native.Mathlib.Omega.{arith}
 use lib.Pow.{pow-pos}
 use mathlib.Core.List.{List, [], _∷_}
@@ -9,40 +9,12 @@ use mathlib.Core.Bool.{Bool, true}
 use lib.ListN.{length}
 use Rattle.record.specs.Tree.{Tree}
 use Rattle.expr.specs.Value.{value}
-use Rattle.group.specs.declared.Group.{Group}
 use Rattle.semilinear.specs.Form.{Row, rowsOk}
 use Rattle.semilinear.specs.Decompose.{Decomposed, noBasis, masked}
 use Rattle.group.specs.Group.{viewRow, ungrouped}
 use Rattle.semilinear.proofs.HoldsLaws.{bareRows}
 use Rattle.semilinear.proofs.FormLaws.{Good, good-row, rows-cons}
-use Rattle.group.proofs.WorkLaws.{rowValue, Grown}
-use Rattle.group.proofs.SettleLaws.{Settled}
-
-pub record Extends (w : ℕ) (vars : List ℕ) (before after : List Row) : Type 0 where
-  pub longer : length before ≤ length after
-  pub older : (j : ℕ) → j < length before → rowValue w vars after j ≡ rowValue w vars before j
-  pub ok : rowsOk w before ≡ true → rowsOk w after ≡ true
-
-module _ (w : ℕ) (vars : List ℕ) where
-  pub extends-trans : {l m n : List Row} → Extends w vars l m → Extends w vars m n → Extends w vars l n
-  extends-trans {l} {m} {n} p q =
-      record {
-        longer = omega (arith, p .longer, q .longer);
-        older = λ j h. q .older j (omega (arith, p .longer)) ∙ p .older j h;
-        ok = λ h. q .ok (p .ok h);
-      }
-
-  -- rows added
-  pub grown-extends : {l m : List Row} → Grown w vars l m → Extends w vars l m
-  grown-extends g = record { longer = g .longer; older = g .older; ok = g .rows-ok }
-
-  -- coefficients added
-  pub settled-extends : {le : w ≤ 64} {g : Group} {l m : List Row} {i : ℕ} → Settled w vars le g l i m
-      → Extends w vars l m
-  settled-extends {le} {g} {l} {m} s =
-      record { longer = omega (arith, s .count); older = λ j h. s .same j; ok = s .ok }
-
--- ---- terms taken off
+use Rattle.group.proofs.WorkLaws.{rowValue, Extends}
 
 -- a row without its term
 abbrev bare : Row → Row

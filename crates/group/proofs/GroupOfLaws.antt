@@ -78,7 +78,8 @@ module _ (only : Tree → Bool) (w : ℕ) (vars : List ℕ) (b : Tree) (eb : isE
   sum-no-basis x l e = simp e (omega arith)
 
   sum-same : (x : Row) (l : List Row) {c : Tree} {m : ℕ} → viewRow only w x ≡ masked c m → eqTree w c b ≡ true
-      → basisSum only w (termValue w vars) b (x ∷ l) ≡ x .coeff * value w vars (x .tree) + basisSum only w (termValue w vars) b l
+      → basisSum only w (termValue w vars) b (x ∷ l)
+      ≡ x .coeff * value w vars (x .tree) + basisSum only w (termValue w vars) b l
   unfolding basisSum shareOf
   sum-same x l e q = simp (e, q)
 

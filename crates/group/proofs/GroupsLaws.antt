@@ -1,5 +1,5 @@
--- The groups of a form share it out (specs/Group.antt), by any weight of a row that is 0 where its coefficient is: the sum
--- over all rows is that over the rows in no group and over the groups, each basis once. The value is such a sum.
+-- The groups of a form share it out (specs/Group.antt), by any weight of a row that is 0 where its coefficient is: the
+-- sum over all rows is that over the rows in no group and over the groups, each basis once. The value is such a sum.
 use mathlib.Core.Path.{_≡_, refl, sym, ap, _∙_, subst}
 use Prim.Native.Nat.{ℕ, _+_, _*_, _≤_}
 use native.Mathlib.Omega.{arith}
@@ -241,7 +241,9 @@ module _ (only : Tree → Bool) (w : ℕ) where
       ≡ sumRows w vars (ungrouped only w rows)
       + basesSum only w (termValue w vars) (basesOf only w rows []) rows
   groups-value vars rows ok =
-      let share = groups-share (termValue w vars) (λ x z. ap (λ (c : ℕ). c * value w vars (x .tree)) z ∙ omega arith) rows ok in
+      let none : (x : Row) → x .coeff ≡ 0 → termValue w vars x ≡ 0 =
+      λ x z. ap (λ (c : ℕ). c * value w vars (x .tree)) z ∙ omega arith in
+      let share = groups-share (termValue w vars) none rows ok in
       omega (arith, share, value-weight w vars rows, value-weight w vars (ungrouped only w rows))
 
   -- and every basis is an atom

@@ -7,6 +7,7 @@ pub mod WorkLaws
 pub mod BasesLaws
 pub mod GroupsLaws
 pub mod GroupOfLaws
+pub mod FitsLaws
 pub mod SettleLaws
 pub mod ExtendsLaws
 pub mod WordsLaws

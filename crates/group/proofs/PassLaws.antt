@@ -1,10 +1,10 @@
 -- What a pass knows on its way to the groups: of the form and its copied table, of the views it has read, of the bases it
 -- has found, and of a table that holds the rows without the terms that are in groups.
 use mathlib.Core.Path.{_≡_, refl, ap, sym, _∙_}
-use Prim.Native.Nat.{ℕ, _≤_, _<_}
+use Prim.Native.Nat.{ℕ, _*_, _≤_, _<_}
 use native.Mathlib.Omega.{arith}
 use mathlib.Core.List.{List, []}
-use mathlib.Core.Bool.{Bool, true}
+use mathlib.Core.Bool.{Bool, true, false}
 use lib.ListN.{length, getD, drop, length-take}
 use Rattle.record.specs.Fields.{width}
 use Rattle.record.specs.Put.{padded}
@@ -18,6 +18,7 @@ use Rattle.semilinear.specs.Items.{atomCount, afterAtoms}
 use Rattle.semilinear.specs.Valid.{atomsOk, isSemilinear}
 use Rattle.semilinear.specs.DecodeForm.{rowsOf, decodeForm, readForm}
 use Rattle.semilinear.specs.Scan.{AtomsEnd}
+use Rattle.semilinear.specs.Table.{Placed}
 use Rattle.semilinear.specs.Terms.{coeffsOf, Copied}
 use Rattle.semilinear.proofs.HoldsLaws.{holds-bare}
 use Rattle.semilinear.proofs.TermsLaws.{length-coeffs}
@@ -65,6 +66,15 @@ module _ (s : List ℕ) (bytes : IsBytes s) (ok : isSemilinear s ≡ true) where
         record { words = refl; placed = held-form k h .holds .placed },
         most,
       )
+
+-- and at the end there is room for all terms
+pub pass-room : (out coeffs : List ℕ) {made out′ : List ℕ} → Room made out′ → length out′ ≡ length out
+    → length coeffs ≡ 256 → {tab : Table} → tab ≡ tableOf made → length out ≡ 57360
+    → (tab .full ≡ false → Placed tab (length out′)) × (length out′ ≡ 57360)
+    × (tab .full ≡ false → 1 * tab .count ≤ length coeffs)
+pass-room out coeffs {out′ = out′} room long wide {tab} et e =
+    let placed : Placed tab (length out′) = rw et (room .placed) in
+    (λ _. placed, long ∙ e, λ _. omega (arith, placed .atoms-le, wide))
 
 -- ---- the rows without the terms that are in groups
 

@@ -17,7 +17,7 @@ use Rattle.semilinear.specs.Form.{Row, sumRows, rowsOk}
 use Rattle.group.specs.Group.{Entry, at, isLive, addCoeff, settleAt, settle}
 use Rattle.semilinear.proofs.FormLaws.{Good, good-row, rows-cons}
 use Rattle.group.proofs.TotalLaws.{sumTo}
-use Rattle.group.proofs.WorkLaws.{rowValue}
+use Rattle.group.proofs.WorkLaws.{rowValue, Added, added-refl, added-trans, added-eqm}
 
 pub sum-next : (f : ℕ → ℕ) (i : ℕ) → sumTo f (i + 1) ≡ sumTo f i + f i
 unfolding sumTo
@@ -37,7 +37,7 @@ module _ (w : ℕ) (vars : List ℕ) (rows : List Row) (e : Entry) where
   owed-consumed h = simp h
 
 module _ (w : ℕ) (vars : List ℕ) (le : w ≤ 64) where
-  pub add-sum : (c j : ℕ) (l : List Row) → j < length l
+  add-sum : (c j : ℕ) (l : List Row) → j < length l
       → Eqm (2 ^ w) (sumRows w vars (addCoeff w c j l)) (sumRows w vars l + c * rowValue w vars l j)
   unfolding sumRows addCoeff rowValue
   add-sum c j [] lt = let z : ⊥ = omega (arith, lt) in absurd z
@@ -49,7 +49,7 @@ module _ (w : ℕ) (vars : List ℕ) (le : w ≤ 64) where
       eqm-trans (eqm-add (eqm-refl (x .coeff * value w vars (x .tree))) (add-sum c j l (omega (arith, lt))))
       (eqm-of-eq (omega arith))
 
-  pub add-value : (c j : ℕ) (l : List Row) (k : ℕ) → rowValue w vars (addCoeff w c j l) k ≡ rowValue w vars l k
+  add-value : (c j : ℕ) (l : List Row) (k : ℕ) → rowValue w vars (addCoeff w c j l) k ≡ rowValue w vars l k
   unfolding addCoeff rowValue
   add-value c j [] k = refl
   add-value c zero (x ∷ l) zero = refl
@@ -63,7 +63,7 @@ module _ (w : ℕ) (vars : List ℕ) (le : w ≤ 64) where
   add-length c zero (x ∷ l) = refl
   add-length c (suc j) (x ∷ l) = ap suc (add-length c j l)
 
-  pub add-ok : (c j : ℕ) (l : List Row) → rowsOk w l ≡ true → rowsOk w (addCoeff w c j l) ≡ true
+  add-ok : (c j : ℕ) (l : List Row) → rowsOk w l ≡ true → rowsOk w (addCoeff w c j l) ≡ true
   unfolding addCoeff rowsOk
   add-ok c j [] e = refl
   add-ok c zero (x ∷ l) e =
@@ -73,18 +73,29 @@ module _ (w : ℕ) (vars : List ℕ) (le : w ≤ 64) where
       simp (good-row w _ g, p .1)
   add-ok c (suc j) (x ∷ l) e = let p = rows-cons w x l e in simp (good-row w x (p .0), add-ok c j l (p .1))
 
+  -- c added to row j
+  pub added-coeff : (c j : ℕ) (l : List Row) → j < length l
+      → Added w vars (c * rowValue w vars l j) l (addCoeff w c j l)
+  added-coeff c j l lt =
+      record {
+        extends =
+            record {
+              longer = omega (arith, add-length c j l);
+              older = λ k h. add-value c j l k;
+              ok = add-ok c j l;
+            };
+        sum = add-sum c j l lt;
+      }
+
   -- ---- a group settled
 
-  -- after the first i entries
-  pub record Settled (g : Group) (rows : List Row) (i : ℕ) (t : List Row) : Type 0 where
-    pub sum : Eqm (2 ^ w) (sumRows w vars t) (sumRows w vars rows + sumTo (λ (k : ℕ). owed w vars rows (at g k)) i)
-    pub same : (k : ℕ) → rowValue w vars t k ≡ rowValue w vars rows k
-    pub count : length t ≡ length rows
-    pub ok : rowsOk w rows ≡ true → rowsOk w t ≡ true
+  -- what the first i entries add to the sum
+  abbrev owedTo : Group → List Row → ℕ → ℕ
+  owedTo g rows i = sumTo (λ (k : ℕ). owed w vars rows (at g k)) i
 
   settle-turn : (g : Group) (rows : List Row) (i : ℕ) (t : List Row)
       → (isLive (at g i) ≡ true → at g i .atom < length rows)
-      → Settled g rows i t → Settled g rows (i + 1) (settleAt w g i t)
+      → Added w vars (owedTo g rows i) rows t → Added w vars (owedTo g rows (i + 1)) rows (settleAt w g i t)
   unfolding settleAt
   settle-turn g rows i t has h = go (isLive (at g i)) refl
     where
@@ -94,35 +105,24 @@ module _ (w : ℕ) (vars : List ℕ) (le : w ≤ 64) where
       c : ℕ
       c = at g i .coeff
 
-      next : sumTo (λ (k : ℕ). owed w vars rows (at g k)) (i + 1)
-          ≡ sumTo (λ (k : ℕ). owed w vars rows (at g k)) i + owed w vars rows (at g i)
+      next : owedTo g rows (i + 1) ≡ owedTo g rows i + owed w vars rows (at g i)
       next = sum-next (λ (k : ℕ). owed w vars rows (at g k)) i
 
       go : (b : Bool) → isLive (at g i) ≡ b
-          → Settled g rows (i + 1) (when b (λ _. addCoeff w (at g i .coeff) (at g i .atom) t) (λ _. t))
+          → Added w vars (owedTo g rows (i + 1)) rows
+          (when b (λ _. addCoeff w (at g i .coeff) (at g i .atom) t) (λ _. t))
       go true e =
-          record {
-            sum =
-                eqm-trans (add-sum c j t (let n = has e in omega (arith, n, h .count)))
-                (eqm-trans (eqm-add (h .sum) (eqm-of-eq (ap (λ (v : ℕ). c * v) (h .same j))))
-                (eqm-of-eq (omega (arith, next, owed-live w vars rows (at g i) e))));
-            same = λ k. add-value c j t k ∙ h .same k;
-            count = add-length c j t ∙ h .count;
-            ok = λ o. add-ok c j t (h .ok o);
-          }
-      go false e =
-          record {
-            sum = eqm-trans (h .sum) (eqm-of-eq (omega (arith, next, owed-consumed w vars rows (at g i) e)));
-            same = h .same;
-            count = h .count;
-            ok = h .ok;
-          }
+          let n = has e in
+          let same = ap (λ (v : ℕ). c * v) (h .extends .older j n) in
+          added-eqm w vars (eqm-of-eq (omega (arith, next, same, owed-live w vars rows (at g i) e)))
+          (added-trans w vars h (added-coeff c j t (omega (arith, n, h .extends .longer))))
+      go false e = added-eqm w vars (eqm-of-eq (omega (arith, next, owed-consumed w vars rows (at g i) e))) h
 
   pub settled : (g : Group) (rows : List Row)
       → ((i : ℕ) → i < g .len → isLive (at g i) ≡ true → at g i .atom < length rows)
-      → Settled g rows (g .len) (settle w g rows)
+      → Added w vars (sumTo (λ (k : ℕ). owed w vars rows (at g k)) (g .len)) rows (settle w g rows)
   unfolding settle sumTo
   settled g rows has =
-      for-ind (Settled g rows) (settleAt w g) 0 rows (g .len) (omega arith)
-      (λ i t a u h. settle-turn g rows i t (has i u) h)
-      (record { sum = eqm-of-eq (omega arith); same = λ k. refl; count = refl; ok = λ o. o })
+      for-ind (λ (i : ℕ) (t : List Row). Added w vars (owedTo g rows i) rows t) (settleAt w g) 0 rows (g .len)
+      (omega arith)
+      (λ i t a u h. settle-turn g rows i t (has i u) h) (added-refl w vars rows)

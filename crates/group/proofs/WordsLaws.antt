@@ -52,6 +52,15 @@ module _ (tab : Table) (n k : ℕ) where
   unfolding wordsOf
   constant-words = refl
 
+-- the word that says whether the table is full
+pub is-full : (made : List ℕ) → getD made 3 0 ≡ 1 → tableOf made .full ≡ true
+unfolding tableOf
+is-full made e = eq-eqb (getD made 3 0) 1 e
+
+pub not-full : (made : List ℕ) → (getD made 3 0 ≡ 1 → ⊥) → tableOf made .full ≡ false
+unfolding tableOf
+not-full made n = ne-eqb (getD made 3 0) 1 n
+
 pub set-words : (made : List ℕ) → length made ≡ 6 → (tab : Table) (f n : ℕ) → f ≡ flagOf (tab .full)
     → set (set (set (set (set made 0 (tab .at)) 1 (tab .count)) 2 (tab .records)) 3 f) 4 n
     ≡ wordsOf tab n (getD made 5 0)

@@ -1,5 +1,5 @@
 -- Laws of a pass's table without limits (specs/Group.antt): the value of a row's tree by the row's number, what stays
--- where rows are added without a term, and the atoms `basis & mask`.
+-- where the table grows, with terms or without, and the atoms `basis & mask`.
 use mathlib.Core.Path.{_≡_, refl, ap, sym, _∙_}
 use Prim.Native.Nat.{ℕ, zero, suc, _+_, _-_, _*_, _^_, _≤_, _<_}
 use native.Mathlib.Omega.{arith}
@@ -12,6 +12,8 @@ use lib.Bits.{bitAnd}
 use lib.Dec.{eqb}
 use lib.Pow.{pow-pos}
 use borrow.Author.Tests.{eq-eqb, ne-eqb}
+use Rattle.arith.specs.Congruence.{Eqm}
+use Rattle.arith.proofs.CongruenceLaws.{eqm-of-eq, eqm-refl, eqm-trans, eqm-add}
 use Rattle.arith.proofs.MaskLaws.{and-full}
 use Rattle.record.specs.Choice.{when}
 use Rattle.record.specs.Put.{padded}
@@ -58,39 +60,67 @@ rows-ok-more w (y ∷ l) x h ok =
     let p = rows-cons w y l ok in
     simp (good-row w y (p .0), rows-ok-more w l x h (p .1))
 
--- ---- rows added without a term
+-- ---- tables that grow
 
--- after has the rows of before, perhaps others without a term too, and the same sum
-pub record Grown (w : ℕ) (vars : List ℕ) (before after : List Row) : Type 0 where
+-- after has the rows of before, the same trees under the same numbers whatever the coefficients, and perhaps others
+pub record Extends (w : ℕ) (vars : List ℕ) (before after : List Row) : Type 0 where
   pub longer : length before ≤ length after
   pub older : (j : ℕ) → j < length before → rowValue w vars after j ≡ rowValue w vars before j
+  pub ok : rowsOk w before ≡ true → rowsOk w after ≡ true
+
+-- and n more in its sum, modulo 2 ^ w
+pub record Added (w : ℕ) (vars : List ℕ) (n : ℕ) (before after : List Row) : Type 0 where
+  pub extends : Extends w vars before after
+  pub sum : Eqm (2 ^ w) (sumRows w vars after) (sumRows w vars before + n)
+
+-- or the same sum, and the same coefficients: the other rows have no term
+pub record Grown (w : ℕ) (vars : List ℕ) (before after : List Row) : Type 0 where
+  pub extends : Extends w vars before after
   pub sum-same : sumRows w vars after ≡ sumRows w vars before
-  pub rows-ok : rowsOk w before ≡ true → rowsOk w after ≡ true
   pub fits : fitsTable after ≡ true → fitsTable before ≡ true
   pub coeffs : (n : ℕ) → length after ≤ n → padded n (coeffsOf after) ≡ padded n (coeffsOf before)
 
 module _ (w : ℕ) (vars : List ℕ) where
+  pub extends-refl : (l : List Row) → Extends w vars l l
+  extends-refl l = record { longer = omega arith; older = λ j h. refl; ok = λ h. h }
+
+  pub extends-trans : {l m n : List Row} → Extends w vars l m → Extends w vars m n → Extends w vars l n
+  extends-trans {l} {m} {n} p q =
+      record {
+        longer = omega (arith, p .longer, q .longer);
+        older = λ j h. q .older j (omega (arith, p .longer)) ∙ p .older j h;
+        ok = λ h. q .ok (p .ok h);
+      }
+
+  pub added-refl : (l : List Row) → Added w vars 0 l l
+  added-refl l = record { extends = extends-refl l; sum = eqm-of-eq (omega arith) }
+
+  pub added-trans : {n m : ℕ} {a b c : List Row} → Added w vars n a b → Added w vars m b c → Added w vars (n + m) a c
+  added-trans {n} {m} p q =
+      record {
+        extends = extends-trans (p .extends) (q .extends);
+        sum = eqm-trans (q .sum) (eqm-trans (eqm-add (p .sum) (eqm-refl m)) (eqm-of-eq (omega arith)));
+      }
+
+  pub added-eqm : {n m : ℕ} {a b : List Row} → Eqm (2 ^ w) n m → Added w vars n a b → Added w vars m a b
+  added-eqm {n} {m} {a} {b} e p =
+      record { extends = p .extends; sum = eqm-trans (p .sum) (eqm-add (eqm-refl (sumRows w vars a)) e) }
+
   pub grown-refl : (l : List Row) → Grown w vars l l
   grown-refl l =
-      record {
-        longer = omega arith;
-        older = λ j h. refl;
-        sum-same = refl;
-        rows-ok = λ h. h;
-        fits = λ h. h;
-        coeffs = λ n h. refl;
-      }
+      record { extends = extends-refl l; sum-same = refl; fits = λ h. h; coeffs = λ n h. refl }
 
   pub grown-trans : {l m n : List Row} → Grown w vars l m → Grown w vars m n → Grown w vars l n
   grown-trans {l} {m} {n} p q =
       record {
-        longer = omega (arith, p .longer, q .longer);
-        older = λ j h. q .older j (omega (arith, p .longer)) ∙ p .older j h;
+        extends = extends-trans (p .extends) (q .extends);
         sum-same = q .sum-same ∙ p .sum-same;
-        rows-ok = λ h. q .rows-ok (p .rows-ok h);
         fits = λ h. p .fits (q .fits h);
-        coeffs = λ k h. q .coeffs k h ∙ p .coeffs k (omega (arith, q .longer, h));
+        coeffs = λ k h. q .coeffs k h ∙ p .coeffs k (omega (arith, q .extends .longer, h));
       }
+
+  pub grown-added : {l m : List Row} → Grown w vars l m → Added w vars 0 l m
+  grown-added g = record { extends = g .extends; sum = eqm-of-eq (omega (arith, g .sum-same)) }
 
   module _ (p : ℕ) (t : Tree) (l : List Row) where
     pub length-create : length (createRow p t l) ≡ length l + 1
@@ -106,10 +136,13 @@ module _ (w : ℕ) (vars : List ℕ) where
     grown-create hp ht =
         let x : Row = record { provenance = p; tree = t; coeff = 0 } in
         record {
-          longer = omega (arith, length-create);
-          older = row-value-before w vars l (x ∷ []);
+          extends =
+              record {
+                longer = omega (arith, length-create);
+                older = row-value-before w vars l (x ∷ []);
+                ok = rows-ok-more w l x (good-row w x (record { known = hp; atom = ht; fits = pow-pos w }));
+              };
           sum-same = sum-rows-more w vars l x refl;
-          rows-ok = rows-ok-more w l x (good-row w x (record { known = hp; atom = ht; fits = pow-pos w }));
           fits = fits-less l (x ∷ []);
           coeffs = λ n h. coeffs-create n p t l (omega (arith, length-create, h));
         }

@@ -46,17 +46,17 @@ span-atom w p t =
     rw (n, drop-at head t 16 (length-record [] 33 p (size t) w (structuralHash (decode t)))) (take-length t)
 
 -- the table and its bytes where the atom is appended
-record Made (w p : ℕ) (t : List ℕ) (tab : Table) (out : List ℕ) (r : Table) (wrote : List ℕ) : Type 0 where
+record AtomMade (w p : ℕ) (t : List ℕ) (tab : Table) (out : List ℕ) (r : Table) (wrote : List ℕ) : Type 0 where
   table-is : r ≡ moreAtoms tab t
   bytes-are : wrote ≡ put out (tab .at) (atomSpan w p t)
   within : fitsMore tab t ≡ true
 
 made-of : (w p : ℕ) (t : List ℕ) (tab : Table) (out : List ℕ) → Placed tab (length out) → sized t ≡ true
     → tab .full ≡ false → {r : Table} {wrote : List ℕ} → storeOf r wrote ≡ createAtom w p t (storeOf tab out)
-    → r .full ≡ false → Made w p t tab out r wrote
+    → r .full ≡ false → AtomMade w p t tab out r wrote
 unfolding fullTable
 made-of w p t tab out h ok f =
-    create-cases w p t tab out h ok (λ r wrote. r .full ≡ false → Made w p t tab out r wrote)
+    create-cases w p t tab out h ok (λ r wrote. r .full ≡ false → AtomMade w p t tab out r wrote)
     (λ g _. false-true (sym f ∙ g)) (λ _ _ g. false-true (sym g))
     (λ _ g _. record { table-is = refl; bytes-are = refl; within = g })
 
@@ -117,7 +117,7 @@ module _ (w : ℕ) (tab : Table) (index out : List ℕ) (h : Indexed w tab index
         }
 
     -- where it is not full there is room for the words of an atom more
-    made-here : r .full ≡ false → Made w p t tab out r wrote
+    made-here : r .full ≡ false → AtomMade w p t tab out r wrote
     made-here = made-of w p t tab out (h .holds .placed) (sized-accepted w t ok) (h .more) made
 
     pub room-more : r .full ≡ false → {key : List ℕ} → key ≡ keyOf (decode t)
@@ -135,7 +135,7 @@ module _ (w : ℕ) (tab : Table) (index out : List ℕ) (h : Indexed w tab index
       abbrev after : List ℕ
       after = put index (11 * n) (entryWords c hash (tab .at + 16) (r .at) key)
 
-      m : Made w p t tab out r wrote
+      m : AtomMade w p t tab out r wrote
       m = made-here left
 
       end-is : r .at ≡ tab .at + 16 + length t

@@ -144,8 +144,8 @@ module _ (w : ℕ) (vars : List ℕ) (hw : w ≤ 64) where
 
   -- ---- the descent
 
-  Kept : Tree → Type 0
-  Kept t = (c : ℕ) → c < 2 ^ 64 → HasValue (collectTerms w c t) (c * v t)
+  CollectsValue : Tree → Type 0
+  CollectsValue t = (c : ℕ) → c < 2 ^ 64 → HasValue (collectTerms w c t) (c * v t)
 
   closed-one : (k a : ℕ) (t : Tree) → isExpr (Unary k a t) ≡ true → hasVarDep t ≡ false
       → hasVarDep (Unary k a t) ≡ false
@@ -154,8 +154,8 @@ module _ (w : ℕ) (vars : List ℕ) (hw : w ≤ 64) where
       let u = unary-of-expr k a t e in
       simp (ne-eqb k 1 (omega (arith, u .low)), h)
 
-  kept-one : (k a : ℕ) (t : Tree) → isExpr (Unary k a t) ≡ true → Kept t → Kept (Unary k a t)
-  unfolding Kept collectTerms
+  kept-one : (k a : ℕ) (t : Tree) → isExpr (Unary k a t) ≡ true → CollectsValue t → CollectsValue (Unary k a t)
+  unfolding CollectsValue collectTerms
   kept-one k a t e below c hc =
       none-when c (v (Unary k a t)) _
       (has-when (not (hasVarDep t)) _ _ (c * v (Unary k a t))
@@ -170,9 +170,9 @@ module _ (w : ℕ) (vars : List ℕ) (hw : w ≤ 64) where
   closed-two k l r low h = simp (ne-eqb k 1 (omega arith), h)
 
   -- a product whose side m is variable-free
-  kept-factor : (m t : Tree) (c : ℕ) → hasVarDep m ≡ false → Kept t
+  kept-factor : (m t : Tree) (c : ℕ) → hasVarDep m ≡ false → CollectsValue t
       → HasValue (collectTerms w (modMul c (value w [] m) w) t) (c * (v m * v t))
-  unfolding Kept
+  unfolding CollectsValue
   kept-factor m t c hm below =
       has-eqm _
       (eqm-trans (eqm-mul-r (v t) (mod-mul-eqm c (value w [] m) w hw))
@@ -180,7 +180,7 @@ module _ (w : ℕ) (vars : List ℕ) (hw : w ≤ 64) where
       (mul-assoc c (value w [] m) (v t) ∙ ap (λ (x : ℕ). c * (x * v t)) (sym (value-closed w vars m hm)))))
       (below (modMul c (value w [] m) w) (word-lt w _ hw (mod-mul-lt c (value w [] m) w hw)))
 
-  kept-mul : (l r : Tree) (c : ℕ) → Kept l → Kept r
+  kept-mul : (l r : Tree) (c : ℕ) → CollectsValue l → CollectsValue r
       → HasValue
       (when (not (hasVarDep l)) (λ _. collectTerms w (modMul c (value w [] l) w) r)
       (λ _. when (not (hasVarDep r)) (λ _. collectTerms w (modMul c (value w [] r) w) l) (λ _. nonlinear)))
@@ -193,14 +193,14 @@ module _ (w : ℕ) (vars : List ℕ) (hw : w ≤ 64) where
       (λ f. has-nonlinear _)))
 
   -- And, Or and Xor without Add, Mul and Neg
-  kept-bitwise : (k : ℕ) (l r : Tree) (c : ℕ) → c < 2 ^ 64 → 4 ≤ k → k < 7 → Kept l → Kept r
+  kept-bitwise : (k : ℕ) (l r : Tree) (c : ℕ) → c < 2 ^ 64 → 4 ≤ k → k < 7 → CollectsValue l → CollectsValue r
       → HasValue
       (when (eqb k 4) (λ _. collectAnd w c l r)
       (λ _. when (not (hasVarDep l)) (λ _. collectMasked w k c (collectTerms w c r) r l)
       (λ _. when (not (hasVarDep r)) (λ _. collectMasked w k c (collectTerms w c l) l r)
       (λ _. collectAtom c (Binary k l r)))))
       (c * v (Binary k l r))
-  unfolding Kept
+  unfolding CollectsValue
   kept-bitwise k l r c hc low high below-l below-r =
       has-when (eqb k 4) _ _ (c * v (Binary k l r))
       (λ e. has-eq _ (ap (λ (x : ℕ). c * x) (value-and w vars k l r (eqb-true k 4 e))) (has-and c l r hc))
@@ -214,8 +214,9 @@ module _ (w : ℕ) (vars : List ℕ) (hw : w ≤ 64) where
       (has-masked k c (collectTerms w c l) l r hc (not-true _ g) (below-l c hc)))
       (λ g. has-atom c (Binary k l r))))
 
-  kept-two : (k : ℕ) (l r : Tree) → isExpr (Binary k l r) ≡ true → Kept l → Kept r → Kept (Binary k l r)
-  unfolding Kept collectTerms
+  kept-two : (k : ℕ) (l r : Tree) → isExpr (Binary k l r) ≡ true → CollectsValue l → CollectsValue r
+      → CollectsValue (Binary k l r)
+  unfolding CollectsValue collectTerms
   kept-two k l r e below-l below-r c hc =
       let b = binary-of-expr k l r e in
       let x : ℕ = c * v (Binary k l r) in
@@ -232,7 +233,7 @@ module _ (w : ℕ) (vars : List ℕ) (hw : w ≤ 64) where
 
   -- what is collected of an expression has its value times the coefficient
   pub collect-value : (t : Tree) → isExpr t ≡ true → (c : ℕ) → c < 2 ^ 64 → HasValue (collectTerms w c t) (c * v t)
-  unfolding Kept collectTerms hasKind
+  unfolding CollectsValue collectTerms hasKind
   collect-value (Constant u) e c hc = none-when c (v (Constant u)) _ (has-constant c (Constant u) refl)
   collect-value (Variable i) e c hc = none-when c (v (Variable i)) _ (has-atom c (Variable i))
   collect-value (Unary k a t) e c hc =

@@ -111,14 +111,14 @@ module _ (w : ℕ) (hw : w ≤ 64) where
 
   -- ---- the descent
 
-  Kept : Tree → Type 0
-  Kept t = (c : ℕ) → c < 2 ^ w → GoodCollected (collectTerms w c t)
+  CollectsGood : Tree → Type 0
+  CollectsGood t = (c : ℕ) → c < 2 ^ w → GoodCollected (collectTerms w c t)
 
   none-when : (c : ℕ) (y : Collected) → GoodCollected y → GoodCollected (when (eqb c 0) (λ _. linear 0 []) (λ _. y))
   none-when c y h = when-both GoodCollected (eqb c 0) (linear 0 []) y (λ e. good-none) (λ e. h)
 
-  kept-one : (k a : ℕ) (t : Tree) → isExpr (Unary k a t) ≡ true → Kept t → Kept (Unary k a t)
-  unfolding Kept collectTerms
+  kept-one : (k a : ℕ) (t : Tree) → isExpr (Unary k a t) ≡ true → CollectsGood t → CollectsGood (Unary k a t)
+  unfolding CollectsGood collectTerms
   kept-one k a t e below c hc =
       none-when c _
       (when-both GoodCollected (not (hasVarDep t)) _ _ (λ h. good-constant c (Unary k a t))
@@ -127,13 +127,13 @@ module _ (w : ℕ) (hw : w ≤ 64) where
       (λ p. good-atom c (Unary k a t) hc (bitwise-one k a t e (eqb-false k 8 n) (not-false _ h) p)))))
 
   -- And, Or and Xor without Add, Mul and Neg
-  kept-bitwise : (k : ℕ) (l r : Tree) (c : ℕ) → c < 2 ^ w → 4 ≤ k → k < 7 → Sides l r → Kept l → Kept r
+  kept-bitwise : (k : ℕ) (l r : Tree) (c : ℕ) → c < 2 ^ w → 4 ≤ k → k < 7 → Sides l r → CollectsGood l → CollectsGood r
       → GoodCollected
       (when (eqb k 4) (λ _. collectAnd w c l r)
       (λ _. when (not (hasVarDep l)) (λ _. collectMasked w k c (collectTerms w c r) r l)
       (λ _. when (not (hasVarDep r)) (λ _. collectMasked w k c (collectTerms w c l) l r)
       (λ _. collectAtom c (Binary k l r)))))
-  unfolding Kept
+  unfolding CollectsGood
   kept-bitwise k l r c hc low high s below-l below-r =
       when-both GoodCollected (eqb k 4) _ _ (λ e. good-and c l r hc s)
       (λ e. when-both GoodCollected (not (hasVarDep l)) _ _
@@ -142,8 +142,9 @@ module _ (w : ℕ) (hw : w ≤ 64) where
       (λ g. good-masked k c (collectTerms w c l) l r (below-l c hc) (left-atom l r s (not-false _ f)))
       (λ g. good-atom c (Binary k l r) hc (sides-atom k l r low high s))))
 
-  kept-two : (k : ℕ) (l r : Tree) → isExpr (Binary k l r) ≡ true → Kept l → Kept r → Kept (Binary k l r)
-  unfolding Kept collectTerms
+  kept-two : (k : ℕ) (l r : Tree) → isExpr (Binary k l r) ≡ true → CollectsGood l → CollectsGood r
+      → CollectsGood (Binary k l r)
+  unfolding CollectsGood collectTerms
   kept-two k l r e below-l below-r c hc =
       let b = binary-of-expr k l r e in
       none-when c _
@@ -160,7 +161,7 @@ module _ (w : ℕ) (hw : w ≤ 64) where
 
   -- what is collected of an expression is good
   pub collect-good : (t : Tree) → isExpr t ≡ true → (c : ℕ) → c < 2 ^ w → GoodCollected (collectTerms w c t)
-  unfolding Kept collectTerms hasKind hasArith
+  unfolding CollectsGood collectTerms hasKind hasArith
   collect-good (Constant u) e c hc = none-when c _ (good-constant c (Constant u))
   collect-good (Variable i) e c hc =
       none-when c _ (good-atom c (Variable i) hc (record { expr = e; variable = refl; plain = refl }))

@@ -23,7 +23,7 @@ use Rattle.semilinear.specs.PassOutcome.{limitOutcome}
 use Rattle.semilinear_normalizer.specs.Collect.{joinCollected, collectAtom, collectConstant, isNot, operand}
 use Rattle.semilinear_normalizer.specs.Collect.{collectNot, isMaskedNot, collectAnd, andCoeff, collectMasked}
 use Rattle.semilinear_normalizer.specs.Collect.{collectTerms}
-use Rattle.semilinear_normalizer.specs.Register.{familyOf, detectProvenance, sameSlot}
+use Rattle.semilinear_normalizer.specs.Register.{familyOf, joinProvenance, detectProvenance, sameSlot}
 use Rattle.semilinear_normalizer.specs.Register.{newestRow, firstRow, hasTree, sharedRow, addRow, registerAtom}
 use Rattle.semilinear_normalizer.specs.Register.{registerAll}
 use Rattle.semilinear_normalizer.specs.Normalize.{collectedForm, collectedOutcome, normalizeTree}
@@ -163,6 +163,6 @@ unfolding bitmask wrappingMul modAdd modMul modNeg bitAt eqList sizeOf recordByt
     mixHash tagHash varHash structuralHash termCount atomBytes atomsBytes termBytes termsBytes sumBytes encodeForm
     eqTree treeRecords fitsTable refusalOf formOutcome joinCollected collectAtom collectConstant isNot operand
     collectNot isMaskedNot collectAnd andCoeff collectMasked collectTerms bitBinary bitOf rowBits tableF table
-    familyOf detectProvenance isPure sameTable sameSlot newestRow firstRow hasTree sharedRow addRow registerAtom
-    registerAll collectedForm limitOutcome collectedOutcome normalizeTree
+    familyOf joinProvenance detectProvenance isPure sameTable sameSlot newestRow firstRow hasTree sharedRow addRow
+    registerAtom registerAll collectedForm limitOutcome collectedOutcome normalizeTree
 examples-hold = refl

@@ -21,7 +21,7 @@ use Rattle.semilinear.specs.Form.{Row, sumRows, rowsOk}
 use Rattle.semilinear.proofs.FormLaws.{Good, good-row, rows-cons}
 use Rattle.semilinear.proofs.AtomLaws.{Atom, atom-tree, tree-atom, eq-of-eq-tree}
 use Rattle.semilinear_normalizer.specs.Collect.{Emitted}
-use Rattle.semilinear_normalizer.specs.Register.{familyOf, detectProvenance, sameSlot, newestRow}
+use Rattle.semilinear_normalizer.specs.Register.{familyOf, joinProvenance, detectProvenance, sameSlot, newestRow}
 use Rattle.semilinear_normalizer.specs.Register.{firstRow, hasTree, sharedRow, addRow, registerAtom, registerAll}
 use Rattle.semilinear_normalizer.proofs.CollectLaws.{sumEmitted}
 use Rattle.semilinear_normalizer.proofs.EmittedLaws.{GoodEmitted, AllGood}
@@ -37,7 +37,7 @@ family-le f x y h = go ((eqb x f || eqb x 4) && (eqb y f || eqb y 4))
     go false = omega arith
 
 provenance-le : (t : Tree) → detectProvenance t ≤ 4
-unfolding detectProvenance
+unfolding joinProvenance detectProvenance
 provenance-le (Constant v) = omega arith
 provenance-le (Variable i) = omega arith
 provenance-le (Unary k a t) = go (eqb k 7)

@@ -18,10 +18,10 @@ use Rattle.record.proofs.LeafLaws.{leaf-both}
 use Rattle.semilinear.specs.Form.{Row, treeRecords, fitsTable}
 use Rattle.semilinear.proofs.HoldsLaws.{bareRows}
 use Rattle.semilinear_normalizer.specs.Collect.{Emitted}
-use Rattle.semilinear_normalizer.specs.Register.{familyOf, detectProvenance, sharedRow, addRow, registerAtom}
-use Rattle.semilinear_normalizer.specs.Register.{registerAll}
+use Rattle.semilinear_normalizer.specs.Register.{familyOf, joinProvenance, detectProvenance, sharedRow, addRow}
+use Rattle.semilinear_normalizer.specs.Register.{registerAtom, registerAll}
 use Rattle.semilinear_normalizer.specs.Spots.{spotAt, spotsIn}
-use Rattle.semilinear_normalizer.specs.Index.{joinProvenance, rowOf}
+use Rattle.semilinear_normalizer.specs.Index.{rowOf}
 
 -- ---- the family of a root
 
@@ -54,7 +54,7 @@ module _ (k a : ℕ) (t : Tree) where
 
 pub provenance-two : (k : ℕ) (l r : Tree)
     → joinProvenance k (detectProvenance l) (detectProvenance r) ≡ detectProvenance (Binary k l r)
-unfolding joinProvenance detectProvenance
+unfolding detectProvenance
 provenance-two k l r = refl
 
 -- ---- a coefficient that grows, or a row more

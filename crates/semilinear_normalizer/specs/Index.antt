@@ -17,11 +17,11 @@ use Rattle.expr.specs.Vars.{sameVars}
 use Rattle.expr.specs.Hash.{structuralHash}
 use Rattle.truth.specs.Key.{notPure, keyOf}
 use Rattle.semilinear.specs.declared.table.Table.{Table}
-use Rattle.semilinear.specs.Form.{andFamily, orFamily, xorFamily, mixedFamily, Row, fitsTable}
+use Rattle.semilinear.specs.Form.{Row, fitsTable}
 use Rattle.semilinear.specs.Table.{Holds, Clean}
 use Rattle.record.specs.Loop.{firstIn}
 use Rattle.semilinear_normalizer.specs.Collect.{Emitted}
-use Rattle.semilinear_normalizer.specs.Register.{familyOf, detectProvenance}
+use Rattle.semilinear_normalizer.specs.Register.{detectProvenance}
 use Rattle.semilinear_normalizer.specs.Spots.{spanOf}
 
 -- the bytes of atom j's tree
@@ -86,13 +86,6 @@ pub record Built (w : ℕ) (t : Tree) (before after : List ℕ) (r : ℕ) : Type
   pub same-length : length after ≡ length before
   pub accepted : treeRefusal w (take r after) ≡ 0
   pub tree-is : decode (take r after) ≡ t
-
--- the family of a root of kind k over two children of these families
-unfoldable pub joinProvenance : ℕ → ℕ → ℕ → ℕ
-joinProvenance k x y =
-    when (eqb k 4) (λ _. familyOf andFamily x y)
-    (λ _. when (eqb k 5) (λ _. familyOf orFamily x y)
-    (λ _. when (eqb k 6) (λ _. familyOf xorFamily x y) (λ _. mixedFamily)))
 
 -- ---- the searches
 

@@ -21,16 +21,19 @@ unfoldable pub familyOf : ℕ → ℕ → ℕ → ℕ
 familyOf f x y =
     when ((eqb x f || eqb x mixedFamily) && (eqb y f || eqb y mixedFamily)) (λ _. f) (λ _. mixedFamily)
 
+-- the family of a root of kind k over two children of these families
+unfoldable pub joinProvenance : ℕ → ℕ → ℕ → ℕ
+joinProvenance k x y =
+    when (eqb k 4) (λ _. familyOf andFamily x y)
+    (λ _. when (eqb k 5) (λ _. familyOf orFamily x y)
+    (λ _. when (eqb k 6) (λ _. familyOf xorFamily x y) (λ _. mixedFamily)))
+
 -- And over And and Mixed is And, likewise Or and Xor; a Not is Not; all else is Mixed
 unfoldable pub detectProvenance : Tree → ℕ
 detectProvenance (Constant v) = mixedFamily
 detectProvenance (Variable i) = mixedFamily
 detectProvenance (Unary k a t) = when (eqb k 7) (λ _. notFamily) (λ _. mixedFamily)
-detectProvenance (Binary k l r) =
-    when (eqb k 4) (λ _. familyOf andFamily (detectProvenance l) (detectProvenance r))
-    (λ _. when (eqb k 5) (λ _. familyOf orFamily (detectProvenance l) (detectProvenance r))
-    (λ _. when (eqb k 6) (λ _. familyOf xorFamily (detectProvenance l) (detectProvenance r))
-    (λ _. mixedFamily)))
+detectProvenance (Binary k l r) = joinProvenance k (detectProvenance l) (detectProvenance r)
 
 -- the same hash and the same variables
 unfoldable pub sameSlot : Tree → Tree → Bool

@@ -19,12 +19,13 @@ ghost use Rattle.expr.specs.Refusal.{treeRefusal};
 ghost use Rattle.expr.specs.Hash.{structuralHash};
 ghost use Rattle.truth.specs.Key.{keyOf};
 ghost use Rattle.semilinear.specs.Form.{mixedFamily};
-ghost use Rattle.semilinear_normalizer.specs.Register.{familyOf, detectProvenance};
-ghost use Rattle.semilinear_normalizer.specs.Register.{registerAtom, registerAll};
+ghost use Rattle.semilinear_normalizer.specs.Register.{familyOf, joinProvenance};
+ghost use Rattle.semilinear_normalizer.specs.Register.{detectProvenance, registerAtom};
+ghost use Rattle.semilinear_normalizer.specs.Register.{registerAll};
 ghost use Rattle.semilinear_normalizer.specs.Spots.{Accepted, SpotsOk, spotTree, spotAt};
 ghost use Rattle.semilinear_normalizer.specs.Spots.{spotsIn};
 ghost use Rattle.semilinear_normalizer.specs.Index.{Indexed, RoomMore, Registers, Built};
-ghost use Rattle.semilinear_normalizer.specs.Index.{rowsIn, emitted, rowOf, joinProvenance};
+ghost use Rattle.semilinear_normalizer.specs.Index.{rowsIn, emitted, rowOf};
 
 // Whether a child of family x belongs to the family f or is Mixed.
 fn in_family(f: u8, x: u8) -> bool

@@ -20,61 +20,22 @@ use Rattle.expr.proofs.ValueLaws.{value-lt}
 use Rattle.semilinear.specs.Form.{Row, sumRows, rowsOk}
 use Rattle.group.specs.Group.{createMasked, addCoeff}
 use Rattle.semilinear.proofs.AtomLaws.{Atom, atom-tree}
-use Rattle.group.proofs.WorkLaws.{rowValue, Grown, length-masked, row-value-masked, grown-masked}
-use Rattle.group.proofs.SettleLaws.{add-sum, add-value, add-length, add-ok}
-use Rattle.group.proofs.ExtendsLaws.{Extends}
+use Rattle.group.proofs.WorkLaws.{rowValue, Added, added-refl, added-trans, added-eqm, Grown, grown-added}
+use Rattle.group.proofs.WorkLaws.{length-masked, row-value-masked, grown-masked}
+use Rattle.group.proofs.SettleLaws.{added-coeff}
 use Rattle.structure_recovery.specs.RecoverStructure.{rowWith, withBare}
 use Rattle.structure_recovery.specs.Carried.{Carried}
 use Rattle.structure_recovery.specs.CoalesceTerms.{carriedRows}
 use Rattle.structure_recovery.proofs.BareLaws.{with-bare}
 use Rattle.structure_recovery.proofs.CarriedLaws.{carriedSum, bitsBelow, below-cons}
 
--- after has the rows of before, perhaps others too, and n more in its sum
-pub record Added (w : ℕ) (vars : List ℕ) (n : ℕ) (before after : List Row) : Type 0 where
-  pub longer : length before ≤ length after
-  pub older : (j : ℕ) → j < length before → rowValue w vars after j ≡ rowValue w vars before j
-  pub sum : Eqm (2 ^ w) (sumRows w vars after) (sumRows w vars before + n)
-  pub rows-ok : rowsOk w before ≡ true → rowsOk w after ≡ true
-
 module _ (w : ℕ) (hw : w ≤ 64) (vars : List ℕ) where
-  pub added-refl : (l : List Row) → Added w vars 0 l l
-  added-refl l =
-      record { longer = omega arith; older = λ j h. refl; sum = eqm-of-eq (omega arith); rows-ok = λ h. h }
-
-  pub added-trans : {n m : ℕ} {a b c : List Row} → Added w vars n a b → Added w vars m b c → Added w vars (n + m) a c
-  added-trans {n} {m} p q =
-      record {
-        longer = omega (arith, p .longer, q .longer);
-        older = λ j h. q .older j (omega (arith, p .longer)) ∙ p .older j h;
-        sum =
-            eqm-trans (q .sum) (eqm-trans (eqm-add (p .sum) (eqm-refl m)) (eqm-of-eq (omega arith)));
-        rows-ok = λ h. q .rows-ok (p .rows-ok h);
-      }
-
-  pub added-eqm : {n m : ℕ} {a b : List Row} → Eqm (2 ^ w) n m → Added w vars n a b → Added w vars m a b
-  added-eqm {n} {m} {a} {b} e p =
-      record {
-        longer = p .longer;
-        older = p .older;
-        sum = eqm-trans (p .sum) (eqm-add (eqm-refl (sumRows w vars a)) e);
-        rows-ok = p .rows-ok;
-      }
-
-  pub added-extends : {n : ℕ} {a b : List Row} → Added w vars n a b → Extends w vars a b
-  added-extends p = record { longer = p .longer; older = p .older; ok = p .rows-ok }
-
   -- a term of row j, after rows were added without one
   pub added-term : (c j : ℕ) (a b : List Row) → Grown w vars a b → j < length b
       → Added w vars (c * rowValue w vars b j) a (addCoeff w c j b)
   added-term c j a b g lt =
-      record {
-        longer = omega (arith, g .longer, add-length w vars hw c j b);
-        older = λ k h. add-value w vars hw c j b k ∙ g .older k h;
-        sum =
-            eqm-trans (add-sum w vars hw c j b lt)
-            (eqm-of-eq (ap (λ (n : ℕ). n + c * rowValue w vars b j) (g .sum-same)));
-        rows-ok = λ h. add-ok w vars hw c j b (g .rows-ok h);
-      }
+      added-eqm w vars (eqm-of-eq (omega arith))
+      (added-trans w vars (grown-added w vars g) (added-coeff w vars hw c j b lt))
 
   module _ (b : Tree) (hb : Atom b) where
     -- one new term, of the basis alone
@@ -84,14 +45,14 @@ module _ (w : ℕ) (hw : w ≤ 64) (vars : List ℕ) where
         let r = with-bare w vars b hb rows ok in
         let all : bitAnd (value w vars b) m ≡ value w vars b =
         ap (bitAnd (value w vars b)) e ∙ and-full w (value w vars b) (value-lt w vars b) in
-        added-eqm (eqm-of-eq (ap (λ (n : ℕ). c * n) (r .bare-value ∙ sym all)))
+        added-eqm w vars (eqm-of-eq (ap (λ (n : ℕ). c * n) (r .bare-value ∙ sym all)))
         (added-term c (rowWith w b 0 rows) rows (withBare w b rows) (r .grown) (r .bare-lt))
 
     -- and of the basis under a mask
     added-masked : (c m : ℕ) (rows : List Row) → m < 2 ^ w
         → Added w vars (c * bitAnd (value w vars b) m) rows (addCoeff w c (length rows) (createMasked w b m rows))
     added-masked c m rows hm =
-        added-eqm (eqm-of-eq (ap (λ (n : ℕ). c * n) (row-value-masked w vars b m rows hm)))
+        added-eqm w vars (eqm-of-eq (ap (λ (n : ℕ). c * n) (row-value-masked w vars b m rows hm)))
         (added-term c (length rows) rows (createMasked w b m rows)
         (grown-masked w vars b m rows (atom-tree b hb) (lt-of-lt-of-le hm (pow-mono hw)))
         (omega (arith, length-masked w vars b m rows)))
@@ -112,7 +73,7 @@ module _ (w : ℕ) (hw : w ≤ 64) (vars : List ℕ) where
     pub added-carried : (l : List Carried) → bitsBelow (2 ^ w) l ≡ true → (rows : List Row) → rowsOk w rows ≡ true
         → Added w vars (carriedSum (value w vars b) l) rows (carriedRows w b l rows)
     unfolding carriedSum carriedRows
-    added-carried [] small rows ok = added-refl rows
+    added-carried [] small rows ok = added-refl w vars rows
     added-carried (y ∷ l) small rows ok =
         let p = below-cons (2 ^ w) y l small in
         go (p .0) (added-carried l (p .1)) (eqb (y .mask) (2 ^ w - 1)) refl
@@ -127,8 +88,8 @@ module _ (w : ℕ) (hw : w ≤ 64) (vars : List ℕ) where
         go lt below true e =
             let a = added-bare (y .coeff) (y .mask) rows ok (eqb-true (y .mask) (2 ^ w - 1) e) in
             subst (Added w vars (y .coeff * bitAnd v (y .mask) + carriedSum v l) rows) (sym (carried-first y l rows e))
-            (added-trans a (below _ (a .rows-ok ok)))
+            (added-trans w vars a (below _ (a .extends .ok ok)))
         go lt below false e =
             let a = added-masked (y .coeff) (y .mask) rows lt in
             subst (Added w vars (y .coeff * bitAnd v (y .mask) + carriedSum v l) rows) (sym (carried-other y l rows e))
-            (added-trans a (below _ (a .rows-ok ok)))
+            (added-trans w vars a (below _ (a .extends .ok ok)))

@@ -76,7 +76,9 @@ unfoldable pub bitSum : List ℕ → List ℕ → ℕ → ℕ → ℕ
 bitSum coeffs masks p n = sumTo (λ k. bitAt (getD masks k 0) p * getD coeffs k 0) n
 
 module _ (x : ℕ) (coeffs masks : List ℕ) (len : ℕ) where
-  pub low-total-next : (p : ℕ) → lowTotal x coeffs masks len (p + 1) ≡ lowTotal x coeffs masks len p + bitSum coeffs masks p len * bitAnd x (2 ^ p)
+  pub low-total-next : (p : ℕ)
+      → lowTotal x coeffs masks len (p + 1)
+      ≡ lowTotal x coeffs masks len p + bitSum coeffs masks p len * bitAnd x (2 ^ p)
   unfolding lowTotal bitSum
   low-total-next p =
       sum-scaled
@@ -107,7 +109,8 @@ module _ (x : ℕ) (g : Group) where
 
 -- the coefficient of a bit, modulo 2 ^ w
 module _ (w : ℕ) (hw : w ≤ 64) (coeffs masks : List ℕ) (len p : ℕ) where
-  bit-turn : (i s : ℕ) → Eqm (2 ^ w) s (bitSum coeffs masks p i) → Eqm (2 ^ w) (bitCoeffAt w coeffs masks p i s) (bitSum coeffs masks p (i + 1))
+  bit-turn : (i s : ℕ) → Eqm (2 ^ w) s (bitSum coeffs masks p i)
+      → Eqm (2 ^ w) (bitCoeffAt w coeffs masks p i s) (bitSum coeffs masks p (i + 1))
   unfolding bitCoeffAt bitSum
   bit-turn i s h = go (bitAt (getD masks i 0) p) refl (bit-lt (getD masks i 0) p)
     where
@@ -155,12 +158,16 @@ pub and-bits : (w x m : ℕ) → m < 2 ^ w → bitAnd x m ≡ sumTo (λ k. bitAt
 and-bits w x m h = ap (bitAnd x) (sym (mod-eq-of-lt h)) ∙ low-bits x m w
 
 module _ (w : ℕ) (hw : w ≤ 64) (x : ℕ) (coeffs masks : List ℕ) (len : ℕ) where
-  low-total-bits : (p : ℕ) → Eqm (2 ^ w) (lowTotal x coeffs masks len p) (sumTo (λ k. bitCoeff w coeffs masks len k * (bitAt x k * 2 ^ k)) p)
+  low-total-bits : (p : ℕ)
+      → Eqm (2 ^ w) (lowTotal x coeffs masks len p)
+      (sumTo (λ k. bitCoeff w coeffs masks len k * (bitAt x k * 2 ^ k)) p)
   unfolding sumTo
   low-total-bits zero = eqm-of-eq (low-total-none x coeffs masks len)
   low-total-bits (suc p) =
       eqm-trans
-      (eqm-of-eq (ap (lowTotal x coeffs masks len) (let e : suc p ≡ p + 1 = omega arith in e) ∙ low-total-next x coeffs masks len p))
+      (eqm-of-eq
+      (ap (lowTotal x coeffs masks len) (let e : suc p ≡ p + 1 = omega arith in e)
+      ∙ low-total-next x coeffs masks len p))
       (eqm-add (low-total-bits p)
       (eqm-trans (eqm-mul-r (bitAnd x (2 ^ p)) (eqm-sym (bit-coeff w hw coeffs masks len p)))
       (eqm-of-eq (ap (λ (n : ℕ). bitCoeff w coeffs masks len p * n) (and-one x p)))))

@@ -1,5 +1,5 @@
--- Laws of the coefficients with their bits in two lent arrays (specs/Coalescing.antt): one bit joined to its coefficient,
--- as the code does it.
+-- Laws of the coefficients with their bits in two lent arrays (specs/Coalescing.antt): one bit joined to its
+-- coefficient, as the code does it.
 use mathlib.Core.Path.{_≡_, refl, ap, ap₂, sym, subst, _∙_}
 use Prim.Native.Nat.{ℕ, zero, suc, _+_, _*_, _%_, _^_, _≤_, _<_}
 use native.Mathlib.Omega.{arith}

@@ -151,7 +151,8 @@ module _ (w : ℕ) (hw : w ≤ 64) (x : ℕ) (coeffs masks : List ℕ) (len : �
   carry-start = record { sum = eqm-of-eq (sym (low-total-none x coeffs masks len)); below = refl }
 
   carried-to : (p : ℕ) → CarriedTo p (forIn (carryAt w coeffs masks len) 0 p [])
-  carried-to p = for-ind CarriedTo (carryAt w coeffs masks len) 0 [] p (omega arith) (λ k l a u h. carry-turn k l h) carry-start
+  carried-to p =
+      for-ind CarriedTo (carryAt w coeffs masks len) 0 [] p (omega arith) (λ k l a u h. carry-turn k l h) carry-start
 
   pub below-to : (p : ℕ) → bitsBelow (2 ^ p) (forIn (carryAt w coeffs masks len) 0 p []) ≡ true
   below-to p = carried-to p .below
@@ -200,13 +201,16 @@ module _ (n c p : ℕ) (ne : eqb c 0 ≡ false) (lt : c < n) where
       go one ok below false false = simp (one, below)
 
 -- each coefficient is one that a term may have
-pub carried-fits : (w : ℕ) → w ≤ 64 → (coeffs masks : List ℕ) (len : ℕ) → coeffsFit (2 ^ w) (carriedOf w coeffs masks len) ≡ true
+pub carried-fits : (w : ℕ) → w ≤ 64 → (coeffs masks : List ℕ) (len : ℕ)
+    → coeffsFit (2 ^ w) (carriedOf w coeffs masks len) ≡ true
 unfolding carriedOf carryAt coeffsFit
 carried-fits w hw coeffs masks len =
     for-keeps (λ l. coeffsFit (2 ^ w) l ≡ true) (carryAt w coeffs masks len) 0 w []
     (λ p l a u h. turn p l h (eqb (bitCoeff w coeffs masks len p) 0) refl) refl
   where
-    turn : (p : ℕ) (l : List Carried) → coeffsFit (2 ^ w) l ≡ true → (b : Bool) → eqb (bitCoeff w coeffs masks len p) 0 ≡ b
+    turn : (p : ℕ) (l : List Carried) → coeffsFit (2 ^ w) l ≡ true → (b : Bool)
+        → eqb (bitCoeff w coeffs masks len p) 0 ≡ b
         → coeffsFit (2 ^ w) (when b (λ _. l) (λ _. carry (bitCoeff w coeffs masks len p) p l)) ≡ true
     turn p l h true e = h
-    turn p l h false e = carry-fits (2 ^ w) (bitCoeff w coeffs masks len p) p e (bit-coeff-lt w hw coeffs masks len p) l h
+    turn p l h false e =
+        carry-fits (2 ^ w) (bitCoeff w coeffs masks len p) p e (bit-coeff-lt w hw coeffs masks len p) l h

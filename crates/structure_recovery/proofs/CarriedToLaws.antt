@@ -82,7 +82,8 @@ module _ (w : ℕ) (coeffs masks : List ℕ) (len : ℕ) where
   turn-few : (p : ℕ) (l : List Carried) → length l ≤ p → length (carryAt w coeffs masks len p l) ≤ p + 1
   unfolding carryAt
   turn-few p l h =
-      when-both (λ (t : List Carried). length t ≤ p + 1) (eqb (bitCoeff w coeffs masks len p) 0) l (carry (bitCoeff w coeffs masks len p) p l)
+      when-both (λ (t : List Carried). length t ≤ p + 1) (eqb (bitCoeff w coeffs masks len p) 0) l
+      (carry (bitCoeff w coeffs masks len p) p l)
       (λ _. omega arith) (λ _. omega (arith, carry-length (bitCoeff w coeffs masks len p) p l))
 
   -- at most one entry for each bit
@@ -97,7 +98,8 @@ module _ (w : ℕ) (coeffs masks : List ℕ) (len : ℕ) where
         → IsCarried (carryAt w coeffs masks len p (carriedIn n carried bits)) carried bits carried bits n
     unfolding carryAt
     at-none lc lb z =
-        let none : eqb (bitCoeff w coeffs masks len p) 0 ≡ true = eq-eqb (bitCoeff w coeffs masks len p) 0 (sym e ∙ z) in
+        let none : eqb (bitCoeff w coeffs masks len p) 0 ≡ true =
+        eq-eqb (bitCoeff w coeffs masks len p) 0 (sym e ∙ z) in
         let same : carryAt w coeffs masks len p (carriedIn n carried bits) ≡ carriedIn n carried bits = simp none in
         rw same (record { count = sym (length-in n carried bits lc lb); are = refl; long = refl; wide = refl })
 
@@ -106,8 +108,10 @@ module _ (w : ℕ) (coeffs masks : List ℕ) (len : ℕ) where
         → IsCarried (carryAt w coeffs masks len p (carriedIn n carried bits)) carried bits carried′ bits′ r
     unfolding carryAt
     at-some ne h =
-        let some : eqb (bitCoeff w coeffs masks len p) 0 ≡ false = ne-eqb (bitCoeff w coeffs masks len p) 0 (λ z. ne (e ∙ z)) in
-        let same : carryAt w coeffs masks len p (carriedIn n carried bits) ≡ carry (bitCoeff w coeffs masks len p) p (carriedIn n carried bits) = simp some in
+        let some : eqb (bitCoeff w coeffs masks len p) 0 ≡ false =
+        ne-eqb (bitCoeff w coeffs masks len p) 0 (λ z. ne (e ∙ z)) in
+        let same : carryAt w coeffs masks len p (carriedIn n carried bits)
+        ≡ carry (bitCoeff w coeffs masks len p) p (carriedIn n carried bits) = simp some in
         rw (same, ← e) h
 
   pub carried-start : (carried bits : List ℕ) → IsCarried (carriedTo 0) carried bits carried bits 0

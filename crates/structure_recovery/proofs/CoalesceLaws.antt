@@ -22,12 +22,12 @@ use Rattle.group.proofs.TotalLaws.{total}
 use Rattle.group.proofs.BasesLaws.{risingFrom, risen}
 use Rattle.group.proofs.GroupsLaws.{basisSum, basesSum, termValue, groups-value, bases-rising}
 use Rattle.group.proofs.GroupOfLaws.{Fresh, group-of}
-use Rattle.group.proofs.ExtendsLaws.{Extends, extends-trans, ungrouped-extends}
-use Rattle.structure_recovery.specs.Carried.{carriedOf}
+use Rattle.group.proofs.WorkLaws.{Extends, extends-trans, Added, added-refl, added-trans, added-eqm}
+use Rattle.group.proofs.ExtendsLaws.{ungrouped-extends}
+use Rattle.structure_recovery.specs.Carried.{Carried, carriedOf}
 use Rattle.structure_recovery.specs.CoalesceTerms.{carriedRows}
 use Rattle.structure_recovery.specs.CoalesceTerms.{coalesceGroup, coalesceAll, coalesceForm}
 use Rattle.structure_recovery.proofs.CarriedLaws.{carriedSum, carried-below, carried-sum}
-use Rattle.structure_recovery.proofs.AddedLaws.{Added, added-refl, added-trans, added-eqm, added-extends}
 use Rattle.structure_recovery.proofs.AddedLaws.{added-carried}
 use Rattle.structure_recovery.proofs.FreshLaws.{live-fresh, added-settled}
 
@@ -38,42 +38,46 @@ module _ (w : ℕ) (hw : w ≤ 64) (vars : List ℕ) (before : List Row)
       → (rows : List Row) → Extends w vars before rows
       → Added w vars (total (value w vars b) g) rows (coalesceGroup w b g rows)
   unfolding coalesceGroup
-  group-added b hb g fresh rows f = go (ltb (g .len) 2 || leb (g .len) (length (carriedOf w (g .coeffs) (g .masks) (g .len))))
+  group-added b hb g fresh rows f = go (ltb (g .len) 2 || leb (g .len) (length own))
     where
+      own : List Carried
+      own = carriedOf w (g .coeffs) (g .masks) (g .len)
+
       v : ℕ
       v = value w vars b
 
-      same : Eqm (2 ^ w) (carriedSum v (carriedOf w (g .coeffs) (g .masks) (g .len))) (total v g)
+      same : Eqm (2 ^ w) (carriedSum v own) (total v g)
       same =
           carried-sum w hw v g (λ k l. live-fresh (at g k) (fresh k l .unmarked)) (λ k l. fresh k l .mask-lt)
 
       go : (s : Bool)
-          → Added w vars (total v g) rows (when s (λ _. settle w g rows) (λ _. carriedRows w b (carriedOf w (g .coeffs) (g .masks) (g .len)) rows))
+          → Added w vars (total v g) rows (when s (λ _. settle w g rows) (λ _. carriedRows w b own rows))
       go true = added-settled w hw vars b before g fresh rows f
       go false =
-          added-eqm w hw vars same
-          (added-carried w hw vars b hb (carriedOf w (g .coeffs) (g .masks) (g .len)) (carried-below w hw v (g .coeffs) (g .masks) (g .len)) rows (f .ok ok))
+          added-eqm w vars same
+          (added-carried w hw vars b hb own (carried-below w hw v (g .coeffs) (g .masks) (g .len)) rows (f .ok ok))
 
   -- all groups
   pub all-added : length before ≤ 256 → (l : List Tree) (n : ℕ) → risingFrom n l ≡ true
       → (rows : List Row) → Extends w vars before rows
       → Added w vars (basesSum variableBasis w (termValue w vars) l before) rows (coalesceAll w before l rows)
   unfolding basesSum coalesceAll
-  all-added most [] n r rows f = added-refl w hw vars rows
+  all-added most [] n r rows f = added-refl w vars rows
   all-added most (b ∷ l) n r rows f =
       let q = risen n b l r in
       let o = group-of variableBasis w vars b (q .atom .expr) before most ok in
       let g : Group = groupOf variableBasis w b 0 before emptyGroup in
       let first : Added w vars (basisSum variableBasis w (termValue w vars) b before) rows (coalesceGroup w b g rows) =
-      added-eqm w hw vars (eqm-of-eq (o .sum)) (group-added b (q .atom) g (o .fresh) rows f) in
-      added-trans w hw vars first
+      added-eqm w vars (eqm-of-eq (o .sum)) (group-added b (q .atom) g (o .fresh) rows f) in
+      added-trans w vars first
       (all-added most l (structuralHash b) (q .rest) (coalesceGroup w b g rows)
-      (extends-trans w vars f (added-extends w hw vars first)))
+      (extends-trans w vars f (first .extends)))
 
 -- what the rows of a valid form become
 coalesced : (vars : List ℕ) (f : Form) → validForm f ≡ true
     → Added (f .bitwidth) vars
-    (basesSum variableBasis (f .bitwidth) (termValue (f .bitwidth) vars) (basesOf variableBasis (f .bitwidth) (f .rows) []) (f .rows))
+    (basesSum variableBasis (f .bitwidth) (termValue (f .bitwidth) vars)
+    (basesOf variableBasis (f .bitwidth) (f .rows) []) (f .rows))
     (ungrouped variableBasis (f .bitwidth) (f .rows)) (coalesceForm f .rows)
 unfolding coalesceForm
 coalesced vars f e =
@@ -105,5 +109,5 @@ valid-coalesce f e fits =
     let v = form-parts f e in
     let w : ℕ = f .bitwidth in
     let ok : rowsOk w (coalesceForm f .rows) ≡ true =
-    coalesced [] f e .rows-ok (ungrouped-extends variableBasis w [] (f .rows) .ok (v .rows-ok)) in
+    coalesced [] f e .extends .ok (ungrouped-extends variableBasis w [] (f .rows) .ok (v .rows-ok)) in
     simp (le-leb 1 w (v .width-pos), le-leb w 64 (v .width-le), lt-ltb (f .constant) (2 ^ w) (v .fits), fits, ok)

@@ -32,21 +32,24 @@ use Rattle.structure_recovery.proofs.NewTermsLaws.{rows-past, rows-long
 -- ---- one group
 
 module _ (w : ℕ) (t : Tree) (g : Group) where
+  abbrev own : List Carried
+  own = carriedOf w (g .coeffs) (g .masks) (g .len)
+
   abbrev entries : ℕ
-  entries = length (carriedOf w (g .coeffs) (g .masks) (g .len))
+  entries = length own
 
   pub group-past : (l : List Row) → fitsTable l ≡ false → fitsTable (coalesceGroup w t g l) ≡ false
   unfolding coalesceGroup
   group-past l h =
       when-both (λ (r : List Row). fitsTable r ≡ false) (ltb (g .len) 2 || leb (g .len) entries) (settle w g l)
-      (carriedRows w t (carriedOf w (g .coeffs) (g .masks) (g .len)) l) (λ _. settle-fits w g l ∙ h) (λ _. rows-past w t (carriedOf w (g .coeffs) (g .masks) (g .len)) l h)
+      (carriedRows w t own l) (λ _. settle-fits w g l ∙ h) (λ _. rows-past w t own l h)
 
   pub group-longer : w ≤ 64 → (l : List Row) → length l ≤ length (coalesceGroup w t g l)
   unfolding coalesceGroup
   group-longer hw l =
       when-both (λ (r : List Row). length l ≤ length r) (ltb (g .len) 2 || leb (g .len) entries) (settle w g l)
-      (carriedRows w t (carriedOf w (g .coeffs) (g .masks) (g .len)) l) (λ _. omega (arith, settle-length w g l))
-      (λ _. rows-longer w t hw (carriedOf w (g .coeffs) (g .masks) (g .len)) l)
+      (carriedRows w t own l) (λ _. omega (arith, settle-length w g l))
+      (λ _. rows-longer w t hw own l)
 
   short-settled : g .len < 2 → (l : List Row) → coalesceGroup w t g l ≡ settle w g l
   unfolding coalesceGroup
@@ -57,13 +60,13 @@ module _ (w : ℕ) (t : Tree) (g : Group) where
   many-settled two h l = simp (le-ltb (g .len) 2 two, le-leb (g .len) entries h)
 
   rewritten : 2 ≤ g .len → entries < g .len → (l : List Row)
-      → coalesceGroup w t g l ≡ carriedRows w t (carriedOf w (g .coeffs) (g .masks) (g .len)) l
+      → coalesceGroup w t g l ≡ carriedRows w t own l
   unfolding coalesceGroup
   rewritten two h l = simp (le-ltb (g .len) 2 two, lt-leb (g .len) entries h)
 
   -- what the bits of the group carry, as the code finds it
   module _ (hw : w ≤ 64) {carried₀ bits₀ carried bits : List ℕ} {r : ℕ}
-      (c : IsCarried (carriedOf w (g .coeffs) (g .masks) (g .len)) carried₀ bits₀ carried bits r) where
+      (c : IsCarried own carried₀ bits₀ carried bits r) where
     count-is : r ≡ entries
     count-is = c .count
 
@@ -99,7 +102,7 @@ module _ (w : ℕ) (t : Tree) (g : Group) where
     short-turn e h = settled-turn e (short-settled h)
 
     module _ (two : 2 ≤ g .len) {carried₀ bits₀ carried bits : List ℕ} {r : ℕ}
-        (c : IsCarried (carriedOf w (g .coeffs) (g .masks) (g .len)) carried₀ bits₀ carried bits r) where
+        (c : IsCarried own carried₀ bits₀ carried bits r) where
       pub many-turn : {coeffs′ : List ℕ} → coeffs′ ≡ settleWords w (g .coeffs) (g .atoms) (g .marks) (g .len) coeffs
           → g .len ≤ r → Coalesced w n 64 (coalesceGroup w t g) made out coeffs made out coeffs′
       many-turn e h = settled-turn e (many-settled two (omega (arith, count-is hw c, h)))

@@ -19,18 +19,17 @@ use Rattle.semilinear.specs.DecodeForm.{rowsOf, decodeForm, readForm}
 use Rattle.semilinear.specs.Answers.{GivesForm}
 use Rattle.semilinear.specs.PassOutcome.{limitOutcome}
 use Rattle.semilinear.specs.Table.{Placed}
-use Rattle.semilinear.specs.Terms.{Copied, Ends, Finished}
+use Rattle.semilinear.specs.Terms.{Copied, Finished}
 use Rattle.group.specs.Group.{variableBasis, basesOf, ungrouped}
 use Rattle.group.specs.Made.{tableOf}
 use Rattle.group.specs.Views.{onlyOf, Views, ViewsRead}
 use Rattle.group.proofs.ExtendsLaws.{ungrouped-length}
-use Rattle.group.proofs.PassLaws.{held-form, read-wide, read-shown}
-use Rattle.group.proofs.ShownLaws.{begun, shown-ends}
+use Rattle.group.proofs.PassLaws.{held-form, pass-room, read-wide, read-shown}
+use Rattle.group.proofs.ShownLaws.{begun}
 use Rattle.group.proofs.SplitLaws.{only-variable}
 use Rattle.structure_recovery.specs.CoalesceTerms.{coalesceAll, coalesceForm}
-use Rattle.structure_recovery.specs.Showing.{Shows}
 use Rattle.structure_recovery.specs.Coalescing.{Coalesced, RowsCoalesced}
-use Rattle.structure_recovery.proofs.NewTermsLaws.{shows-shown}
+use Rattle.structure_recovery.proofs.NewTermsLaws.{shows-shown, shows-ends}
 
 -- ---- the rows
 
@@ -62,16 +61,6 @@ module _ {w : ℕ} {f coeffs views coeffs′ : List ℕ} {n : ℕ}
 
 -- ---- the end
 
-pub shows-ends : (w : ℕ) (made out coeffs : List ℕ) (l : List Row) → Shows w made out coeffs l
-    → Ends w (tableOf made) 1 coeffs out l
-shows-ends w made out coeffs l s =
-    record {
-      holds = λ more. s .shown more .held .holds;
-      clean = λ more. s .shown more .held .clean;
-      coeffs = λ more. shown-ends w made out coeffs l (s .shown more) .coeffs more;
-      past = s .past;
-    }
-
 -- the end gives the coalesced form, or 9
 pub coalesce-end : (s : List ℕ) → IsBytes s → isSemilinear s ≡ true → {w c k : ℕ} {b : List ℕ} → w ≡ width s → c ≡ literal s
     → b ≡ body s → {tab : Table} {out : List ℕ} → Copied (readForm s) tab out → {made out′ coeffs : List ℕ}
@@ -83,13 +72,11 @@ unfolding coalesceForm decodeForm
 coalesce-end s bytes ok {w} {c} {k} {b} ew ec eb {tab} {out} h {made} {out′} {coeffs} coalesced et r finished =
     let own = rw (ew, eb) at coalesced in
     let end = rw (ew, ec, et) at finished in
-    end .gives _ (shows-ends (width s) made out′ coeffs _ (own .shows (held-form s bytes ok k h)))
+    end .gives _ (shows-ends (own .shows (held-form s bytes ok k h)))
 
 -- the end has room for all terms
 pub coalesce-room : {w : ℕ} {rows : List Row} {before out made out′ coeffs : List ℕ}
     → RowsCoalesced w rows before out made out′ coeffs → {tab : Table} → tab ≡ tableOf made → length out ≡ 57360
     → (tab .full ≡ false → Placed tab (length out′)) × (length out′ ≡ 57360)
     × (tab .full ≡ false → 1 * tab .count ≤ length coeffs)
-coalesce-room {out′ = out′} r {tab} et e =
-    let placed : Placed tab (length out′) = rw et (r .room .placed) in
-    (λ _. placed, r .long ∙ e, λ _. omega (arith, placed .atoms-le, r .wide))
+coalesce-room {out = out} {coeffs = coeffs} r et e = pass-room out coeffs (r .room) (r .long) (r .wide) et e

@@ -1,22 +1,21 @@
 -- A group of fresh entries beside a table that holds the rows of the one that it was made of: its entries owe what they
 -- come to, and settling them adds that.
 use mathlib.Core.Path.{_≡_, sym, ap, _∙_}
-use Prim.Native.Nat.{ℕ, _+_, _*_, _≤_, _<_}
+use Prim.Native.Nat.{ℕ, _*_, _≤_, _<_}
 use native.Mathlib.Omega.{arith}
 use mathlib.Core.List.{List}
 use mathlib.Core.Bool.{true, not}
 use lib.Dec.{eqb}
-use Rattle.arith.proofs.CongruenceLaws.{eqm-of-eq, eqm-trans}
+use Rattle.arith.proofs.CongruenceLaws.{eqm-of-eq}
 use Rattle.record.specs.Tree.{Tree}
 use Rattle.expr.specs.Value.{value}
 use Rattle.group.specs.declared.Group.{Group}
-use Rattle.semilinear.specs.Form.{Row, sumRows}
+use Rattle.semilinear.specs.Form.{Row}
 use Rattle.group.specs.Group.{Entry, at, isLive, settle}
 use Rattle.group.proofs.TotalLaws.{sumTo, sum-ext, worth, worth-live, total}
 use Rattle.group.proofs.SettleLaws.{owed, owed-live, settled}
 use Rattle.group.proofs.GroupOfLaws.{Fresh}
-use Rattle.group.proofs.ExtendsLaws.{Extends}
-use Rattle.structure_recovery.proofs.AddedLaws.{Added}
+use Rattle.group.proofs.WorkLaws.{Extends, Added, added-eqm}
 
 -- an entry without a mark is live
 pub live-fresh : (e : Entry) → e .mark ≡ 0 → isLive e ≡ true
@@ -45,11 +44,5 @@ module _ (w : ℕ) (hw : w ≤ 64) (vars : List ℕ) (b : Tree) (before : List R
   pub added-settled : (rows : List Row) → Extends w vars before rows
       → Added w vars (total (value w vars b) g) rows (settle w g rows)
   added-settled rows f =
-      let s = settled w vars hw g rows (λ i l live. let e = fresh i l in omega (arith, e .atom-lt, f .longer)) in
-      record {
-        longer = omega (arith, s .count);
-        older = λ j h. s .same j;
-        sum =
-            eqm-trans (s .sum) (eqm-of-eq (ap (λ (n : ℕ). sumRows w vars rows + n) (owed-total rows f)));
-        rows-ok = s .ok;
-      }
+      added-eqm w vars (eqm-of-eq (owed-total rows f))
+      (settled w vars hw g rows (λ i l live. let e = fresh i l in omega (arith, e .atom-lt, f .longer)))

@@ -20,7 +20,8 @@ use Rattle.group.proofs.SettleWordsLaws.{length-settle}
 use Rattle.group.proofs.ShownLaws.{settle-fits, shown-settle}
 use Rattle.group.proofs.LoneLaws.{lone-len, settle-lone}
 use Rattle.structure_recovery.specs.RecoverStructure.{Recovery, recoverGroup}
-use Rattle.structure_recovery.specs.Recovering.{partnerFits, NoPartner, Stands, Recovers, Recovered, recovery, Fair}
+use Rattle.structure_recovery.specs.Recovering.{partnerFits, NoPartner, Stands, Recovers, Recovered}
+use Rattle.structure_recovery.specs.Recovering.{recovery, FairRecovery}
 use Rattle.structure_recovery.specs.Recovering.{settledForm, ShowsForm, GroupRecovered}
 use Rattle.structure_recovery.proofs.PairingLaws.{group-alone}
 use Rattle.structure_recovery.proofs.RecoveredLaws.{recovers-of}
@@ -84,7 +85,7 @@ module _ {w : ℕ} (t : Tree) {g r : Group} {made out made′ out′ : List ℕ}
 
   module _ (hw : w ≤ 64) {coeffs coeffs′ : List ℕ} {m : ℕ} (em : m ≡ g .len)
       (e : coeffs′ ≡ settleWords w (r .coeffs) (r .atoms) (r .marks) m coeffs) where
-    shown-settled : (l : List Row) → Fair l (recoverGroup w t (begun l)) → Shown w made out coeffs l
+    shown-settled : (l : List Row) → FairRecovery l (recoverGroup w t (begun l)) → Shown w made out coeffs l
         → ShowsForm w made′ out′ coeffs′ (settledForm w (recoverGroup w t (begun l)))
     unfolding settledForm
     shown-settled l fair shown =

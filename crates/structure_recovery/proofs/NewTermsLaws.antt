@@ -15,7 +15,7 @@ use Rattle.record.specs.Tree.{Tree}
 use Rattle.record.proofs.SizedLaws.{false-true}
 use Rattle.record.proofs.LoopLaws.{when-both}
 use Rattle.semilinear.specs.Form.{mixedFamily, Row, eqTree, fitsTable}
-use Rattle.semilinear.specs.Terms.{coeffsOf}
+use Rattle.semilinear.specs.Terms.{coeffsOf, Ends}
 use Rattle.semilinear.proofs.HoldsLaws.{past-more}
 use Rattle.group.specs.Group.{createRow, maskedTree, createMasked, addCoeff}
 use Rattle.group.specs.Made.{tableOf, Room, Held, Grew}
@@ -23,7 +23,7 @@ use Rattle.group.specs.Shown.{Shown}
 use Rattle.group.specs.Gathered.{addWord}
 use Rattle.group.proofs.CoeffsLaws.{coeffs-create, fits-length, fits-less}
 use Rattle.group.proofs.SettleLaws.{add-length}
-use Rattle.group.proofs.ShownLaws.{add-fits, shown-add}
+use Rattle.group.proofs.ShownLaws.{add-fits, shown-add, shown-ends}
 use Rattle.structure_recovery.specs.RecoverStructure.{rowWith, withBare}
 use Rattle.structure_recovery.specs.Carried.{Carried}
 use Rattle.structure_recovery.specs.CoalesceTerms.{carriedRows}
@@ -178,13 +178,16 @@ pub shows-shown : {w : ℕ} {made out coeffs : List ℕ} {l : List Row} → Show
     → Shows w made out coeffs l
 shows-shown h = record { shown = λ _. h; past = h .held .holds .past }
 
-pub is-full : (made : List ℕ) → getD made 3 0 ≡ 1 → tableOf made .full ≡ true
-unfolding tableOf
-is-full made e = eq-eqb (getD made 3 0) 1 e
-
-pub not-full : (made : List ℕ) → (getD made 3 0 ≡ 1 → ⊥) → tableOf made .full ≡ false
-unfolding tableOf
-not-full made n = ne-eqb (getD made 3 0) 1 n
+-- what the end of a pass reads off
+pub shows-ends : {w : ℕ} {made out coeffs : List ℕ} {l : List Row} → Shows w made out coeffs l
+    → Ends w (tableOf made) 1 coeffs out l
+shows-ends {w} {made} {out} {coeffs} {l} s =
+    record {
+      holds = λ more. s .shown more .held .holds;
+      clean = λ more. s .shown more .held .clean;
+      coeffs = λ more. shown-ends w made out coeffs l (s .shown more) .coeffs more;
+      past = s .past;
+    }
 
 -- a full table is left as it is
 pub coalesced-full : {w m n : ℕ} {F : List Row → List Row} {made out coeffs : List ℕ} → Room made out

@@ -67,7 +67,8 @@ module _ (w : ℕ) (t : Tree) (i j : ℕ) (x : Recovery) where
 module _ (w : ℕ) (t : Tree) (i j : ℕ) (g : Group) {s : ℕ} (es : s ≡ modAdd (getD (g .coeffs) i 0) (getD (g .coeffs) j 0) w)
   where
     module _ {fewer : Bool} (ef : fewer ≡ leb (countOnes (getD (g .masks) i 0)) (countOnes (getD (g .masks) j 0))) where
-      pub pair-xor : s ≡ 0 → fewer ≡ true → (x : Recovery) → g ≡ x .group → recoverXor w t i j x ≡ recoverPair w t i j x
+      pub pair-xor : s ≡ 0 → fewer ≡ true → (x : Recovery) → g ≡ x .group
+          → recoverXor w t i j x ≡ recoverPair w t i j x
       pair-xor z le x e =
           xor-first w t i j x
           (subst (λ (k : Group). modAdd (getD (k .coeffs) i 0) (getD (k .coeffs) j 0) w ≡ 0) e (sym es ∙ z))

@@ -12,35 +12,21 @@ use Rattle.record.specs.Tree.{Tree, IsBytes}
 use Rattle.semilinear.specs.declared.outcome.Answer.{Answer}
 use Rattle.semilinear.specs.declared.table.Table.{Table}
 use Rattle.semilinear.specs.Form.{Row, Form, fitsTable}
-use Rattle.semilinear.specs.Items.{atomCount, afterAtoms}
-use Rattle.semilinear.specs.Valid.{atomsOk, isSemilinear}
+use Rattle.semilinear.specs.Items.{afterAtoms}
+use Rattle.semilinear.specs.Valid.{isSemilinear}
 use Rattle.semilinear.specs.DecodeForm.{rowsOf, decodeForm, readForm}
 use Rattle.semilinear.specs.Answers.{GivesForm}
 use Rattle.semilinear.specs.PassOutcome.{limitOutcome}
-use Rattle.semilinear.specs.Scan.{AtomsEnd}
 use Rattle.semilinear.specs.Table.{Placed}
-use Rattle.semilinear.specs.Terms.{Copied, Ends, Finished}
+use Rattle.semilinear.specs.Terms.{Copied, Finished}
 use Rattle.semilinear.proofs.AcceptLaws.{form-valid}
-use Rattle.semilinear.proofs.ValidLaws.{semilinear-parts}
-use Rattle.group.specs.Made.{tableOf, Room, Held}
-use Rattle.group.proofs.ReadLaws.{length-rows}
-use Rattle.group.proofs.ShownLaws.{begun, held-copied, copied-end, shown-ends}
+use Rattle.group.specs.Made.{tableOf}
+use Rattle.group.proofs.PassLaws.{held-form, pass-room}
+use Rattle.group.proofs.ShownLaws.{begun}
 use Rattle.structure_recovery.specs.RecoverStructure.{recoverAll, recoverForm}
 use Rattle.structure_recovery.specs.Recovering.{ShowsForm, rowsRecovered, RowsRecovered}
-use Rattle.structure_recovery.specs.Showing.{Shows}
 use Rattle.structure_recovery.proofs.RecoverLaws.{all-fair}
-
--- ---- what the end reads off
-
-pub shows-ends : {w : ℕ} {made out coeffs : List ℕ} {l : List Row} → Shows w made out coeffs l
-    → Ends w (tableOf made) 1 coeffs out l
-shows-ends {w} {made} {out} {coeffs} {l} s =
-    record {
-      holds = λ more. s .shown more .held .holds;
-      clean = λ more. s .shown more .held .clean;
-      coeffs = λ more. shown-ends w made out coeffs l (s .shown more) .coeffs more;
-      past = s .past;
-    }
+use Rattle.structure_recovery.proofs.NewTermsLaws.{shows-ends}
 
 -- forms of the same rows that pass a limit
 limit-past : (f h : Form) (flag : Bool) → fitsTable (f .rows) ≡ false → fitsTable (h .rows) ≡ false
@@ -77,33 +63,7 @@ all-width w before (b ∷ bases) l c = all-width w before bases _ _
 -- ---- the form
 
 module _ (s : List ℕ) (bytes : IsBytes s) (ok : isSemilinear s ≡ true) where
-  -- the words of the copied table hold the rows
-  held : {tab : Table} {out : List ℕ} (k : ℕ) → Copied (readForm s) tab out
-      → Held (width s) (begun tab k) out (rowsOf 0 (body s) (afterAtoms (body s)))
-  unfolding decodeForm
-  held {tab} {out} k h = held-copied (readForm s) tab out k h
-
-  -- what the rows are recovered with, as the code reads it
-  pub recover-begin : {w k : ℕ} {b : List ℕ} → w ≡ width s → b ≡ body s → {tab : Table} {out : List ℕ}
-      → Copied (readForm s) tab out
-      → (w ≤ 64) × (atomsOk w b ≡ true) × AtomsEnd b (tab .at) × (atomCount b ≡ tab .count) × (tab .count ≤ 256)
-      × Room (begun tab k) out × (getD (begun tab k) 4 0 ≤ 256)
-  unfolding decodeForm
-  recover-begin {w} {k} {b} ew eb {tab} {out} h =
-      let parts = semilinear-parts s ok in
-      let most : tab .count ≤ 256 = h .holds .placed .atoms-le in
-      let count : tab .count ≡ length (rowsOf 0 (body s) (afterAtoms (body s))) = h .holds .kept (h .more) .count in
-      rw (ew, eb) (
-        parts .0 .width-le,
-        parts .1 .atoms,
-        copied-end s bytes ok tab out h,
-        sym (count ∙ length-rows (body s) 0 (afterAtoms (body s))),
-        most,
-        record { words = refl; placed = held k h .holds .placed },
-        most,
-      )
-
-  -- and the end gives the recovered form, or 9
+  -- the end gives the recovered form, or 9
   pub recover-end : {w k : ℕ} {b : List ℕ} → w ≡ width s → k ≡ literal s → b ≡ body s → {tab : Table} {out : List ℕ}
       → Copied (readForm s) tab out → {made out′ coeffs : List ℕ}
       → RowsRecovered w (rowsOf 0 b (afterAtoms b)) (begun tab k) out made out′ coeffs
@@ -115,7 +75,7 @@ module _ (s : List ℕ) (bytes : IsBytes s) (ok : isSemilinear s ≡ true) where
       let own = rw (ew, eb, ek) at recovered in
       let end = rw ew at finished in
       let rows : List Row = rowsOf 0 (body s) (afterAtoms (body s)) in
-      let shown = own .shown (all-fair (readForm s) (form-valid s bytes ok)) (held (literal s) h) in
+      let shown = own .shown (all-fair (readForm s) (form-valid s bytes ok)) (held-form s bytes ok (literal s) h) in
       shows-gives (rowsRecovered (width s) rows (literal s)) (all-width (width s) rows _ _ (literal s)) shown et ec r end
 
 -- the end has room for all terms
@@ -123,6 +83,4 @@ pub recover-room : {w : ℕ} {rows : List Row} {before out made out′ coeffs : 
     → RowsRecovered w rows before out made out′ coeffs → {tab : Table} → tab ≡ tableOf made → length out ≡ 57360
     → (tab .full ≡ false → Placed tab (length out′)) × (length out′ ≡ 57360)
     × (tab .full ≡ false → 1 * tab .count ≤ length coeffs)
-recover-room {out′ = out′} r {tab} et e =
-    let placed : Placed tab (length out′) = rw et (r .room .placed) in
-    (λ _. placed, r .long ∙ e, λ _. omega (arith, placed .atoms-le, r .wide))
+recover-room {out = out} {coeffs = coeffs} r et e = pass-room out coeffs (r .room) (r .long) (r .wide) et e

@@ -1,5 +1,5 @@
--- Laws of `recoverPair`, `recoverAt` and `recoverGroup` (specs/RecoverStructure.antt): they keep what `Kept` says of a
--- group beside its table and the constant.
+-- Laws of `recoverPair`, `recoverAt` and `recoverGroup` (specs/RecoverStructure.antt): they keep what
+-- `KeptRecovery` says of a group beside its table and the constant.
 use mathlib.Core.Path.{_≡_, sym, ap, _∙_}
 use Prim.Native.Nat.{ℕ, _+_, _-_, _%_, _^_, _≤_, _<_}
 use native.Mathlib.Omega.{arith}
@@ -19,7 +19,7 @@ use Rattle.semilinear.proofs.AtomLaws.{Atom}
 use Rattle.record.proofs.LoopLaws.{when-both, first-from, first-true, for-keeps}
 use Rattle.structure_recovery.specs.RecoverStructure.{Recovery, recoverPair, isPartner, partnerOf, recoverAt}
 use Rattle.structure_recovery.specs.RecoverStructure.{countOnes, recoverGroup}
-use Rattle.structure_recovery.proofs.HeldLaws.{Kept}
+use Rattle.structure_recovery.proofs.HeldLaws.{KeptRecovery}
 use Rattle.structure_recovery.proofs.RecoverPairLaws.{Pair, live-of-mark, pair-swap, xor-keeps, eliminate-keeps}
 
 -- ---- the search
@@ -59,7 +59,7 @@ partner-pair w g i t l =
 module _ (w : ℕ) (hw : w ≤ 64) (vars : List ℕ) (b : Tree) (hb : Atom b) (g0 : Group) (rows0 : List Row)
     (ok : rowsOk w rows0 ≡ true) (c0 : ℕ) where
   abbrev K : Recovery → Type 0
-  K x = Kept w vars b g0 rows0 c0 x
+  K x = KeptRecovery w vars b g0 rows0 c0 x
 
   pub pair-keeps : (i j : ℕ) (x : Recovery) → K x → Pair w (x .group) i j → K (recoverPair w b i j x)
   unfolding recoverPair

@@ -15,18 +15,20 @@ use Rattle.record.proofs.SizedLaws.{and-true}
 use Rattle.expr.specs.Hash.{structuralHash}
 use Rattle.group.specs.declared.Group.{Group}
 use Rattle.semilinear.specs.Form.{Row, Form, sumRows, formValue, rowsOk, treeRecords, fitsTable, validForm}
-use Rattle.group.specs.Group.{Entry, at, emptyGroup, anyBasis, basesOf, groupOf, ungrouped, settle}
+use Rattle.group.specs.Group.{at, emptyGroup, anyBasis, basesOf, groupOf, ungrouped, settle}
 use Rattle.semilinear.proofs.FormLaws.{form-parts, parts-form}
 use Rattle.semilinear.proofs.AtomLaws.{Atom}
 use Rattle.group.proofs.CoeffsLaws.{fits-length}
 use Rattle.group.proofs.SettleLaws.{settled}
 use Rattle.group.proofs.BasesLaws.{risingFrom, risen}
 use Rattle.group.proofs.GroupsLaws.{basisSum, basesSum, termValue, groups-value, bases-rising}
-use Rattle.group.proofs.GroupOfLaws.{Fresh, group-of}
-use Rattle.group.proofs.ExtendsLaws.{Extends, extends-trans, grown-extends, settled-extends, ungrouped-extends}
+use Rattle.group.proofs.GroupOfLaws.{group-of}
+use Rattle.group.proofs.WorkLaws.{Extends, extends-trans}
+use Rattle.group.proofs.ExtendsLaws.{ungrouped-extends}
+use Rattle.group.proofs.FitsLaws.{fits-fresh}
 use Rattle.structure_recovery.specs.RecoverStructure.{Recovery, recoverAll, recoverForm}
-use Rattle.structure_recovery.specs.Recovering.{Fair, settledForm, oneRecovered, AllFair}
-use Rattle.structure_recovery.proofs.HeldLaws.{Held, Kept, owedSum, kept-start}
+use Rattle.structure_recovery.specs.Recovering.{FairRecovery, settledForm, oneRecovered, AllFair}
+use Rattle.structure_recovery.proofs.HeldLaws.{notRewritten, KeptRecovery, owedSum, kept-start}
 use Rattle.structure_recovery.proofs.RecoverGroupLaws.{recover-group-keeps}
 use Rattle.structure_recovery.proofs.FreshLaws.{owed-total}
 
@@ -34,18 +36,6 @@ use Rattle.structure_recovery.proofs.FreshLaws.{owed-total}
 
 module _ (w : ℕ) (hw : w ≤ 64) (vars : List ℕ) (before : List Row) (ok : rowsOk w before ≡ true)
     (most : length before ≤ 256) where
-  held-fresh : (b : Tree) (rows : List Row) (e : Entry) → Extends w vars before rows → Fresh w vars b before e
-      → Held w vars b rows e
-  held-fresh b rows e x f =
-      record {
-        coeff-lt = f .coeff-lt;
-        atom-lt = omega (arith, f .atom-lt, x .longer);
-        masked = λ ne. record {
-          mask-lt = f .mask-lt;
-          atom-value = x .older (e .atom) (f .atom-lt) ∙ f .atom-value;
-        };
-      }
-
   -- the rows and the constant after a group of sum n
   record Step (n : ℕ) (rows : List Row) (c : ℕ) (after : List Row) (d : ℕ) : Type 0 where
     fits : d < 2 ^ w
@@ -54,13 +44,13 @@ module _ (w : ℕ) (hw : w ≤ 64) (vars : List ℕ) (before : List Row) (ok : r
 
   -- the group of the basis b, recovered
   kept : (b : Tree) → Atom b → (rows : List Row) (c : ℕ) → c < 2 ^ w → Extends w vars before rows
-      → Kept w vars b (groupOf anyBasis w b 0 before emptyGroup) rows c (oneRecovered w before b rows c)
+      → KeptRecovery w vars b (groupOf anyBasis w b 0 before emptyGroup) rows c (oneRecovered w before b rows c)
   kept b hb rows c hc x =
       let g : Group = groupOf anyBasis w b 0 before emptyGroup in
       let o = group-of anyBasis w vars b (hb .expr) before most ok in
       recover-group-keeps w hw vars b hb g rows (x .ok ok) c _
       (kept-start w vars b g rows c (o .sized)
-      (record { held = λ k l live. held-fresh b rows (at g k) x (o .fresh k l) }) hc)
+      (record { fit = λ k l live. fits-fresh w vars b notRewritten (at g k) x (o .fresh k l) }) hc)
 
   group-step : (b : Tree) → Atom b → (rows : List Row) (c : ℕ) → c < 2 ^ w → Extends w vars before rows
       → Step (basisSum anyBasis w (termValue w vars) b before) rows c
@@ -71,15 +61,14 @@ module _ (w : ℕ) (hw : w ≤ 64) (vars : List ℕ) (before : List Row) (ok : r
       let g : Group = groupOf anyBasis w b 0 before emptyGroup in
       let o = group-of anyBasis w vars b (hb .expr) before most ok in
       let r : Recovery = oneRecovered w before b rows c in
-      let h : Kept w vars b g rows c r = kept b hb rows c hc x in
-      let s = settled w vars hw (r .group) (r .rows) (λ k l live. h .all-held .held k l live .atom-lt) in
+      let h : KeptRecovery w vars b g rows c r = kept b hb rows c hc x in
+      let s = settled w vars hw (r .group) (r .rows) (λ k l live. h .all-fit .fit k l live .atom-lt) in
       let begun : owedSum w vars rows g ≡ basisSum anyBasis w (termValue w vars) b before =
       owed-total w hw vars b before g (o .fresh) rows x ∙ o .sum in
       record {
         fits = h .constant-lt;
         extends =
-            extends-trans w vars x
-            (extends-trans w vars (grown-extends w vars (h .grown)) (settled-extends w vars s));
+            extends-trans w vars x (extends-trans w vars (h .grown .extends) (s .extends));
         sum =
             eqm-trans (eqm-add (eqm-refl (r .constant)) (s .sum))
             (eqm-trans (eqm-of-eq (omega (arith, h .grown .sum-same)))
@@ -89,13 +78,13 @@ module _ (w : ℕ) (hw : w ≤ 64) (vars : List ℕ) (before : List Row) (ok : r
 
   -- and each group was recovered fairly: rows without a term are added, and live entries have atoms of the table
   fair : (b : Tree) → Atom b → (rows : List Row) (c : ℕ) → c < 2 ^ w → Extends w vars before rows
-      → Fair rows (oneRecovered w before b rows c)
+      → FairRecovery rows (oneRecovered w before b rows c)
   fair b hb rows c hc x =
       let k = kept b hb rows c hc x in
       record {
         fits = k .grown .fits;
         coeffs = λ f. k .grown .coeffs 256 (fits-length (oneRecovered w before b rows c .rows) f);
-        atoms = λ i li live. k .all-held .held i li live .atom-lt;
+        atoms = λ i li live. k .all-fit .fit i li live .atom-lt;
       }
 
   fair-all : (l : List Tree) (n : ℕ) → risingFrom n l ≡ true → (rows : List Row) (c : ℕ) → c < 2 ^ w
@@ -130,7 +119,8 @@ module _ (w : ℕ) (hw : w ≤ 64) (vars : List ℕ) (before : List Row) (ok : r
         rows-ok = below .rows-ok;
         sum =
             eqm-trans (below .sum)
-            (eqm-trans (eqm-add (s .sum) (eqm-refl (basesSum anyBasis w (termValue w vars) l before))) (eqm-of-eq (omega arith)));
+            (eqm-trans (eqm-add (s .sum) (eqm-refl (basesSum anyBasis w (termValue w vars) l before)))
+            (eqm-of-eq (omega arith)));
       }
 
 -- ---- the form

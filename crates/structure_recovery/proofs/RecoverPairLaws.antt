@@ -1,5 +1,5 @@
 -- Laws of `recoverXor` and `eliminateMask` (specs/RecoverStructure.antt): on two live entries with complement masks
--- they keep what `Kept` says of a group beside its table and the constant.
+-- they keep what `KeptRecovery` says of a group beside its table and the constant.
 use mathlib.Core.Path.{_≡_, refl, ap, sym, _∙_}
 use mathlib.Core.Logic.{_≢_}
 use Prim.Native.Nat.{ℕ, _+_, _-_, _*_, _^_, _≤_, _<_}
@@ -25,16 +25,17 @@ use Rattle.expr.proofs.IsExprLaws.{expr-of-constant}
 use Rattle.expr.proofs.ValueLaws.{value-lt}
 use Rattle.group.specs.declared.Group.{Group}
 use Rattle.semilinear.specs.Form.{Row, rowsOk}
-use Rattle.group.specs.Group.{Entry, at, isLive, consumed, createRow}
+use Rattle.group.specs.Group.{consumedMark, widenedMark, rewrittenMark, Entry, at, isLive, consumed, createRow}
 use Rattle.semilinear.proofs.AtomLaws.{Atom, atom-tree, sides-atom}
 use Rattle.group.proofs.TotalLaws.{live-mark, live-consumed}
 use Rattle.group.proofs.WorkLaws.{rowValue, Grown, grown-create, length-create, row-value-create}
 use Rattle.group.proofs.SettleLaws.{owed, owed-live, owed-consumed}
+use Rattle.group.proofs.FitsLaws.{Fits, fits-extends}
 use Rattle.structure_recovery.specs.RecoverStructure.{Recovery, rowWith, withBare, recoverXor, eliminateMask}
 use Rattle.structure_recovery.proofs.BareLaws.{with-bare}
-use Rattle.structure_recovery.proofs.HeldLaws.{Held, Kept, held-grown, kept-two}
+use Rattle.structure_recovery.proofs.HeldLaws.{notRewritten, KeptRecovery, kept-two}
 
-pub live-of-mark : (e : Entry) → e .mark ≢ 1 → isLive e ≡ true
+pub live-of-mark : (e : Entry) → e .mark ≢ consumedMark → isLive e ≡ true
 unfolding isLive
 live-of-mark e ne = simp (ne-eqb (e .mark) 1 ne)
 
@@ -45,8 +46,8 @@ pub record Pair (w : ℕ) (g : Group) (i j : ℕ) : Type 0 where
   pub apart : j ≢ i
   pub live-i : isLive (at g i) ≡ true
   pub live-j : isLive (at g j) ≡ true
-  pub plain-i : at g i .mark ≢ 3
-  pub plain-j : at g j .mark ≢ 3
+  pub plain-i : at g i .mark ≢ rewrittenMark
+  pub plain-j : at g j .mark ≢ rewrittenMark
   pub complement : at g j .mask ≡ 2 ^ w - 1 - at g i .mask
 
 -- the literal m beside the basis
@@ -70,7 +71,7 @@ xor-value w vars b m hm = ap (λ (n : ℕ). bitXor n (value w vars b)) (mod-eq-o
 module _ (w : ℕ) (hw : w ≤ 64) (vars : List ℕ) (b : Tree) (hb : Atom b) (g0 : Group) (rows0 : List Row)
     (ok : rowsOk w rows0 ≡ true) (c0 : ℕ) where
   abbrev K : Recovery → Type 0
-  K x = Kept w vars b g0 rows0 c0 x
+  K x = KeptRecovery w vars b g0 rows0 c0 x
 
   abbrev v : ℕ
   v = value w vars b
@@ -79,7 +80,7 @@ module _ (w : ℕ) (hw : w ≤ 64) (vars : List ℕ) (b : Tree) (hb : Atom b) (g
   word h = lt-of-lt-of-le h (pow-mono hw)
 
   -- what a live entry with a mask adds
-  owed-masked : (l : List Row) (e : Entry) → isLive e ≡ true → e .mark ≢ 3 → Held w vars b l e
+  owed-masked : (l : List Row) (e : Entry) → isLive e ≡ true → e .mark ≢ rewrittenMark → Fits w vars b notRewritten l e
       → owed w vars l e ≡ e .coeff * bitAnd v (e .mask)
   owed-masked l e live ne h =
       owed-live w vars l e live ∙ ap (λ (n : ℕ). e .coeff * n) (h .masked ne .atom-value)
@@ -94,11 +95,11 @@ module _ (w : ℕ) (hw : w ≤ 64) (vars : List ℕ) (b : Tree) (hb : Atom b) (g
     abbrev f : Entry
     f = at g j
 
-    held-i : Held w vars b (x .rows) e
-    held-i = h .all-held .held i (p .i-lt) (p .live-i)
+    held-i : Fits w vars b notRewritten (x .rows) e
+    held-i = h .all-fit .fit i (p .i-lt) (p .live-i)
 
-    held-j : Held w vars b (x .rows) f
-    held-j = h .all-held .held j (p .j-lt) (p .live-j)
+    held-j : Fits w vars b notRewritten (x .rows) f
+    held-j = h .all-fit .fit j (p .j-lt) (p .live-j)
 
     mask-lt : e .mask < 2 ^ w
     mask-lt = held-i .masked (p .plain-i) .mask-lt
@@ -107,8 +108,10 @@ module _ (w : ℕ) (hw : w ≤ 64) (vars : List ℕ) (b : Tree) (hb : Atom b) (g
     pair-owed : (l : List Row) → Grown w vars (x .rows) l
         → owed w vars l e + owed w vars l f ≡ e .coeff * bitAnd v (e .mask) + f .coeff * bitAnd v (2 ^ w - 1 - e .mask)
     pair-owed l more =
-        let one = owed-masked l e (p .live-i) (p .plain-i) (held-grown w vars b e more held-i) in
-        let two = owed-masked l f (p .live-j) (p .plain-j) (held-grown w vars b f more held-j) in
+        let one = owed-masked l e (p .live-i) (p .plain-i)
+        (fits-extends w vars b notRewritten e (more .extends) held-i) in
+        let two = owed-masked l f (p .live-j) (p .plain-j)
+        (fits-extends w vars b notRewritten f (more .extends) held-j) in
         let same = ap (λ (n : ℕ). f .coeff * bitAnd v n) (p .complement) in
         omega (arith, one, two, same)
 
@@ -133,7 +136,8 @@ module _ (w : ℕ) (hw : w ≤ 64) (vars : List ℕ) (b : Tree) (hb : Atom b) (g
         let more : Grown w vars (x .rows) l =
         grown-create w vars 2 t (x .rows) (omega arith) (atom-tree t (xor-atom b (e .mask) (word mask-lt) hb)) in
         let c : ℕ = modMul (e .coeff) (e .mask) w in
-        let new : Entry = record { coeff = f .coeff; mask = 2 ^ w - 1; atom = length (x .rows); mark = 3 } in
+        let new : Entry =
+        record { coeff = f .coeff; mask = 2 ^ w - 1; atom = length (x .rows); mark = rewrittenMark } in
         let row : rowValue w vars l (length (x .rows)) ≡ bitXor (e .mask) v =
         row-value-create w vars 2 t (x .rows) ∙ xor-value w vars b (e .mask) mask-lt in
         let after : owed w vars l new + owed w vars l (consumed f) ≡ f .coeff * bitXor (e .mask) v =
@@ -174,13 +178,13 @@ module _ (w : ℕ) (hw : w ≤ 64) (vars : List ℕ) (b : Tree) (hb : Atom b) (g
     eliminate-keeps =
         let d : ℕ = modSub (e .coeff) (f .coeff) w in
         let l : List Row = withBare w b (x .rows) in
-        let bare = with-bare w vars b hb (x .rows) (h .grown .rows-ok ok) in
+        let bare = with-bare w vars b hb (x .rows) (h .grown .extends .ok ok) in
         let more = bare .grown in
         let new-e : Entry = record { coeff = d; mask = e .mask; atom = e .atom; mark = e .mark } in
         let new-f : Entry =
-        record { coeff = f .coeff; mask = 2 ^ w - 1; atom = rowWith w b 0 (x .rows); mark = 2 } in
-        let more-i = held-grown w vars b e more held-i in
-        let he : Held w vars b l new-e =
+        record { coeff = f .coeff; mask = 2 ^ w - 1; atom = rowWith w b 0 (x .rows); mark = widenedMark } in
+        let more-i = fits-extends w vars b notRewritten e (more .extends) held-i in
+        let he : Fits w vars b notRewritten l new-e =
         record {
           coeff-lt = mod-sub-lt (e .coeff) (f .coeff) w hw;
           atom-lt = more-i .atom-lt;
@@ -189,7 +193,7 @@ module _ (w : ℕ) (hw : w ≤ 64) (vars : List ℕ) (b : Tree) (hb : Atom b) (g
             atom-value = more-i .masked ne .atom-value;
           };
         } in
-        let hf : Held w vars b l new-f =
+        let hf : Fits w vars b notRewritten l new-f =
         record {
           coeff-lt = held-j .coeff-lt;
           atom-lt = bare .bare-lt;

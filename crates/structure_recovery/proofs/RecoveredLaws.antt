@@ -31,16 +31,6 @@ below-more P i h p k l = go (ℕ-discrete k i)
     go (yes e) = subst P (sym e) p
     go (no e) = h k (omega arith)
 
--- ---- the word that says whether a table is full
-
-pub full-at : (made : List ℕ) → getD made 3 0 ≡ 1 → tableOf made .full ≡ true
-unfolding tableOf
-full-at made e = eq-eqb (getD made 3 0) 1 e
-
-pub more-at : (made : List ℕ) → (getD made 3 0 ≡ 1 → ⊥) → tableOf made .full ≡ false
-unfolding tableOf
-more-at made n = ne-eqb (getD made 3 0) 1 n
-
 -- ---- rows that pass a limit
 
 abbrev Past : Recovery → Type 0
@@ -71,7 +61,8 @@ module _ (w : ℕ) (t : Tree) where
       let e : Entry = at (x .group) i in
       let f : Entry = at (x .group) j in
       when-both Past (eqb (modAdd (e .coeff) (f .coeff) w) 0) _ _
-      (λ _. when-both Past (leb (countOnes (e .mask)) (countOnes (f .mask))) _ _ (λ _. past-xor i j x h) (λ _. past-xor j i x h))
+      (λ _. when-both Past (leb (countOnes (e .mask)) (countOnes (f .mask))) _ _ (λ _. past-xor i j x h)
+      (λ _. past-xor j i x h))
       (λ _. when-both Past (eqb (modSub (e .coeff) (f .coeff) w) 0) _ _ (λ _. h)
       (λ _. past-eliminate (modSub (e .coeff) (f .coeff) w) i j x h))
 

@@ -49,15 +49,15 @@ module _ (hash : ℕ) (t : List ℕ) where
   with-next r e s = fold-atom _ _ r e ∙ simp s
 
   -- i atoms of the bytes f passed, to the place `at`, and the tree not found
-  pub record Passed (f : List ℕ) (at i : ℕ) : Type 0 where
+  pub record Searched (f : List ℕ) (at i : ℕ) : Type 0 where
     pub inside : at ≤ length f
     pub bytes : i ≤ at
     pub rest : atomWith hash t f ≡ i + atomWith hash t (drop at f)
 
-  pub passed-none : (f : List ℕ) → Passed f 0 0
+  pub passed-none : (f : List ℕ) → Searched f 0 0
   passed-none f = record { inside = omega arith; bytes = omega arith; rest = omega arith }
 
-  module _ (f : List ℕ) (at i : ℕ) (h : Passed f at i) {r : List ℕ} (er : r ≡ drop at f) where
+  module _ (f : List ℕ) (at i : ℕ) (h : Searched f at i) {r : List ℕ} (er : r ≡ drop at f) where
     pub passed-end : isAtom r ≡ false → i ≡ atomWith hash t f
     passed-end e = omega (arith, h .rest, ap (atomWith hash t) er, with-none r e)
 
@@ -73,7 +73,7 @@ module _ (hash : ℕ) (t : List ℕ) where
       unfolding afterAtom
       after-at = ap (drop (atomLength r)) er ∙ drop-drop (atomLength r) at f
 
-      pub passed-next : hasTree hash t r ≡ false → Passed f (at + atomLength r) (i + 1)
+      pub passed-next : hasTree hash t r ≡ false → Searched f (at + atomLength r) (i + 1)
       unfolding atomLength
       passed-next s =
           record {

@@ -1,5 +1,5 @@
--- The coefficient of each bit of a sum of terms c & m of one basis, and the masks of the bits that have one coefficient
--- (structure_recovery.rs 384-402), of the first n coefficients and masks of two lists.
+-- Terms of one basis, each a coefficient and a mask: the coefficient of each bit, and the bits of each coefficient
+-- (structure_recovery.rs 382-400). They are read from the first n of two lists, and no atom is asked for.
 use Prim.Native.Nat.{ℕ, _+_, _^_}
 use mathlib.Core.List.{List, [], _∷_}
 use lib.ListN.{getD}

@@ -44,7 +44,12 @@ recoverXor w b src dst x =
       group =
           putEntry
           (putEntry (x .group) src
-          (record { coeff = at (x .group) dst .coeff; mask = 2 ^ w - 1; atom = length (x .rows); mark = rewrittenMark }))
+          (record {
+            coeff = at (x .group) dst .coeff;
+            mask = 2 ^ w - 1;
+            atom = length (x .rows);
+            mark = rewrittenMark;
+          }))
           dst (consumed (at (x .group) dst));
       rows = createRow xorFamily (Binary 6 (Constant (at (x .group) src .mask)) b) (x .rows);
       constant = modAdd (x .constant) (modMul (at (x .group) src .coeff) (at (x .group) src .mask) w) w;
@@ -76,7 +81,8 @@ countOnes m = onesIn 64 m
 unfoldable pub recoverPair : ℕ → Tree → ℕ → ℕ → Recovery → Recovery
 recoverPair w b i j x =
     when (eqb (modAdd (e .coeff) (f .coeff) w) 0)
-    (λ _. when (leb (countOnes (e .mask)) (countOnes (f .mask))) (λ _. recoverXor w b i j x) (λ _. recoverXor w b j i x))
+    (λ _. when (leb (countOnes (e .mask)) (countOnes (f .mask))) (λ _. recoverXor w b i j x)
+    (λ _. recoverXor w b j i x))
     (λ _. when (eqb (modSub (e .coeff) (f .coeff) w) 0) (λ _. x)
     (λ _. eliminateMask w b (modSub (e .coeff) (f .coeff) w) i j x))
   where

@@ -1,6 +1,6 @@
--- How recovering goes through the entries of a group and through the groups (src/pair.rt, src/recover.rt): what a turn makes of the
--- group, of the words of the table with the constant, and of the bytes. Where the table is full the rows pass a limit,
--- and nothing else is said of them (specs/Showing.antt).
+-- How recovering goes through the entries of a group and through the groups (src/pair.rt, src/recover.rt): what a turn
+-- makes of the group, of the words of the table with the constant, and of the bytes. Where the table is full the rows
+-- pass a limit, and nothing else is said of them (specs/Showing.antt).
 use mathlib.Core.Path.{_≡_}
 use Prim.Native.Nat.{ℕ, _+_, _-_, _≤_, _<_}
 use mathlib.Core.List.{List, [], _∷_}
@@ -8,15 +8,13 @@ use mathlib.Core.Bool.{Bool, true, false, _&&_}
 use lib.ListN.{length, getD}
 use lib.Dec.{eqb}
 use Rattle.record.specs.Loop.{firstIn}
-use Rattle.record.specs.Put.{padded}
 use Rattle.record.specs.Tree.{Tree}
 use Rattle.record.specs.Tree.Tree.{Constant, Binary}
 use Rattle.semilinear.specs.Form.{Row, Form, fitsTable}
-use Rattle.semilinear.specs.Terms.{coeffsOf}
 use Rattle.group.specs.declared.Group.{Group}
-use Rattle.group.specs.Group.{liveMark, at, isLive, emptyGroup, anyBasis, basesOf, groupOf, ungrouped, settle}
+use Rattle.group.specs.Group.{liveMark, emptyGroup, anyBasis, basesOf, groupOf, ungrouped, settle}
 use Rattle.group.specs.Made.{tableOf, Room, Held}
-use Rattle.group.specs.Shown.{Shown}
+use Rattle.group.specs.Shown.{Shown, Fair}
 use Rattle.structure_recovery.specs.RecoverStructure.{Recovery, recoverGroup, recoverAll}
 use Rattle.structure_recovery.specs.Showing.{Shows}
 
@@ -74,11 +72,9 @@ pub record Recovered (w n : ℕ) (f : Recovery → Recovery) (g : Group) (made o
 abbrev pub recovery : Group → List Row → ℕ → Recovery
 recovery g l c = record { group = g; rows = l; constant = c }
 
--- what recovering a group makes of the rows l: rows without a term are added, and live entries have atoms of the table
-pub record Fair (l : List Row) (x : Recovery) : Type 0 where
-  pub fits : fitsTable (x .rows) ≡ true → fitsTable l ≡ true
-  pub coeffs : fitsTable (x .rows) ≡ true → padded 256 (coeffsOf (x .rows)) ≡ padded 256 (coeffsOf l)
-  pub atoms : (i : ℕ) → i < x .group .len → isLive (at (x .group) i) ≡ true → at (x .group) i .atom < length (x .rows)
+-- what recovering a group makes of the rows l is fair
+abbrev pub FairRecovery : List Row → Recovery → Type 0
+FairRecovery l x = Fair l (x .group) (x .rows)
 
 -- the form that is being made, after a group is settled
 unfoldable pub settledForm : ℕ → Recovery → Form
@@ -95,7 +91,8 @@ pub record GroupRecovered (w n : ℕ) (t : Tree) (g : Group) (made out coeffs ma
   pub rows-le : getD made′ 4 0 ≤ getD made 4 0 + n
   pub long : length out′ ≡ length out
   pub wide : length coeffs′ ≡ length coeffs
-  pub shown : (l : List Row) → Fair l (recoverGroup w t (recovery g l (getD made 5 0))) → Shown w made out coeffs l
+  pub shown : (l : List Row) → FairRecovery l (recoverGroup w t (recovery g l (getD made 5 0)))
+      → Shown w made out coeffs l
       → ShowsForm w made′ out′ coeffs′ (settledForm w (recoverGroup w t (recovery g l (getD made 5 0))))
 
 -- the groups of these bases, read off the rows `before`, in turn
@@ -105,7 +102,7 @@ oneRecovered w before b l c = recoverGroup w b (recovery (groupOf anyBasis w b 0
 unfoldable pub AllFair : ℕ → List Row → List Tree → List Row → ℕ → Type 0
 AllFair w before [] l c = Unit {0}
 AllFair w before (b ∷ bs) l c =
-    Fair l (oneRecovered w before b l c)
+    FairRecovery l (oneRecovered w before b l c)
     × AllFair w before bs (settledForm w (oneRecovered w before b l c) .rows) (oneRecovered w before b l c .constant)
 
 -- all groups recovered

@@ -13,8 +13,9 @@ ghost use Rattle.record.specs.Tree.{encode, Encodable};
 ghost use Rattle.record.specs.Decode.{decode};
 ghost use Rattle.group.specs.Group.{liveMark};
 ghost use Rattle.group.specs.Made.{tableOf, Room, Basis};
-ghost use Rattle.structure_recovery.specs.RecoverStructure.{recoverXor, eliminateMask, countOnes};
-ghost use Rattle.structure_recovery.specs.RecoverStructure.{recoverPair, recoverAt, recoverGroup};
+ghost use Rattle.structure_recovery.specs.RecoverStructure.{recoverXor, eliminateMask};
+ghost use Rattle.structure_recovery.specs.RecoverStructure.{countOnes, recoverPair};
+ghost use Rattle.structure_recovery.specs.RecoverStructure.{recoverAt, recoverGroup};
 ghost use Rattle.structure_recovery.specs.Recovering.{partnerIn, NoPartner, Turned, Recovered};
 
 // What the mask `full` has beside m; 0 where m is above it.

@@ -1,4 +1,4 @@
--- Laws of the three-term collapse (group/specs/Collapse.antt): it keeps what `Kept` says.
+-- Laws of the three-term collapse (group/specs/Collapse.antt): it keeps what `KeptWork` says.
 use mathlib.Core.Path.{_≡_, refl, ap₂, subst, _∙_}
 use Prim.Native.Nat.{ℕ, _+_, _*_, _^_, _≤_, _<_}
 use native.Mathlib.Omega.{arith}
@@ -26,7 +26,8 @@ use Rattle.record.proofs.LoopLaws.{when-both}
 use Rattle.group.specs.Steps.{remasked}
 use Rattle.group.specs.Collapse.{findFirst}
 use Rattle.group.specs.Collapse.{collapseAt, threeTermCollapse}
-use Rattle.term_refiner.proofs.KeptLaws.{Fits, Kept, fits-grown, fits-fresh, kept-three}
+use Rattle.term_refiner.proofs.KeptLaws.{anyEntry, KeptWork, kept-three}
+use Rattle.group.proofs.FitsLaws.{Fits, fits-extends, fits-made}
 use Rattle.term_refiner.proofs.StepsLaws.{consumed-any, grown-mask, live-fits}
 
 module _ (w : ℕ) (hw : w ≤ 64) (vars : List ℕ) (b : Tree) (hb : isAtomTree b ≡ true) (g0 : Group)
@@ -60,8 +61,8 @@ module _ (w : ℕ) (hw : w ≤ 64) (vars : List ℕ) (b : Tree) (hb : isAtomTree
       (terms-collapse (2 ^ w) v (c .mask) (d .mask) (e .mask) (c .coeff) (d .coeff) (e .coeff) hc hd
       (eqm-trans (eqm-of-eq sum) (mod-add-eqm (c .coeff) (d .coeff) w hw)))))
 
-  collapse-keeps : (i j k : ℕ) (x : Work) → Collapsible w (x .group) i j k → Kept w vars b g0 rows0 x
-      → Kept w vars b g0 rows0 (collapseAt w b i j k x)
+  collapse-keeps : (i j k : ℕ) (x : Work) → Collapsible w (x .group) i j k → KeptWork w vars b g0 rows0 x
+      → KeptWork w vars b g0 rows0 (collapseAt w b i j k x)
   unfolding collapseAt remasked
   collapse-keeps i j k x t h =
       let c = at (x .group) i in
@@ -76,28 +77,31 @@ module _ (w : ℕ) (hw : w ≤ 64) (vars : List ℕ) (b : Tree) (hb : isAtomTree
       let fe = live-fits w hw vars b hb g0 rows0 x h k lk (t .live-k) in
       let ce = bitOr (c .mask) (e .mask) in
       let de = bitOr (d .mask) (e .mask) in
-      let hce : ce < 2 ^ w = or-lt w (c .mask) (e .mask) (fc .mask-lt) (fe .mask-lt) in
-      let hde : de < 2 ^ w = or-lt w (d .mask) (e .mask) (fd .mask-lt) (fe .mask-lt) in
+      let hce : ce < 2 ^ w = or-lt w (c .mask) (e .mask) (fc .masked tt .mask-lt) (fe .masked tt .mask-lt) in
+      let hde : de < 2 ^ w = or-lt w (d .mask) (e .mask) (fd .masked tt .mask-lt) (fe .masked tt .mask-lt) in
       let l : List Row = createMasked w b ce (x .rows) in
       let one = grown-mask w hw vars b hb g0 rows0 ce (x .rows) hce in
       let two = grown-mask w hw vars b hb g0 rows0 de l hde in
       let new-c : Entry = remasked c ce (length (x .rows)) in
       let new-d : Entry = remasked d de (length (x .rows) + 1) in
-      let fits-d : Fits w vars b (createMasked w b de l) new-d =
-      subst (λ (a : ℕ). Fits w vars b (createMasked w b de l) (remasked d de a)) (length-masked w vars b ce (x .rows))
-      (fits-fresh w vars b l (d .coeff) de (d .mark) (fd .coeff-lt) hde) in
+      let fits-d : Fits w vars b anyEntry (createMasked w b de l) new-d =
+      subst (λ (a : ℕ). Fits w vars b anyEntry (createMasked w b de l) (remasked d de a))
+      (length-masked w vars b ce (x .rows))
+      (fits-made w vars b anyEntry l (d .coeff) de (d .mark) (fd .coeff-lt) hde) in
       kept-three w vars b g0 rows0 x h (createMasked w b de l) (grown-trans w vars one two) i j new-c new-d
       (t .j-not-i) li lj
-      (λ _. fits-grown w vars b new-c two (fits-fresh w vars b (x .rows) (c .coeff) ce (c .mark) (fc .coeff-lt) hce))
+      (λ _. fits-extends w vars b anyEntry new-c (two .extends)
+      (fits-made w vars b anyEntry (x .rows) (c .coeff) ce (c .mark) (fc .coeff-lt) hce))
       (λ _. fits-d)
       k (consumed e) (t .k-not-i) (t .k-not-j) lk (consumed-any e)
       (collapse-sum c d e (length (x .rows)) (length (x .rows) + 1) (t .live-i) (t .live-j) (t .live-k) (t .apart-i)
       (t .apart-j) (t .sum))
 
-  pub three-term-keeps : (x : Work) → Kept w vars b g0 rows0 x → Kept w vars b g0 rows0 (threeTermCollapse w b x)
+  pub three-term-keeps : (x : Work) → KeptWork w vars b g0 rows0 x
+      → KeptWork w vars b g0 rows0 (threeTermCollapse w b x)
   unfolding threeTermCollapse
   three-term-keeps x h =
       let i = findFirst w (x .group) in
-      when-both (λ (y : Work). Kept w vars b g0 rows0 y) (ltb i (x .group .len)) _ x
+      when-both (λ (y : Work). KeptWork w vars b g0 rows0 y) (ltb i (x .group .len)) _ x
       (λ t. collapse-keeps _ _ _ x (found-collapsible w (x .group) (ltb-true i (x .group .len) t)) h)
       (λ t. h)

@@ -1,92 +1,43 @@
 -- What every step of refining keeps of a group beside its table: the sum of the live entries modulo 2 ^ w, the rows
 -- that were there, and that a live entry's atom is the basis b under the entry's mask.
-use mathlib.Core.Path.{_≡_, refl, ap, sym, subst, _∙_}
+use mathlib.Core.Path.{_≡_, refl, sym, subst, _∙_}
 use mathlib.Core.Logic.{_≢_}
 use Prim.Native.Nat.{ℕ, _+_, _^_, _<_}
-use native.Mathlib.Omega.{arith}
-use native.Mathlib.Decide.{ℕ-discrete}
 use mathlib.Core.List.{List}
 use mathlib.Core.Bool.{true}
-use lib.ListN.{length}
-use lib.Bits.{bitAnd}
 use Rattle.arith.specs.Congruence.{Eqm}
 use Rattle.arith.proofs.CongruenceLaws.{eqm-refl, eqm-trans}
 use Rattle.record.specs.Tree.{Tree}
 use Rattle.expr.specs.Value.{value}
 use Rattle.group.specs.declared.Group.{Group}
 use Rattle.semilinear.specs.Form.{Row, sumRows, rowsOk}
-use Rattle.group.specs.Group.{Entry, at, putEntry, isLive, Work, work, createMasked}
-use Rattle.group.proofs.EntryLaws.{Sized, sized-put, at-put, at-put-other}
+use Rattle.group.specs.Group.{Entry, at, putEntry, isLive, Work, work}
+use Rattle.group.proofs.EntryLaws.{Sized, sized-put}
 use Rattle.group.proofs.TotalLaws.{worth, total, len-put, sum-one, sum-two, sum-three}
-use Rattle.group.proofs.WorkLaws.{rowValue, Grown, grown-refl, grown-trans, length-masked, row-value-masked}
+use Rattle.group.proofs.WorkLaws.{Grown, grown-refl, grown-trans}
+use Rattle.group.proofs.FitsLaws.{Fits, AllFit, all-extends, all-put}
 
--- ---- the atoms of entries
-
-pub record Fits (w : ℕ) (vars : List ℕ) (b : Tree) (rows : List Row) (e : Entry) : Type 0 where
-  pub coeff-lt : e .coeff < 2 ^ w
-  pub mask-lt : e .mask < 2 ^ w
-  pub atom-lt : e .atom < length rows
-  pub atom-value : rowValue w vars rows (e .atom) ≡ bitAnd (value w vars b) (e .mask)
-
--- every live entry fits
-pub record AllFit (w : ℕ) (vars : List ℕ) (b : Tree) (g : Group) (rows : List Row) : Type 0 where
-  pub fit : (i : ℕ) → i < g .len → isLive (at g i) ≡ true → Fits w vars b rows (at g i)
-
-module _ (w : ℕ) (vars : List ℕ) (b : Tree) where
-  pub fits-grown : {l m : List Row} (e : Entry) → Grown w vars l m → Fits w vars b l e → Fits w vars b m e
-  fits-grown e g f =
-      record {
-        coeff-lt = f .coeff-lt;
-        mask-lt = f .mask-lt;
-        atom-lt = omega (arith, g .longer, f .atom-lt);
-        atom-value = g .older (e .atom) (f .atom-lt) ∙ f .atom-value;
-      }
-
-  all-grown : {l m : List Row} (g : Group) → Grown w vars l m → AllFit w vars b g l → AllFit w vars b g m
-  all-grown g h a = record { fit = λ i l live. fits-grown (at g i) h (a .fit i l live) }
-
-  -- an entry whose atom is made for its mask
-  pub fits-fresh : (l : List Row) (c m u : ℕ) → c < 2 ^ w → m < 2 ^ w
-      → Fits w vars b (createMasked w b m l) (record { coeff = c; mask = m; atom = length l; mark = u })
-  fits-fresh l c m u hc hm =
-      record {
-        coeff-lt = hc;
-        mask-lt = hm;
-        atom-lt = omega (arith, length-masked w vars b m l);
-        atom-value = row-value-masked w vars b m l hm;
-      }
-
-  module _ (g : Group) (s : Sized g) (l : List Row) (a : AllFit w vars b g l) (i : ℕ) (e : Entry)
-      (li : i < g .len) where
-    all-put : (isLive e ≡ true → Fits w vars b l e) → AllFit w vars b (putEntry g i e) l
-    all-put h = record { fit = λ k lk live. go k (ℕ-discrete k i) (subst (λ (n : ℕ). k < n) (len-put g i e) lk) live }
-      where
-        go : (k : ℕ) → Dec (k ≡ i) → k < g .len → isLive (at (putEntry g i e) k) ≡ true
-            → Fits w vars b l (at (putEntry g i e) k)
-        go k (yes q) lk =
-            let new : at (putEntry g i e) k ≡ e =
-            ap (at (putEntry g i e)) q ∙ at-put g i e s (omega (arith, s .len-le)) in
-            subst (λ (y : Entry). isLive y ≡ true → Fits w vars b l y) (sym new) h
-        go k (no q) lk =
-            subst (λ (y : Entry). isLive y ≡ true → Fits w vars b l y) (sym (at-put-other g i k e q)) (a .fit k lk)
+-- in refining the row of every live entry is the basis under its mask
+abbrev pub anyEntry : Entry → Type 0
+anyEntry e = Unit {0}
 
 -- ---- the state
 
-pub record Kept (w : ℕ) (vars : List ℕ) (b : Tree) (g0 : Group) (rows0 : List Row) (x : Work) : Type 0 where
+pub record KeptWork (w : ℕ) (vars : List ℕ) (b : Tree) (g0 : Group) (rows0 : List Row) (x : Work) : Type 0 where
   pub sized : Sized (x .group)
   pub len-same : x .group .len ≡ g0 .len
   pub total-same : Eqm (2 ^ w) (total (value w vars b) (x .group)) (total (value w vars b) g0)
-  pub all-fit : AllFit w vars b (x .group) (x .rows)
+  pub all-fit : AllFit w vars b anyEntry (x .group) (x .rows)
   pub grown : Grown w vars rows0 (x .rows)
 
 module _ (w : ℕ) (vars : List ℕ) (b : Tree) (g0 : Group) (rows0 : List Row) where
-  pub kept-rows-ok : (x : Work) → Kept w vars b g0 rows0 x → rowsOk w rows0 ≡ true → rowsOk w (x .rows) ≡ true
-  kept-rows-ok x h ok = h .grown .rows-ok ok
+  pub kept-rows-ok : (x : Work) → KeptWork w vars b g0 rows0 x → rowsOk w rows0 ≡ true → rowsOk w (x .rows) ≡ true
+  kept-rows-ok x h ok = h .grown .extends .ok ok
 
-  pub kept-sum-rows : (x : Work) → Kept w vars b g0 rows0 x → sumRows w vars (x .rows) ≡ sumRows w vars rows0
+  pub kept-sum-rows : (x : Work) → KeptWork w vars b g0 rows0 x → sumRows w vars (x .rows) ≡ sumRows w vars rows0
   kept-sum-rows x h = h .grown .sum-same
 
-  pub kept-start : Sized g0 → AllFit w vars b g0 rows0 → Kept w vars b g0 rows0 (work g0 rows0)
+  pub kept-start : Sized g0 → AllFit w vars b anyEntry g0 rows0 → KeptWork w vars b g0 rows0 (work g0 rows0)
   unfolding work
   kept-start s a =
       record {
@@ -98,22 +49,22 @@ module _ (w : ℕ) (vars : List ℕ) (b : Tree) (g0 : Group) (rows0 : List Row) 
       }
 
   -- one, two and three entries put beside a table that has grown
-  module _ (x : Work) (h : Kept w vars b g0 rows0 x) (l : List Row) (more : Grown w vars (x .rows) l) where
+  module _ (x : Work) (h : KeptWork w vars b g0 rows0 x) (l : List Row) (more : Grown w vars (x .rows) l) where
     abbrev v : ℕ
     v = value w vars b
 
     abbrev g : Group
     g = x .group
 
-    fitting : AllFit w vars b g l
-    fitting = all-grown w vars b (x .group) more (h .all-fit)
+    fitting : AllFit w vars b anyEntry g l
+    fitting = all-extends w vars b anyEntry (x .group) (more .extends) (h .all-fit)
 
     within : {i : ℕ} → i < g0 .len → i < g .len
     within {i} li = subst (λ (n : ℕ). i < n) (sym (h .len-same)) li
 
     -- a group that is sized, of the same length and sum, and fits
-    kept-with : (r : Group) → Sized r → r .len ≡ g .len → Eqm (2 ^ w) (total v r) (total v g) → AllFit w vars b r l
-        → Kept w vars b g0 rows0 (work r l)
+    kept-with : (r : Group) → Sized r → r .len ≡ g .len → Eqm (2 ^ w) (total v r) (total v g)
+        → AllFit w vars b anyEntry r l → KeptWork w vars b g0 rows0 (work r l)
     unfolding work
     kept-with r s n t a =
         record {
@@ -125,14 +76,14 @@ module _ (w : ℕ) (vars : List ℕ) (b : Tree) (g0 : Group) (rows0 : List Row) 
         }
 
     pub kept-one : (i : ℕ) (e : Entry) → i < g0 .len → Eqm (2 ^ w) (worth v e) (worth v (at g i))
-        → (isLive e ≡ true → Fits w vars b l e) → Kept w vars b g0 rows0 (work (putEntry g i e) l)
+        → (isLive e ≡ true → Fits w vars b anyEntry l e) → KeptWork w vars b g0 rows0 (work (putEntry g i e) l)
     kept-one i e li t f =
         kept-with (putEntry g i e) (sized-put g i e (h .sized)) (len-put g i e)
         (sum-one (2 ^ w) v g (h .sized) i e (within li) t)
-        (all-put w vars b g (h .sized) l fitting i e (within li) f)
+        (all-put w vars b anyEntry g (h .sized) l fitting i e (within li) f)
 
     module _ (i j : ℕ) (e f : Entry) (ne : j ≢ i) (li : i < g0 .len) (lj : j < g0 .len)
-        (fe : isLive e ≡ true → Fits w vars b l e) (ff : isLive f ≡ true → Fits w vars b l f) where
+        (fe : isLive e ≡ true → Fits w vars b anyEntry l e) (ff : isLive f ≡ true → Fits w vars b anyEntry l f) where
       abbrev r : Group
       r = putEntry (putEntry g i e) j f
 
@@ -142,20 +93,21 @@ module _ (w : ℕ) (vars : List ℕ) (b : Tree) (g0 : Group) (rows0 : List Row) 
       len-two : r .len ≡ g .len
       len-two = len-put (putEntry g i e) j f ∙ len-put g i e
 
-      fit-two : AllFit w vars b r l
+      fit-two : AllFit w vars b anyEntry r l
       fit-two =
-          all-put w vars b (putEntry g i e) (sized-put g i e (h .sized)) l
-          (all-put w vars b g (h .sized) l fitting i e (within li) fe) j f (rw (len-put g i e) (within lj)) ff
+          all-put w vars b anyEntry (putEntry g i e) (sized-put g i e (h .sized)) l
+          (all-put w vars b anyEntry g (h .sized) l fitting i e (within li) fe) j f (rw (len-put g i e) (within lj)) ff
 
       pub kept-two : Eqm (2 ^ w) (worth v e + worth v f) (worth v (at g i) + worth v (at g j))
-          → Kept w vars b g0 rows0 (work r l)
+          → KeptWork w vars b g0 rows0 (work r l)
       kept-two t =
           kept-with r sized-two len-two (sum-two (2 ^ w) v g (h .sized) i j e f ne (within li) (within lj) t) fit-two
 
-      pub kept-three : (k : ℕ) (d : Entry) → k ≢ i → k ≢ j → k < g0 .len → (isLive d ≡ true → Fits w vars b l d)
+      pub kept-three : (k : ℕ) (d : Entry) → k ≢ i → k ≢ j → k < g0 .len
+          → (isLive d ≡ true → Fits w vars b anyEntry l d)
           → Eqm (2 ^ w) (worth v e + worth v f + worth v d) (worth v (at g i) + worth v (at g j) + worth v (at g k))
-          → Kept w vars b g0 rows0 (work (putEntry r k d) l)
+          → KeptWork w vars b g0 rows0 (work (putEntry r k d) l)
       kept-three k d ki kj lk fd t =
           kept-with (putEntry r k d) (sized-put r k d sized-two) (len-put r k d ∙ len-two)
           (sum-three (2 ^ w) v g (h .sized) i j e f ne (within li) (within lj) k d ki kj (within lk) t)
-          (all-put w vars b r sized-two l fit-two k d (rw len-two (within lk)) fd)
+          (all-put w vars b anyEntry r sized-two l fit-two k d (rw len-two (within lk)) fd)

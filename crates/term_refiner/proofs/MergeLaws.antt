@@ -25,7 +25,7 @@ use Rattle.record.proofs.LoopLaws.{first-true, for-keeps}
 use Rattle.record.proofs.LoopLaws.{when-both}
 use Rattle.group.specs.Steps.{joinAt, slotFits, placeAt, placeBucket, bucketKeys, placeBuckets, bucketMerge}
 use Rattle.group.specs.Steps.{pairAt, pairMerge}
-use Rattle.term_refiner.proofs.KeptLaws.{Kept}
+use Rattle.term_refiner.proofs.KeptLaws.{KeptWork}
 use Rattle.term_refiner.proofs.StepsLaws.{CanJoin, live-fits, join-keeps}
 
 not-false : (a : Bool) → not a ≡ false → a ≡ true
@@ -39,7 +39,7 @@ nor-false false b e = false-true (sym e)
 module _ (w : ℕ) (hw : w ≤ 64) (vars : List ℕ) (b : Tree) (hb : isAtomTree b ≡ true) (g0 : Group)
     (rows0 : List Row) where
   abbrev K : Work → Type 0
-  K x = Kept w vars b g0 rows0 x
+  K x = KeptWork w vars b g0 rows0 x
 
   abbrev v : ℕ
   v = value w vars b

@@ -13,24 +13,26 @@ use Rattle.expr.specs.Hash.{structuralHash}
 use Rattle.expr.specs.Value.{value}
 use Rattle.group.specs.declared.Group.{Group}
 use Rattle.semilinear.specs.Form.{Row, Form, isAtomTree, sumRows, formValue, rowsOk, fitsTable, validForm}
-use Rattle.group.specs.Group.{Entry, Work, work, at, isLive, emptyGroup, anyBasis, basesOf, groupOf, ungrouped}
+use Rattle.group.specs.Group.{Work, work, at, isLive, emptyGroup, anyBasis, basesOf, groupOf, ungrouped}
 use Rattle.group.specs.Group.{settle}
 use Rattle.semilinear.proofs.FormLaws.{form-parts}
 use Rattle.semilinear.proofs.AtomLaws.{atom-tree, tree-atom}
 use Rattle.group.proofs.TotalLaws.{sumTo, sum-ext, worth, worth-live, worth-dead, total}
 use Rattle.group.proofs.BasesLaws.{risingFrom, risen}
 use Rattle.group.proofs.GroupsLaws.{basisSum, basesSum, termValue, groups-value, bases-rising}
-use Rattle.group.proofs.GroupOfLaws.{Fresh, group-of}
+use Rattle.group.proofs.GroupOfLaws.{group-of}
 use Rattle.group.proofs.SettleLaws.{owed, owed-live, owed-consumed, settled}
 use Rattle.group.proofs.CoeffsLaws.{fits-length}
-use Rattle.group.proofs.ExtendsLaws.{Extends, extends-trans, grown-extends, settled-extends, ungrouped-extends}
+use Rattle.group.proofs.WorkLaws.{Extends, extends-trans, Added, added-refl, added-trans, added-eqm, grown-added}
+use Rattle.group.proofs.ExtendsLaws.{ungrouped-extends}
+use Rattle.group.proofs.FitsLaws.{AllFit, fits-fresh}
 use Rattle.term_refiner.specs.RefineTerms.{refineGroup, refineAll, refineForm}
-use Rattle.term_refiner.specs.Refining.{Fair, settledRows, oneRefined, AllFair}
-use Rattle.term_refiner.proofs.KeptLaws.{Fits, AllFit, Kept, kept-start}
+use Rattle.term_refiner.specs.Refining.{FairWork, settledRows, oneRefined, AllFair}
+use Rattle.term_refiner.proofs.KeptLaws.{anyEntry, KeptWork, kept-start}
 use Rattle.term_refiner.proofs.RefineLaws.{refine-keeps}
 
 -- what the live entries owe is what they come to beside the basis
-owed-total : (w : ℕ) (vars : List ℕ) (b : Tree) (g : Group) (rows : List Row) → AllFit w vars b g rows
+owed-total : (w : ℕ) (vars : List ℕ) (b : Tree) (g : Group) (rows : List Row) → AllFit w vars b anyEntry g rows
     → sumTo (λ (k : ℕ). owed w vars rows (at g k)) (g .len) ≡ total (value w vars b) g
 unfolding total
 owed-total w vars b g rows a =
@@ -41,78 +43,49 @@ owed-total w vars b g rows a =
         → owed w vars rows (at g k) ≡ worth (value w vars b) (at g k)
     go k lk true e =
         owed-live w vars rows (at g k) e
-        ∙ ap (λ (n : ℕ). at g k .coeff * n) (a .fit k lk e .atom-value)
+        ∙ ap (λ (n : ℕ). at g k .coeff * n) (a .fit k lk e .masked tt .atom-value)
         ∙ sym (worth-live (value w vars b) (at g k) e)
     go k lk false e = owed-consumed w vars rows (at g k) e ∙ sym (worth-dead (value w vars b) (at g k) e)
 
 module _ (w : ℕ) (hw : w ≤ 64) (vars : List ℕ) (before : List Row) (most : length before ≤ 256)
     (ok : rowsOk w before ≡ true) where
-  -- the table after the group of the basis b
-  record Step (b : Tree) (rows after : List Row) : Type 0 where
-    sum : Eqm (2 ^ w) (sumRows w vars after) (sumRows w vars rows + basisSum anyBasis w (termValue w vars) b before)
-    extends : Extends w vars rows after
-
-  fresh-fits : (b : Tree) (rows : List Row) → Extends w vars before rows → (e : Entry) → Fresh w vars b before e
-      → Fits w vars b rows e
-  fresh-fits b rows x e f =
-      record {
-        coeff-lt = f .coeff-lt;
-        mask-lt = f .mask-lt;
-        atom-lt = omega (arith, f .atom-lt, x .longer);
-        atom-value = x .older (e .atom) (f .atom-lt) ∙ f .atom-value;
-      }
-
   -- the group of the basis b, refined
   kept : (b : Tree) → isAtomTree b ≡ true → (rows : List Row) → Extends w vars before rows
-      → Kept w vars b (groupOf anyBasis w b 0 before emptyGroup) rows (oneRefined w before b rows)
+      → KeptWork w vars b (groupOf anyBasis w b 0 before emptyGroup) rows (oneRefined w before b rows)
   kept b hb rows e =
       let g : Group = groupOf anyBasis w b 0 before emptyGroup in
       let o = group-of anyBasis w vars b (tree-atom b hb .expr) before most ok in
-      let a : AllFit w vars b g rows =
-      record { fit = λ k lk live. fresh-fits b rows e (at g k) (o .fresh k lk) } in
+      let a : AllFit w vars b anyEntry g rows =
+      record { fit = λ k lk live. fits-fresh w vars b anyEntry (at g k) e (o .fresh k lk) } in
       refine-keeps w hw vars b hb g rows (work g rows) (kept-start w vars b g rows (o .sized) a)
 
   step : (b : Tree) → isAtomTree b ≡ true → (rows : List Row) → Extends w vars before rows
       → let x : Work = refineGroup w b (work (groupOf anyBasis w b 0 before emptyGroup) rows) in
-      Step b rows (settle w (x .group) (x .rows))
+      Added w vars (basisSum anyBasis w (termValue w vars) b before) rows (settle w (x .group) (x .rows))
   step b hb rows e =
       let g : Group = groupOf anyBasis w b 0 before emptyGroup in
       let o = group-of anyBasis w vars b (tree-atom b hb .expr) before most ok in
       let k = kept b hb rows e in
       let x : Work = refineGroup w b (work g rows) in
       let s = settled w vars hw (x .group) (x .rows) (λ i li live. k .all-fit .fit i li live .atom-lt) in
-      record {
-        sum =
-            eqm-trans (s .sum)
-            (eqm-add (eqm-of-eq (k .grown .sum-same))
-            (eqm-trans (eqm-of-eq (owed-total w vars b (x .group) (x .rows) (k .all-fit)))
-            (eqm-trans (k .total-same) (eqm-of-eq (o .sum)))));
-        extends = extends-trans w vars (grown-extends w vars (k .grown)) (settled-extends w vars s);
-      }
+      added-eqm w vars
+      (eqm-trans (eqm-of-eq (omega (arith, owed-total w vars b (x .group) (x .rows) (k .all-fit))))
+      (eqm-trans (k .total-same) (eqm-of-eq (o .sum))))
+      (added-trans w vars (grown-added w vars (k .grown)) s)
 
   -- and after all groups
-  record Steps (bases : List Tree) (rows after : List Row) : Type 0 where
-    sum : Eqm (2 ^ w) (sumRows w vars after) (sumRows w vars rows + basesSum anyBasis w (termValue w vars) bases before)
-    extends : Extends w vars before after
-
   steps : (bases : List Tree) (n : ℕ) → risingFrom n bases ≡ true → (rows : List Row) → Extends w vars before rows
-      → Steps bases rows (refineAll w before bases rows)
+      → Added w vars (basesSum anyBasis w (termValue w vars) bases before) rows (refineAll w before bases rows)
   unfolding refineAll basesSum
-  steps [] n r rows e = record { sum = eqm-of-eq (omega arith); extends = e }
+  steps [] n r rows e = added-refl w vars rows
   steps (b ∷ l) n r rows e =
       let p = risen n b l r in
       let s = step b (atom-tree b (p .atom)) rows e in
-      let t = steps l (structuralHash b) (p .rest) _ (extends-trans w vars e (s .extends)) in
-      record {
-        sum =
-            eqm-trans (t .sum)
-            (eqm-trans (eqm-add (s .sum) (eqm-refl (basesSum anyBasis w (termValue w vars) l before))) (eqm-of-eq (omega arith)));
-        extends = t .extends;
-      }
+      added-trans w vars s (steps l (structuralHash b) (p .rest) _ (extends-trans w vars e (s .extends)))
 
   -- and each group was refined fairly: rows without a term are added, and live entries have atoms of the table
   fair : (b : Tree) → isAtomTree b ≡ true → (rows : List Row) → Extends w vars before rows
-      → Fair rows (oneRefined w before b rows)
+      → FairWork rows (oneRefined w before b rows)
   fair b hb rows e =
       let k = kept b hb rows e in
       record {
@@ -134,8 +107,10 @@ module _ (w : ℕ) (hw : w ≤ 64) (vars : List ℕ) (before : List Row) (most :
 -- ---- the form
 
 module _ (f : Form) (e : validForm f ≡ true) where
-  made : (vars : List ℕ) → Steps (f .bitwidth) (form-parts f e .width-le) vars (f .rows) (form-parts f e .atoms-le)
-      (form-parts f e .rows-ok) (basesOf anyBasis (f .bitwidth) (f .rows) [])
+  made : (vars : List ℕ)
+      → Added (f .bitwidth) vars
+      (basesSum anyBasis (f .bitwidth) (termValue (f .bitwidth) vars)
+      (basesOf anyBasis (f .bitwidth) (f .rows) []) (f .rows))
       (ungrouped anyBasis (f .bitwidth) (f .rows)) (refineForm f .rows)
   unfolding refineForm
   made vars =
@@ -161,7 +136,7 @@ module _ (f : Form) (e : validForm f ≡ true) where
         le-leb (f .bitwidth) 64 (v .width-le),
         lt-ltb (f .constant) (2 ^ f .bitwidth) (v .fits),
         h,
-        made [] .extends .ok (v .rows-ok),
+        made [] .extends .ok (ungrouped-extends anyBasis (f .bitwidth) [] (f .rows) .ok (v .rows-ok)),
       )
 
   -- refining is fair to the rows of a valid form

@@ -1,5 +1,5 @@
--- Laws of specs/RefineTerms.antt: refining a group keeps the sum of its live entries modulo 2 ^ w, and what else `Kept`
--- says.
+-- Laws of specs/RefineTerms.antt: refining a group keeps the sum of its live entries modulo 2 ^ w, and what else
+-- `KeptWork` says.
 use mathlib.Core.Path.{_≡_}
 use Prim.Native.Nat.{ℕ, _≤_}
 use mathlib.Core.List.{List}
@@ -10,14 +10,14 @@ use Rattle.semilinear.specs.Form.{Row, isAtomTree}
 use Rattle.group.specs.Group.{Work, work, onGroup}
 use Rattle.group.specs.Steps.{cutMasks, dropZero, bucketMerge, pairMerge, toMinusOne}
 use Rattle.term_refiner.specs.RefineTerms.{refineGroup}
-use Rattle.term_refiner.proofs.KeptLaws.{Kept}
+use Rattle.term_refiner.proofs.KeptLaws.{KeptWork}
 use Rattle.term_refiner.proofs.StepsLaws.{cut-masks-keep, drop-zero-keeps, minus-one-keeps}
 use Rattle.term_refiner.proofs.MergeLaws.{bucket-keeps, pair-merge-keeps}
 use Rattle.term_refiner.proofs.CollapseLaws.{three-term-keeps}
 
 module _ (w : ℕ) (hw : w ≤ 64) (vars : List ℕ) (b : Tree) (hb : isAtomTree b ≡ true) (g0 : Group)
     (rows0 : List Row) where
-  pub refine-keeps : (x : Work) → Kept w vars b g0 rows0 x → Kept w vars b g0 rows0 (refineGroup w b x)
+  pub refine-keeps : (x : Work) → KeptWork w vars b g0 rows0 x → KeptWork w vars b g0 rows0 (refineGroup w b x)
   unfolding refineGroup onGroup work
   refine-keeps x h =
       let cut : Work = cutMasks w b x in

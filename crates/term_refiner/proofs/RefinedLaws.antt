@@ -20,7 +20,7 @@ use Rattle.semilinear.specs.Table.{Placed}
 use Rattle.semilinear.specs.Terms.{Copied, Finished}
 use Rattle.semilinear.proofs.AcceptLaws.{form-valid}
 use Rattle.group.specs.Made.{tableOf}
-use Rattle.group.proofs.PassLaws.{held-form}
+use Rattle.group.proofs.PassLaws.{held-form, pass-room}
 use Rattle.group.proofs.ShownLaws.{begun, shown-ends}
 use Rattle.term_refiner.specs.RefineTerms.{refineForm}
 use Rattle.term_refiner.specs.Refining.{RowsRefined}
@@ -46,6 +46,4 @@ pub refine-room : {w : ℕ} {rows : List Row} {before out made out′ coeffs : L
     → RowsRefined w rows before out made out′ coeffs → {tab : Table} → tab ≡ tableOf made → length out ≡ 57360
     → (tab .full ≡ false → Placed tab (length out′)) × (length out′ ≡ 57360)
     × (tab .full ≡ false → 1 * tab .count ≤ length coeffs)
-refine-room {out′ = out′} r {tab} et e =
-    let placed : Placed tab (length out′) = rw et (r .room .placed) in
-    (λ _. placed, r .long ∙ e, λ _. omega (arith, placed .atoms-le, r .wide))
+refine-room {out = out} {coeffs = coeffs} r et e = pass-room out coeffs (r .room) (r .long) (r .wide) et e

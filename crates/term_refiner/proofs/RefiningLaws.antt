@@ -27,7 +27,7 @@ use Rattle.group.proofs.SettleWordsLaws.{length-settle}
 use Rattle.group.proofs.ShownLaws.{shown-settle}
 use Rattle.group.proofs.LoneLaws.{lone-len, settle-lone, refined-lone}
 use Rattle.term_refiner.specs.RefineTerms.{refineGroup}
-use Rattle.term_refiner.specs.Refining.{Fair, settledRows, GroupRefined}
+use Rattle.term_refiner.specs.Refining.{FairWork, settledRows, GroupRefined}
 
 -- ---- the length of a group, as the code has it
 
@@ -57,7 +57,7 @@ refined-is w t x = refl
 module _ {w n : ℕ} (t : Tree) {g r : Group} {made out made′ out′ coeffs coeffs′ : List ℕ} (hw : w ≤ 64)
     (few : n ≤ 262144) (s : Stepped w n (collapsed w t) g made out r made′ out′) (m : ℕ) (em : m ≡ g .len)
     (e : coeffs′ ≡ settleWords w (r .coeffs) (r .atoms) (r .marks) m coeffs) where
-  shown-rows : (l : List Row) → Fair l (refineGroup w t (work g l)) → Shown w made out coeffs l
+  shown-rows : (l : List Row) → FairWork l (refineGroup w t (work g l)) → Shown w made out coeffs l
       → Shown w made′ out′ coeffs′ (settledRows w (refineGroup w t (work g l)))
   unfolding settledRows work
   shown-rows l fair shown =

@@ -1,5 +1,5 @@
 -- Laws of specs/Steps.antt: the cut of masks, the changes of coefficients and the join of two entries keep the sum of
--- the live entries modulo 2 ^ w, and what else `Kept` says.
+-- the live entries modulo 2 ^ w, and what else `KeptWork` says.
 use mathlib.Core.Path.{_≡_, refl, ap₂, sym, subst, _∙_}
 use Prim.Native.Nat.{ℕ, _+_, _-_, _*_, _^_, _≤_, _<_}
 use native.Mathlib.Omega.{arith}
@@ -25,7 +25,8 @@ use Rattle.group.proofs.TotalLaws.{worth, worth-live, worth-consumed, live-mark
 use Rattle.group.proofs.WorkLaws.{Grown, grown-refl, grown-masked}
 use Rattle.record.proofs.LoopLaws.{when-both, for-keeps}
 use Rattle.group.specs.Steps.{remasked, cutAt, cutMasks, dropAt, dropZero, joinAt, minusOneAt, toMinusOne}
-use Rattle.term_refiner.proofs.KeptLaws.{Fits, Kept, fits-fresh, kept-one, kept-two}
+use Rattle.term_refiner.proofs.KeptLaws.{anyEntry, KeptWork, kept-one, kept-two}
+use Rattle.group.proofs.FitsLaws.{Fits, fits-made}
 
 -- ---- entries
 
@@ -50,7 +51,7 @@ pub record CanJoin (w x c : ℕ) (e f : Entry) : Type 0 where
 module _ (w : ℕ) (hw : w ≤ 64) (vars : List ℕ) (b : Tree) (hb : isAtomTree b ≡ true) (g0 : Group)
     (rows0 : List Row) where
   abbrev K : Work → Type 0
-  K x = Kept w vars b g0 rows0 x
+  K x = KeptWork w vars b g0 rows0 x
 
   abbrev v : ℕ
   v = value w vars b
@@ -60,7 +61,7 @@ module _ (w : ℕ) (hw : w ≤ 64) (vars : List ℕ) (b : Tree) (hb : isAtomTree
 
   -- a live entry fits
   pub live-fits : (x : Work) → K x → (i : ℕ) → i < g0 .len → isLive (at (x .group) i) ≡ true
-      → Fits w vars b (x .rows) (at (x .group) i)
+      → Fits w vars b anyEntry (x .rows) (at (x .group) i)
   live-fits x h i l live = h .all-fit .fit i (subst (λ (n : ℕ). i < n) (sym (h .len-same)) l) live
 
   -- ---- the masks cut
@@ -74,11 +75,11 @@ module _ (w : ℕ) (hw : w ≤ 64) (vars : List ℕ) (b : Tree) (hb : isAtomTree
       (λ t.
       let live = and-true (isLive e) (not (eqb m (e .mask))) t .0 in
       let f = live-fits x h i l live in
-      let hm : m < 2 ^ w = lt-of-le-of-lt (and-le-l (e .mask) (effectiveMask (e .coeff) w)) (f .mask-lt) in
+      let hm : m < 2 ^ w = lt-of-le-of-lt (and-le-l (e .mask) (effectiveMask (e .coeff) w)) (f .masked tt .mask-lt) in
       let new : Entry = remasked e m (length (x .rows)) in
       kept-one w vars b g0 rows0 x h (createMasked w b m (x .rows)) (grown-mask m (x .rows) hm) i new l
       (worth-eqm (2 ^ w) v new e (live-mark new e refl ∙ live) live (reduce-eqm (e .coeff) w v (e .mask) hw))
-      (λ _. fits-fresh w vars b (x .rows) (e .coeff) m (e .mark) (f .coeff-lt) hm))
+      (λ _. fits-made w vars b anyEntry (x .rows) (e .coeff) m (e .mark) (f .coeff-lt) hm))
       (λ t. h)
 
   pub cut-masks-keep : (x : Work) → K x → K (cutMasks w b x)
@@ -129,9 +130,8 @@ module _ (w : ℕ) (hw : w ≤ 64) (vars : List ℕ) (b : Tree) (hb : isAtomTree
       (coefficient-sound (e .coeff) (2 ^ w - 1) (e .mask) w hw (lt-of-lt-of-le (ones-lt w) (pow-mono hw)) (q .1) v)))
       (λ _. record {
         coeff-lt = ones-lt w;
-        mask-lt = f .mask-lt;
         atom-lt = f .atom-lt;
-        atom-value = f .atom-value;
+        masked = λ p. record { mask-lt = f .masked p .mask-lt; atom-value = f .masked p .atom-value };
       }))
       (λ t. h)
 
@@ -152,7 +152,8 @@ module _ (w : ℕ) (hw : w ≤ 64) (vars : List ℕ) (b : Tree) (hb : isAtomTree
       let li : i < g0 .len = omega arith in
       let m = bitOr (e .mask) (f .mask) in
       let hm : m < 2 ^ w =
-      or-lt w (e .mask) (f .mask) (live-fits x h i li (p .live-l) .mask-lt) (live-fits x h j lj (p .live-r) .mask-lt) in
+      or-lt w (e .mask) (f .mask) (live-fits x h i li (p .live-l) .masked tt .mask-lt)
+      (live-fits x h j lj (p .live-r) .masked tt .mask-lt) in
       let new : Entry = record { coeff = c; mask = m; atom = length (x .rows); mark = e .mark } in
       let both : worth v new + worth v (consumed f) ≡ c * bitAnd v (e .mask) + c * bitAnd v (f .mask) =
       ap₂ (λ (y z : ℕ). y + z) (worth-live v new (live-mark new e refl ∙ p .live-l)) (worth-consumed v f)
@@ -160,7 +161,7 @@ module _ (w : ℕ) (hw : w ≤ 64) (vars : List ℕ) (b : Tree) (hb : isAtomTree
       ∙ sym (terms-merge c v (e .mask) (f .mask) (p .disjoint)) in
       kept-two w vars b g0 rows0 x h (createMasked w b m (x .rows)) (grown-mask m (x .rows) hm) i j new (consumed f)
       (λ (z : j ≡ i). omega arith) li lj
-      (λ _. fits-fresh w vars b (x .rows) c m (e .mark) (p .coeff-lt) hm)
+      (λ _. fits-made w vars b anyEntry (x .rows) c m (e .mark) (p .coeff-lt) hm)
       (consumed-any f)
       (eqm-trans (eqm-of-eq both)
       (eqm-sym

@@ -1,25 +1,20 @@
 -- How refining goes through the groups (src/lib.rt): what a turn makes of the table, of the words with the coefficients
 -- and of the bytes, said for all rows that they show.
 use mathlib.Core.Path.{_≡_}
-use Prim.Native.Nat.{ℕ, _≤_, _<_}
+use Prim.Native.Nat.{ℕ}
 use mathlib.Core.List.{List, [], _∷_}
-use mathlib.Core.Bool.{true}
 use lib.ListN.{length}
-use Rattle.record.specs.Put.{padded}
 use Rattle.record.specs.Tree.{Tree}
-use Rattle.semilinear.specs.Form.{Row, fitsTable}
-use Rattle.semilinear.specs.Terms.{coeffsOf}
+use Rattle.semilinear.specs.Form.{Row}
 use Rattle.group.specs.declared.Group.{Group}
-use Rattle.group.specs.Group.{at, isLive, Work, work, emptyGroup, anyBasis, basesOf, groupOf, ungrouped, settle}
+use Rattle.group.specs.Group.{Work, work, emptyGroup, anyBasis, basesOf, groupOf, ungrouped, settle}
 use Rattle.group.specs.Made.{Room, Later, Held}
-use Rattle.group.specs.Shown.{Shown}
+use Rattle.group.specs.Shown.{Shown, Fair}
 use Rattle.term_refiner.specs.RefineTerms.{refineGroup, refineAll}
 
--- what refining a group makes of the rows l: rows without a term are added, and live entries have atoms of the table
-pub record Fair (l : List Row) (x : Work) : Type 0 where
-  pub fits : fitsTable (x .rows) ≡ true → fitsTable l ≡ true
-  pub coeffs : fitsTable (x .rows) ≡ true → padded 256 (coeffsOf (x .rows)) ≡ padded 256 (coeffsOf l)
-  pub atoms : (i : ℕ) → i < x .group .len → isLive (at (x .group) i) ≡ true → at (x .group) i .atom < length (x .rows)
+-- what refining a group makes of the rows l is fair
+abbrev pub FairWork : List Row → Work → Type 0
+FairWork l x = Fair l (x .group) (x .rows)
 
 -- the rows with a refined group settled
 unfoldable pub settledRows : ℕ → Work → List Row
@@ -31,7 +26,7 @@ pub record GroupRefined (w n : ℕ) (t : Tree) (g : Group) (made out coeffs made
   pub later : Later n made made′
   pub long : length out′ ≡ length out
   pub wide : length coeffs′ ≡ length coeffs
-  pub shown : (l : List Row) → Fair l (refineGroup w t (work g l)) → Shown w made out coeffs l
+  pub shown : (l : List Row) → FairWork l (refineGroup w t (work g l)) → Shown w made out coeffs l
       → Shown w made′ out′ coeffs′ (settledRows w (refineGroup w t (work g l)))
 
 -- the groups of these bases, read off the rows `before`, in turn
@@ -41,7 +36,7 @@ oneRefined w before b l = refineGroup w b (work (groupOf anyBasis w b 0 before e
 unfoldable pub AllFair : ℕ → List Row → List Tree → List Row → Type 0
 AllFair w before [] l = Unit {0}
 AllFair w before (b ∷ bs) l =
-    Fair l (oneRefined w before b l) × AllFair w before bs (settledRows w (oneRefined w before b l))
+    FairWork l (oneRefined w before b l) × AllFair w before bs (settledRows w (oneRefined w before b l))
 
 -- all groups refined
 pub record AllRefined (w : ℕ) (before : List Row) (bases : List Tree) (made out coeffs made′ out′ coeffs′ : List ℕ)

@@ -7,7 +7,7 @@ use denote.Ref.{now}
 use native.Mathlib.Omega.{arith}
 use borrow.Author.Needs.{needs}
 use mathlib.Core.Path.{refl, ap, ap₂, sym, _∙_}
-use Rattle.semilinear_normalizer.specs.Index.{joinProvenance}
+use Rattle.semilinear_normalizer.specs.Register.{joinProvenance}
 use Rattle.semilinear_normalizer.proofs.RegisteredLaws.{provenance-leaf, provenance-not, provenance-other}
 use Rattle.semilinear_normalizer.proofs.RegisteredLaws.{provenance-two}
 use Prim.Native.Nat.{ℕ, _<_}

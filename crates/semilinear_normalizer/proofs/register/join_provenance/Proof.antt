@@ -1,7 +1,7 @@
 -- `join_provenance` meets its contract: its definition at each kind.
 use mathlib.Core.Path.{_∙_}
 use borrow.Author.Tests.{ne-eqb}
-use Rattle.semilinear_normalizer.specs.Index.{joinProvenance}
+use Rattle.semilinear_normalizer.specs.Register.{joinProvenance}
 use borrow.Author.Needs.{needs}
 use Rattle.semilinear_normalizer.proofs.register.join_provenance.Statement.{statement}
 use Rattle.semilinear_normalizer.proofs.register.join_provenance.Tie as tie

@@ -5,12 +5,13 @@ use native.Mathlib.Omega.{arith}
 use borrow.Author.Needs.{needs}
 use lib.ListN.{length}
 use borrow.Author.Tests.{not-true, not-false}
-use Rattle.structure_recovery.proofs.SearchLaws.{Passed, passed-none, passed-end, passed-found, passed-next, atom-inside}
+use Rattle.structure_recovery.proofs.SearchLaws.{Searched, passed-none, passed-end, passed-found}
+use Rattle.structure_recovery.proofs.SearchLaws.{passed-next, atom-inside}
 use Rattle.structure_recovery.proofs.bare.row_with.Statement.{statement}
 use Rattle.structure_recovery.proofs.bare.row_with.Tie as tie
 
 abbrev Inv-loop : tie.InvT-loop
-Inv-loop f t hash at₀ i₀ at i = Passed hash t f at i
+Inv-loop f t hash at₀ i₀ at i = Searched hash t f at i
 
 abbrev μ-loop : tie.MeasureT-loop
 μ-loop f t hash at₀ i₀ at i = length f - at

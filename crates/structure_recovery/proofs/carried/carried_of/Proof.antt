@@ -37,7 +37,8 @@ carry-at-requires c κs =
       omega (arith, pre .1, lt),
       omega (arith, few, pre .1, lt, pre .2, h .inv .1 .long),
       omega (arith, few, pre .1, lt, pre .3, h .inv .1 .wide),
-      to-below (a .w) cs ms (a .n) (pre .1) (h .p) (h .count) (h .inv .1) (omega (arith, few, pre .1, lt, pre .2, h .inv .1 .long))
+      to-below (a .w) cs ms (a .n) (pre .1) (h .p) (h .count) (h .inv .1)
+          (omega (arith, few, pre .1, lt, pre .2, h .inv .1 .long))
           (omega (arith, few, pre .1, lt, pre .3, h .inv .1 .wide)),
     )
 

@@ -4,7 +4,8 @@ use native.Mathlib.Omega.{arith}
 use denote.Ref.{now}
 use Rattle.arith.proofs.WidthLaws.{bitmask-ones}
 use Rattle.record.specs.Decode.{decode}
-use Rattle.structure_recovery.proofs.NewTermsLaws.{row-past, is-full, not-full, coalesced-full, term-bare, term-masked}
+use Rattle.structure_recovery.proofs.NewTermsLaws.{row-past, coalesced-full, term-bare, term-masked}
+use Rattle.group.proofs.WordsLaws.{is-full, not-full}
 use borrow.Author.Needs.{needs}
 use Rattle.structure_recovery.proofs.carried.put_term.Statement.{statement}
 use Rattle.structure_recovery.proofs.carried.put_term.Tie as tie

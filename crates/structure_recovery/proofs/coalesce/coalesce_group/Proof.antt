@@ -5,7 +5,8 @@ use denote.Ref.{now}
 use Rattle.record.specs.Decode.{decode}
 use Rattle.group.specs.Gathered.{gathered}
 use Rattle.group.proofs.PassLaws.{few-entries}
-use Rattle.structure_recovery.proofs.NewTermsLaws.{is-full, coalesced-full}
+use Rattle.structure_recovery.proofs.NewTermsLaws.{coalesced-full}
+use Rattle.group.proofs.WordsLaws.{is-full}
 use Rattle.structure_recovery.proofs.CoalesceTurnLaws.{group-past, short-turn, many-turn, rewritten-turn}
 use Rattle.structure_recovery.proofs.CoalesceTurnLaws.{carried-count, atoms-below, coalesced-of}
 use borrow.Author.Needs.{needs}

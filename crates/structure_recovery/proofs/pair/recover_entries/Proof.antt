@@ -6,7 +6,7 @@ use Rattle.record.specs.Decode.{decode}
 use Rattle.record.specs.Loop.{forIn}
 use Rattle.structure_recovery.specs.RecoverStructure.{recoverAt}
 use Rattle.structure_recovery.specs.Recovering.{Recovered}
-use Rattle.structure_recovery.proofs.RecoveredLaws.{full-at, more-at}
+use Rattle.group.proofs.WordsLaws.{is-full, not-full}
 use Rattle.structure_recovery.proofs.RecoveredLaws.{recovered-start, recovered-turn, recovered-stop, recovered-done}
 use Rattle.structure_recovery.proofs.pair.recover_entries.Statement.{statement}
 use Rattle.structure_recovery.proofs.pair.recover_entries.Tie as tie
@@ -34,7 +34,7 @@ returns : tie.Need-returns Inv-loop μ-loop
 returns c =
     let inv = c .before .before .before .loop .inv in
     recovered-stop _ _ (inv .2) (inv .1) (inv .0) (omega (arith, inv .1, c .before .before .before .before .before .before .before .pre .4))
-    (full-at _ (c .if1 .taken))
+    (is-full _ (c .if1 .taken))
 
 recover-entry-requires : tie.Need-recover-entry-requires Inv-loop μ-loop
 recover-entry-requires c κs =
@@ -46,7 +46,7 @@ recover-entry-requires c κs =
       pre .3,
       omega (arith, c .before .before .before .before .loop-test .taken, inv .1, inv .2 .len),
       omega (arith, inv .2 .len, pre .4),
-      more-at _ (c .before .before .if1 .left),
+      not-full _ (c .before .before .if1 .left),
     )
 
 add-i : tie.Need-add-i Inv-loop μ-loop
@@ -61,7 +61,7 @@ loop-again c =
       omega (arith, c .before .before .before .before .before .before .before .before .before .loop-test .taken),
       inv .1,
       recovered-turn _ _ (inv .2)
-          (more-at _ (c .before .before .before .before .before .before .before .if1 .left)) (c .before .before .before .before .recover-entry .ensures),
+          (not-full _ (c .before .before .before .before .before .before .before .if1 .left)) (c .before .before .before .before .recover-entry .ensures),
     )
 
 same-length-3 : tie.Need-same-length-3 Inv-loop μ-loop

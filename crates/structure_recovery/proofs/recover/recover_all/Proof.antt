@@ -7,7 +7,7 @@ use Rattle.semilinear.specs.Items.{afterAtoms}
 use Rattle.semilinear.specs.DecodeForm.{rowsOf}
 use Rattle.group.specs.Group.{anyBasis, basesOf}
 use Rattle.group.proofs.PassLaws.{readable-at, count-few, count-room, next-at, end-at, group-at}
-use Rattle.structure_recovery.proofs.RecoveredLaws.{full-at, more-at}
+use Rattle.group.proofs.WordsLaws.{is-full, not-full}
 use Rattle.structure_recovery.proofs.AllRecoveredLaws.{Going, going-start, going-next, going-stop, going-done}
 use Rattle.structure_recovery.proofs.recover.recover_all.Statement.{statement}
 use Rattle.structure_recovery.proofs.recover.recover_all.Tie as tie
@@ -38,7 +38,7 @@ same-length-3 : tie.Need-same-length-3 Inv-loop μ-loop
 same-length-3 c = c .before .before .before .loop .inv .1 .long
 
 returns : tie.Need-returns Inv-loop μ-loop
-returns c = going-stop _ _ _ _ (c .before .before .before .loop .inv .1) (full-at _ (c .if1 .taken))
+returns c = going-stop _ _ _ _ (c .before .before .before .loop .inv .1) (is-full _ (c .if1 .taken))
 
 mul-first : tie.Need-mul-first Inv-loop μ-loop
 mul-first c =
@@ -81,7 +81,7 @@ loop-again c =
     let at-start = at-loop .before .before .before .before .before .before .before in
     let pre = at-start .pre in let less = at-test .loop-test .taken in let k = at-loop .loop .k in (
       omega (arith, less),
-      going-next _ _ _ k (at-loop .loop .inv .1) (more-at _ (at-if1 .if1 .left))
+      going-next _ _ _ k (at-loop .loop .inv .1) (not-full _ (at-if1 .if1 .left))
           (next-at _ _ _ _ _ _ _ _ (pre .4) (pre .5) (pre .6) k less .next) (group-at _ _ _ _ _ _ _ _ (pre .4) (pre .5) (pre .6) k less)
           (at-recover-at .recover-at .ensures),
     )

@@ -4,7 +4,8 @@ use denote.Ref.{now}
 use native.Mathlib.Omega.{arith}
 use Rattle.record.proofs.PutLaws.{padded-nil}
 use Rattle.semilinear.proofs.ValidLaws.{semilinear-parts}
-use Rattle.structure_recovery.proofs.RecoverEndLaws.{recover-begin, recover-room, recover-end}
+use Rattle.group.proofs.PassLaws.{pass-begin}
+use Rattle.structure_recovery.proofs.RecoverEndLaws.{recover-room, recover-end}
 use borrow.Author.Needs.{needs}
 use Rattle.structure_recovery.proofs.recover.recover_form.Statement.{statement}
 use Rattle.structure_recovery.proofs.recover.recover_form.Tie as tie
@@ -30,7 +31,7 @@ slice-aggregate-recover-table-2 c = search needs
 recover-table-requires : tie.Need-recover-table-requires
 recover-table-requires c κs =
     let p =
-    recover-begin (now (c .before .before .before .before .before .before .before .before .before .before .before .before .args .s))
+    pass-begin (now (c .before .before .before .before .before .before .before .before .before .before .before .before .args .s))
     (λ i. c .before .before .before .before .before .before .before .before .before .before .before .shared-slice-known .given i .fits)
     (c .before .before .before .before .before .before .before .before .before .before .before .before .pre .0)
     (c .before .before .before .before .before .before .before .before .before .width .ensures)

@@ -8,7 +8,7 @@ use Rattle.record.specs.Decode.{decode}
 use Rattle.group.proofs.PassLaws.{few-entries}
 use Rattle.structure_recovery.specs.RecoverStructure.{recoverGroup}
 use Rattle.structure_recovery.specs.Recovering.{Recovered}
-use Rattle.structure_recovery.proofs.RecoveredLaws.{full-at}
+use Rattle.group.proofs.WordsLaws.{is-full}
 use Rattle.structure_recovery.proofs.GroupRecoveredLaws.{recovered-none, recovered-met, group-past, group-settled}
 use borrow.Author.Needs.{needs}
 use Rattle.structure_recovery.proofs.recover.recover_group.Statement.{statement}
@@ -79,7 +79,8 @@ same-length-2 : tie.Need-same-length-2
 same-length-2 c = joined1 (c .before .before) .long
 
 returns : tie.Need-returns
-returns c = group-past _ (joined1 (c .before .before)) (full-at _ (c .if2 .taken)) _ (gather1 (c .before .before) .gather .ensures)
+returns c =
+    group-past _ (joined1 (c .before .before)) (is-full _ (c .if2 .taken)) _ (gather1 (c .before .before) .gather .ensures)
 
 settle-requires : tie.Need-settle-requires
 settle-requires c κs = few-entries _ _ _ _ _ (gather1 (c .before .before .before .before .before .before .before) .gather .ensures)
