@@ -6,29 +6,29 @@ use native.Mathlib.Omega.{arith}
 use mathlib.Core.List.{List, [], _∷_}
 use mathlib.Core.Bool.{true}
 use lib.ListN.{length, getD, take, replicate}
-use Rattle.record.specs.Put.{padded}
+use Rattle.base.specs.Put.{padded}
 use Rattle.record.specs.Tree.{IsBytes}
 use Rattle.record.specs.Fields.{width}
 use Rattle.record.specs.Span.{body}
 use Rattle.record.proofs.BytesLaws.{bytes-body}
-use Rattle.record.proofs.PutLaws.{padded-nil, length-padded}
+use Rattle.base.proofs.PutLaws.{padded-nil, length-padded}
 use Rattle.semilinear.specs.Items.{atomCount, afterAtoms}
 use Rattle.semilinear.specs.Valid.{isSemilinear}
 use Rattle.semilinear.specs.DecodeForm.{decodeForm}
-use Rattle.semilinear.specs.Outcome.{Outcome, refusalOf, numbersOf, writtenOf, Gives}
+use Rattle.base.specs.Outcome.{Outcome, refusalOf, numbersOf, writtenOf, Gives}
 use Rattle.semilinear.specs.PassOutcome.{openOutcome}
 use Rattle.semilinear.proofs.ValidLaws.{semilinear-parts}
 use Rattle.semilinear.proofs.AcceptLaws.{form-valid}
-use Rattle.semilinear.proofs.ReadLaws.{Opened, Read, read-given, read-refused, read-cases, opened, shut, open-zeros}
-use Rattle.bit_partitioner.specs.Partition.{PartitionClass, classesF, classesOf, classWords}
-use Rattle.bit_partitioner.specs.Partition.{partitionsOutcome, computePartitions}
-use Rattle.bit_partitioner.specs.Columns.{Columns}
-use Rattle.bit_partitioner.specs.Index.{AtomsValid}
+use Rattle.atom_table.proofs.ReadLaws.{Opened, Read, read-given, read-refused, read-cases, opened, shut, open-zeros}
+use Rattle.partition_laws.specs.Partition.{PartitionClass, classesF, classesOf, classWords}
+use Rattle.partition_laws.specs.Partition.{partitionsOutcome, computePartitions}
+use Rattle.partition_laws.specs.Columns.{Columns}
+use Rattle.profile.specs.Index.{AtomsValid}
 use Rattle.bit_partitioner.specs.Places.{rowsIn, AllPlaced, FormPlaced}
-use Rattle.bit_partitioner.proofs.ClassesLaws.{classes-none, classes-some}
-use Rattle.bit_partitioner.proofs.ColumnsLaws.{columns}
-use Rattle.bit_partitioner.proofs.IndexLaws.{trees-count}
-use Rattle.bit_partitioner.proofs.MoveLaws.{rows-length}
+use Rattle.partition_laws.proofs.ClassesLaws.{classes-none, classes-some}
+use Rattle.partition_laws.proofs.ColumnsLaws.{columns}
+use Rattle.profile.proofs.IndexLaws.{trees-count}
+use Rattle.profile.proofs.MoveLaws.{rows-length}
 
 -- ---- a form
 

@@ -12,23 +12,23 @@ use lib.Seq.{ext-getD}
 use borrow.Author.Tests.{eq-eqb, ne-eqb}
 use Rattle.arith.specs.Bit.{bitAt}
 use Rattle.arith.proofs.BitLaws.{bit-lt}
-use Rattle.record.specs.Put.{padded}
+use Rattle.base.specs.Put.{padded}
 use Rattle.semilinear.specs.Form.{Row}
 use Rattle.semilinear.specs.Items.{afterAtoms}
 use Rattle.bit_partitioner.specs.declared.places.Places.{Places}
-use Rattle.bit_partitioner.specs.Partition.{PartitionClass, profileWord, profileFrom, joinClass}
-use Rattle.bit_partitioner.specs.Partition.{classesF, classWords}
-use Rattle.bit_partitioner.specs.Edges.{atomEdges}
-use Rattle.bit_partitioner.specs.Classes.{Each, classNumber, addPlace, ClassesIn, countAfter, Joins}
-use Rattle.bit_partitioner.specs.Index.{atomTrees, treeOf, Readable, Indexed}
-use Rattle.bit_partitioner.specs.Profile.{movedWord, WordsMoved}
+use Rattle.partition_laws.specs.Partition.{PartitionClass, profileWord, profileFrom, joinClass}
+use Rattle.partition_laws.specs.Partition.{classesF, classWords}
+use Rattle.profile.specs.Edges.{atomEdges}
+use Rattle.partition_laws.specs.Classes.{Each, classNumber, addPlace, ClassesIn, countAfter, Joins}
+use Rattle.profile.specs.Index.{atomTrees, treeOf, Readable, Indexed}
+use Rattle.profile.specs.Profile.{movedWord, WordsMoved}
 use Rattle.bit_partitioner.specs.Places.{rowsIn, Placed, PlacedNext, AllPlaced}
-use Rattle.bit_partitioner.proofs.PartitionLaws.{classes-length}
-use Rattle.bit_partitioner.proofs.ProfileLaws.{profile-length, profile-at}
-use Rattle.bit_partitioner.proofs.EdgesLaws.{word-still, edge-start}
-use Rattle.bit_partitioner.proofs.ClassWordsLaws.{class-inside, length-add-place, join-number, number-lt}
-use Rattle.bit_partitioner.proofs.JoinLaws.{classes-old}
-use Rattle.bit_partitioner.proofs.MoveLaws.{moved-edge, moved-still, rows-length, rows-tree}
+use Rattle.partition_laws.proofs.PartitionLaws.{classes-length}
+use Rattle.partition_laws.proofs.ProfileLaws.{profile-length, profile-at}
+use Rattle.profile.proofs.EdgesLaws.{word-still, edge-start}
+use Rattle.classes.proofs.ClassWordsLaws.{class-inside, length-add-place, join-number, number-lt}
+use Rattle.classes.proofs.JoinLaws.{classes-old}
+use Rattle.profile.proofs.MoveLaws.{moved-edge, moved-still, rows-length, rows-tree}
 
 -- ---- profiles
 

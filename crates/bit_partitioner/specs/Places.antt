@@ -3,14 +3,15 @@ use mathlib.Core.Path.{_≡_}
 use Prim.Native.Nat.{ℕ, _+_, _-_, _<_}
 use mathlib.Core.List.{List}
 use lib.ListN.{length}
-use Rattle.record.specs.Put.{padded}
+use Rattle.base.specs.Put.{padded}
 use Rattle.semilinear.specs.Form.{Row}
 use Rattle.semilinear.specs.Items.{afterAtoms}
 use Rattle.semilinear.specs.DecodeForm.{rowsOf, decodeForm}
 use Rattle.bit_partitioner.specs.declared.places.Places.{Places}
-use Rattle.bit_partitioner.specs.Partition.{profileFrom, classesF, classesOf, classWords}
-use Rattle.bit_partitioner.specs.Classes.{classNumber, ClassesIn}
-use Rattle.bit_partitioner.specs.Index.{atomTrees}
+use Rattle.partition_laws.specs.Partition.{profileFrom, classesF, classesOf, classWords}
+use Rattle.partition_laws.specs.Classes.{classNumber, ClassesIn}
+use Rattle.profile.specs.Index.{atomTrees}
+use Rattle.base.specs.Limits.{columnWords}
 
 -- the rows of the atoms and terms f
 abbrev pub rowsIn : List ℕ → List Row
@@ -37,4 +38,4 @@ pub record AllPlaced (f : List ℕ) (w : ℕ) (before after : List ℕ) (count :
 -- the classes of the form s are in the words, and r says how many there are
 pub record FormPlaced (s out : List ℕ) (r : ℕ) : Type 0 where
   pub number : r ≡ length (classesOf (decodeForm s))
-  pub words : out ≡ padded 16448 (classWords (classesOf (decodeForm s)))
+  pub words : out ≡ padded columnWords (classWords (classesOf (decodeForm s)))

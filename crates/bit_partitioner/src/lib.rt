@@ -1,24 +1,23 @@
 // The partition of the places by the profiles of the atoms.
-mod classes;
-mod facts;
-mod index;
-mod places;
-mod profile;
+pub mod places;
 
-use semilinear::read;
+use atom_table::read;
+use base::limits;
+use profile::index;
 use semilinear::scan;
 ghost use mathlib.Core.Path.{_≡_};
 ghost use mathlib.Core.Bool.{true};
 ghost use mathlib.Core.List.{[], _∷_};
 ghost use Prim.Native.Nat.{ℕ, _+_, _*_, _<_, _≤_};
 ghost use lib.ListN.{length};
-ghost use Rattle.record.specs.Put.{padded};
+ghost use Rattle.base.specs.Put.{padded};
 ghost use Rattle.semilinear.specs.Items.{atomCount};
 ghost use Rattle.semilinear.specs.Valid.{isSemilinear};
-ghost use Rattle.semilinear.specs.Outcome.{Gives};
-ghost use Rattle.bit_partitioner.specs.Partition.{computePartitions};
-ghost use Rattle.bit_partitioner.specs.Index.{AtomsValid};
+ghost use Rattle.base.specs.Outcome.{Gives};
+ghost use Rattle.partition_laws.specs.Partition.{computePartitions};
+ghost use Rattle.profile.specs.Index.{AtomsValid};
 ghost use Rattle.bit_partitioner.specs.Places.{AllPlaced, FormPlaced};
+ghost use Rattle.base.specs.Limits.{atomLimit, columnWords, shortAtoms};
 
 // The refusal, 0 where the call is accepted, and the count of classes.
 pub struct Partitioned {
@@ -28,29 +27,29 @@ pub struct Partitioned {
 
 // The classes of n atoms, at most 16. Most forms are so short, and clearing a long index costs.
 fn partition_short(f: &[u8], n: usize, w: u32, out: &mut [u64]) -> usize
-    requires { ⌜ AtomsValid (now f) × (n ≡ atomCount (now f)) × (0 < n) × (n ≤ 16) × (w ≤ 64)
+    requires { ⌜ AtomsValid (now f) × (n ≡ atomCount (now f)) × (0 < n) × (n ≤ shortAtoms) × (w ≤ 64)
         × (64 * (n + 1) ≤ length (now out)) × (now out ≡ padded (length (now out)) []) ⌝ }
     ensures { λ r. ⌜ AllPlaced (now (f .entry)) w (now (out .entry)) (now (out .exit)) r ⌝ }
 {
-    let mut words = [0u64; 144];
-    let mut profile = [0u64; 16];
+    let mut words = [0u64; index::SHORT_INDEX];
+    let mut profile = [0u64; limits::SHORT_ATOMS];
     places::partition_atoms(f, w, &mut words, &mut profile[..n], out)
 }
 
 // The classes of n atoms, at most 256.
 fn partition_long(f: &[u8], n: usize, w: u32, out: &mut [u64]) -> usize
-    requires { ⌜ AtomsValid (now f) × (n ≡ atomCount (now f)) × (0 < n) × (n ≤ 256) × (w ≤ 64)
+    requires { ⌜ AtomsValid (now f) × (n ≡ atomCount (now f)) × (0 < n) × (n ≤ atomLimit) × (w ≤ 64)
         × (64 * (n + 1) ≤ length (now out)) × (now out ≡ padded (length (now out)) []) ⌝ }
     ensures { λ r. ⌜ AllPlaced (now (f .entry)) w (now (out .entry)) (now (out .exit)) r ⌝ }
 {
-    let mut words = [0u64; 2304];
-    let mut profile = [0u64; 256];
+    let mut words = [0u64; index::LONG_INDEX];
+    let mut profile = [0u64; limits::ATOM_LIMIT];
     places::partition_atoms(f, w, &mut words, &mut profile[..n], out)
 }
 
 // The classes of the form s, written to out, which is all zeros; returns how many there are.
 fn partition_form(s: &[u8], out: &mut [u64]) -> u64
-    requires { ⌜ (isSemilinear (now s) ≡ true) × (now out ≡ padded 16448 []) ⌝ }
+    requires { ⌜ (isSemilinear (now s) ≡ true) × (now out ≡ padded columnWords []) ⌝ }
     ensures { λ r. ⌜ FormPlaced (now (s .entry)) (now (out .exit)) r ⌝ }
 {
     let w = record::width(s) as u32;
@@ -60,7 +59,7 @@ fn partition_form(s: &[u8], out: &mut [u64]) -> u64
     if n == 0 {
         return 0;
     }
-    if n <= 16 {
+    if n <= limits::SHORT_ATOMS {
         return partition_short(f, n, w, out) as u64;
     }
     partition_long(f, n, w, out) as u64

@@ -1,14 +1,12 @@
 // The loop over the places of a form: each joins the class of its profile.
-use crate::classes;
-use crate::index;
-use crate::profile;
+use profile::index;
 ghost use mathlib.Core.Path.{_≡_};
 ghost use mathlib.Core.List.{[]};
 ghost use Prim.Native.Nat.{ℕ, _+_, _*_, _<_, _≤_};
 ghost use lib.ListN.{length};
-ghost use Rattle.record.specs.Put.{padded};
+ghost use Rattle.base.specs.Put.{padded};
 ghost use Rattle.semilinear.specs.Items.{atomCount};
-ghost use Rattle.bit_partitioner.specs.Index.{atomTrees, AtomsValid, Indexed};
+ghost use Rattle.profile.specs.Index.{atomTrees, AtomsValid, Indexed};
 ghost use Rattle.bit_partitioner.specs.Places.{Placed, PlacedNext, AllPlaced};
 
 // Places on their way: the next place, the class of the place before, and the count of classes.

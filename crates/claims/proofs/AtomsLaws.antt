@@ -10,14 +10,14 @@ use lib.Dec.{eqb}
 use borrow.Author.Tests.{eqb-true, eqb-false}
 use Rattle.record.specs.Tree.{Tree}
 use Rattle.record.specs.Tree.Tree.{Constant, Variable, Unary, Binary}
-use Rattle.record.proofs.SizedLaws.{or-false, or-cases}
-use Rattle.expr.specs.Refusal.{isExpr}
-use Rattle.expr.specs.Utils.{hasKind, isArith, hasArith}
+use Rattle.base.proofs.BoolLaws.{or-false, or-cases}
+use Rattle.expr_refusal.specs.Refusal.{isExpr}
+use Rattle.expr_utils.specs.Utils.{hasKind, isArith, hasArith}
 use Rattle.expr.proofs.IsExprLaws.{unary-of-expr, binary-of-expr}
 use Rattle.semilinear.specs.Form.{Row, Form, isAtomTree, rowsOk, validForm}
 use Rattle.semilinear.proofs.FormLaws.{rows-cons, form-parts}
 use Rattle.semilinear.proofs.AtomLaws.{tree-atom}
-use Rattle.bit_partitioner.specs.Columns.{treeAt}
+use Rattle.partition_laws.specs.Columns.{treeAt}
 use Rattle.claims.specs.Atoms.{AtomKind, constant-kind, variable-kind, and-kind, or-kind, xor-kind}
 use Rattle.claims.specs.Atoms.{not-kind, shr-kind, IsAtom, AllAtoms}
 

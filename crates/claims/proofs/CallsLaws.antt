@@ -7,24 +7,25 @@ use mathlib.Core.Bool.{true, false}
 use Rattle.record.specs.Tree.{IsBytes}
 use Rattle.expr.specs.ExprValue.{exprValue}
 use Rattle.semilinear.specs.Form.{Form, encodeForm, validForm}
-use Rattle.semilinear.specs.Outcome.{Outcome, accepted, refused, formOutcome}
-use Rattle.semilinear.specs.Value.{semilinearValue}
-use Rattle.semilinear.specs.Compact.{compactAtomTable}
+use Rattle.base.specs.Outcome.{Outcome, accepted, refused}
+use Rattle.semilinear.specs.Outcome.{formOutcome}
+use Rattle.semilinear_value.specs.Value.{semilinearValue}
+use Rattle.atom_table.specs.Compact.{compactAtomTable}
 use Rattle.semilinear.specs.PassOutcome.{limitOutcome}
 use Rattle.semilinear.proofs.FormLaws.{form-not-refused}
-use Rattle.semilinear.proofs.PassLaws.{pass-slice}
-use Rattle.semilinear.proofs.ValueLaws.{encoded-value}
-use Rattle.semilinear.proofs.MadeLaws.{Kept, Made, made, not-made, limit-made, pass-made, compact-made}
-use Rattle.semilinear_normalizer.specs.Normalize.{normalizeToSemilinear}
-use Rattle.semilinear_normalizer.proofs.NormalizeLaws.{normalize-form}
+use Rattle.atom_table.proofs.PassLaws.{pass-slice}
+use Rattle.semilinear_value.proofs.ValueLaws.{encoded-value}
+use Rattle.atom_table.proofs.MadeLaws.{Kept, Made, made, not-made, limit-made, pass-made, compact-made}
+use Rattle.normalizer_laws.specs.Normalize.{normalizeToSemilinear}
+use Rattle.normalizer_laws.proofs.NormalizeLaws.{normalize-form}
 use Rattle.term_refiner.specs.RefineTerms.{refineForm, refineTerms}
 use Rattle.term_refiner.proofs.RefineFormLaws.{value-refine, valid-refine}
-use Rattle.structure_recovery.specs.RecoverStructure.{recoverForm, recoverStructure}
-use Rattle.structure_recovery.specs.CoalesceTerms.{coalesceForm, coalesceTerms}
-use Rattle.structure_recovery.specs.FlattenComplexAtoms.{flattened, flattenForm, flattenComplexAtoms}
+use Rattle.structure_laws.specs.RecoverStructure.{recoverForm, recoverStructure}
+use Rattle.structure_laws.specs.CoalesceTerms.{coalesceForm, coalesceTerms}
+use Rattle.structure_laws.specs.FlattenComplexAtoms.{flattened, flattenForm, flattenComplexAtoms}
 use Rattle.structure_recovery.proofs.RecoverLaws.{value-recover, valid-recover, width-recover}
-use Rattle.structure_recovery.proofs.CoalesceLaws.{value-coalesce, valid-coalesce}
-use Rattle.structure_recovery.proofs.FlattenLaws.{value-flatten, valid-flatten}
+use Rattle.structure_laws.proofs.CoalesceLaws.{value-coalesce, valid-coalesce}
+use Rattle.structure_laws.proofs.FlattenLaws.{value-flatten, valid-flatten}
 use Rattle.claims.specs.Calls.{Pass, Call, refine-terms, recover-structure, coalesce-terms}
 use Rattle.claims.specs.Calls.{flatten-complex-atoms, compact-atom-table, passGives, useOf, afterCall, inUse}
 use Rattle.claims.specs.Calls.{SameValue}

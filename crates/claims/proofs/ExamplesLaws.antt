@@ -5,19 +5,19 @@ use lib.Count.{trailingZeros, onesIn}
 use Rattle.arith.specs.Bit.{bitAt}
 use Rattle.arith.specs.Effective.{effectiveMask, reduceMask, canChangeCoefficientTo}
 use Rattle.arith.specs.Width.{bitmask, modAdd, modSub, modMul, modNeg}
-use Rattle.record.specs.Lists.{eqList}
+use Rattle.base.specs.Lists.{eqList}
 use Rattle.record.specs.Tree.{sizeOf, recordBytes, encode}
 use Rattle.record.specs.Fields.{u16, u32, u64, kind, byte1, varIndex, amount, size, width, spare, literal, arity}
 use Rattle.record.specs.Span.{cut, body, left, right, step, stepsF, fold}
 use Rattle.record.specs.Decode.{leaf}
-use Rattle.expr.specs.Refusal.{lowest, usesByte1, fieldsOk, sizeOk, formOk, widthOk, rootRefusal, exprRefusal}
+use Rattle.expr_refusal.specs.Refusal.{lowest, usesByte1, fieldsOk, sizeOk, formOk, widthOk, rootRefusal, exprRefusal}
 use Rattle.expr.specs.Hash.{mixHash, tagHash, varHash, structuralHash}
-use Rattle.expr.specs.Utils.{hasKind, isArith, isBitwise, hasArith, hasConstantArith}
+use Rattle.expr_utils.specs.Utils.{hasKind, isArith, isBitwise, hasArith, hasConstantArith}
 use Rattle.expr.specs.Value.{unary, binary, value}
 use Rattle.expr.specs.Vars.{nextVar, supportF, support, sameVars}
 use Rattle.truth.specs.Key.{isPure, sameTable}
 use Rattle.truth.specs.Truth.{hasShift, bitBinary, bitOf, rowBits, tableF, table}
-use Rattle.semilinear.specs.Decompose.{decomposeAnd, decomposeAtom}
+use Rattle.decompose.specs.Decompose.{decomposeAnd, decomposeAtom}
 use Rattle.semilinear.specs.Form.{termCount, atomBytes, atomsBytes, termBytes, termsBytes, sumBytes, encodeForm}
 use Rattle.semilinear.specs.Form.{eqTree, treeRecords, fitsTable}
 use Rattle.semilinear.specs.Items.{frontKind, provenance, frontNumber, frontWidth, frontSpare, frontWord}
@@ -25,35 +25,40 @@ use Rattle.semilinear.specs.Items.{atomLength, isAtom, treeSpan, afterAtom, ato
 use Rattle.semilinear.specs.Valid.{atomTreeOk, treeOk, atomOk, termOk, termsOkF, termsOk, sumOk, frontOk}
 use Rattle.semilinear.specs.Valid.{isSemilinear, lengthRefused}
 use Rattle.semilinear.specs.DecodeForm.{hasTerm, coeffAt, afterTerm, rowAt, rowsF, rowsOf, decodeForm}
-use Rattle.semilinear.specs.Compact.{usedRows, compactForm, compactAtomTable}
-use Rattle.group.specs.Group.{at, putEntry, emptyGroup, pushEntry, isLive, consumed, work, onGroup, createRow}
-use Rattle.group.specs.Group.{maskedTree, createMasked, viewRow, anyBasis, variableBasis, insertBasis, basesOf, groupOf}
-use Rattle.group.specs.Group.{ungrouped, addCoeff, settleAt, settle}
-use Rattle.record.specs.Loop.{turnsF, forIn, firstF, firstIn}
+use Rattle.atom_table.specs.Compact.{usedRows, compactForm, compactAtomTable}
+use Rattle.group.specs.Group.{at, putEntry, emptyGroup, pushEntry, isLive, consumed, work, onGroup}
+use Rattle.made.specs.Rows.{createRow}
+use Rattle.made.specs.Rows.{maskedTree, createMasked}
+use Rattle.views.specs.Grouping.{viewRow, anyBasis, variableBasis, insertBasis, basesOf}
+use Rattle.group.specs.Group.{groupOf}
+use Rattle.views.specs.Grouping.{ungrouped}
+use Rattle.made.specs.Rows.{addCoeff}
+use Rattle.group.specs.Group.{settleAt, settle}
+use Rattle.base.specs.Loop.{turnsF, forIn, firstF, firstIn}
 use Rattle.semilinear.specs.Outcome.{formOutcome}
 use Rattle.semilinear.specs.PassOutcome.{passOutcome, limitOutcome}
-use Rattle.semilinear_normalizer.specs.Collect.{joinCollected, collectAtom, collectConstant, isNot, operand}
-use Rattle.semilinear_normalizer.specs.Collect.{collectNot, isMaskedNot, collectAnd, andCoeff, collectMasked}
-use Rattle.semilinear_normalizer.specs.Collect.{collectTerms}
-use Rattle.semilinear_normalizer.specs.Normalize.{collectedForm, collectedOutcome, normalizeTree, normalizeToSemilinear}
-use Rattle.semilinear_normalizer.specs.Register.{familyOf, joinProvenance, detectProvenance, sameSlot, newestRow}
-use Rattle.semilinear_normalizer.specs.Register.{firstRow, hasTree, sharedRow, addRow, registerAtom, registerAll}
+use Rattle.normalizer_laws.specs.Collect.{joinCollected, collectAtom, collectConstant, isNot, operand}
+use Rattle.normalizer_laws.specs.Collect.{collectNot, isMaskedNot, collectAnd, andCoeff, collectMasked}
+use Rattle.normalizer_laws.specs.Collect.{collectTerms}
+use Rattle.normalizer_laws.specs.Normalize.{collectedForm, collectedOutcome, normalizeTree, normalizeToSemilinear}
+use Rattle.normalizer_laws.specs.Register.{familyOf, joinProvenance, detectProvenance, sameSlot, newestRow}
+use Rattle.normalizer_laws.specs.Register.{firstRow, hasTree, sharedRow, addRow, registerAtom, registerAll}
 use Rattle.group.specs.Collapse.{thirdFits, findThird, secondFits, findSecond, firstFits, findFirst}
 use Rattle.group.specs.Collapse.{collapseAt, threeTermCollapse}
 use Rattle.term_refiner.specs.RefineTerms.{refineGroup, refineAll, refineForm, refineTerms}
 use Rattle.group.specs.Steps.{remasked, cutAt, cutMasks, dropAt, dropZero, joinAt, slotFits, placeAt}
 use Rattle.group.specs.Steps.{placeBucket, insertKey, keyAt, bucketKeys, placeBuckets, bucketMerge, pairAt, pairMerge}
 use Rattle.group.specs.Steps.{minusOneAt, toMinusOne}
-use Rattle.structure_recovery.specs.Carried.{bitCoeffAt, bitCoeff, carry, carryAt, carriedOf}
-use Rattle.structure_recovery.specs.CoalesceTerms.{carriedRows, coalesceGroup, coalesceAll, coalesceForm, coalesceTerms}
-use Rattle.structure_recovery.specs.FlattenComplexAtoms.{isPlain, isComplex, atZero, atOnes, flatRow, flattenRow}
-use Rattle.structure_recovery.specs.FlattenComplexAtoms.{flattenRows, keptRows, flattened, flattenForm}
-use Rattle.structure_recovery.specs.FlattenComplexAtoms.{flattenComplexAtoms}
-use Rattle.structure_recovery.specs.RecoverStructure.{rowWith, withBare, recoverXor, eliminateMask, recoverPair}
-use Rattle.structure_recovery.specs.RecoverStructure.{isPartner, partnerOf, recoverAt, recoverGroup, recoverAll}
-use Rattle.structure_recovery.specs.RecoverStructure.{recoverForm, recoverStructure}
-use Rattle.bit_partitioner.specs.Partition.{isOpaque, opaqueWord, profileWord, profileFrom, joinClass, classesF}
-use Rattle.bit_partitioner.specs.Partition.{classesOf, classWords, partitionsOutcome, computePartitions}
+use Rattle.structure_laws.specs.Carried.{bitCoeffAt, bitCoeff, carry, carryAt, carriedOf}
+use Rattle.structure_laws.specs.CoalesceTerms.{carriedRows, coalesceGroup, coalesceAll, coalesceForm, coalesceTerms}
+use Rattle.structure_laws.specs.FlattenComplexAtoms.{isPlain, isComplex, atZero, atOnes, flatRow, flattenRow}
+use Rattle.structure_laws.specs.FlattenComplexAtoms.{flattenRows, keptRows, flattened, flattenForm}
+use Rattle.structure_laws.specs.FlattenComplexAtoms.{flattenComplexAtoms}
+use Rattle.structure_laws.specs.RecoverStructure.{rowWith, withBare, recoverXor, eliminateMask, recoverPair}
+use Rattle.structure_laws.specs.RecoverStructure.{isPartner, partnerOf, recoverAt, recoverGroup, recoverAll}
+use Rattle.structure_laws.specs.RecoverStructure.{recoverForm, recoverStructure}
+use Rattle.partition_laws.specs.Partition.{isOpaque, opaqueWord, profileWord, profileFrom, joinClass, classesF}
+use Rattle.partition_laws.specs.Partition.{classesOf, classWords, partitionsOutcome, computePartitions}
 use Rattle.claims.specs.Calls.{passGives, useOf, afterCall, inUse}
 use Rattle.claims.specs.Example.{sameOutcome, allHold}
 use Rattle.claims.specs.Examples.{starred, tricky}

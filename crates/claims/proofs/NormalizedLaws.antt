@@ -6,14 +6,14 @@ use native.Mathlib.Omega.{arith}
 use mathlib.Core.List.{List, [], _∷_}
 use lib.ListN.{length, getD, take}
 use Rattle.record.specs.Tree.{IsBytes}
-use Rattle.record.specs.Put.{padded}
-use Rattle.record.proofs.PutLaws.{take-padded}
+use Rattle.base.specs.Put.{padded}
+use Rattle.base.proofs.PutLaws.{take-padded}
 use Rattle.semilinear.specs.declared.outcome.Answer.{Answer}
-use Rattle.semilinear.specs.Outcome.{Outcome, accepted, refused, numbersOf, writtenOf}
+use Rattle.base.specs.Outcome.{Outcome, accepted, refused, numbersOf, writtenOf}
 use Rattle.semilinear.specs.Answers.{GivesForm}
-use Rattle.semilinear_normalizer.specs.Normalize.{normalizeToSemilinear}
-use Rattle.semilinear_normalizer.proofs.NormalizeLaws.{normalize-form, normalize-value}
-use Rattle.semilinear_normalizer.proofs.UsedLaws.{used-normalize}
+use Rattle.normalizer_laws.specs.Normalize.{normalizeToSemilinear}
+use Rattle.normalizer_laws.proofs.NormalizeLaws.{normalize-form, normalize-value}
+use Rattle.normalizer_laws.proofs.UsedLaws.{used-normalize}
 use Rattle.claims.specs.Normalized.{FormOf}
 
 module _ (s : List ℕ) (h : IsBytes s) (len : ℕ) (r : Answer) (out : List ℕ)

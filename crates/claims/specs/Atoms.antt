@@ -4,9 +4,9 @@ use Prim.Native.Nat.{ℕ, _<_}
 use mathlib.Core.Bool.{true}
 use lib.ListN.{length}
 use Rattle.record.specs.Tree.{Tree}
-use Rattle.expr.specs.Utils.{hasKind}
+use Rattle.expr_utils.specs.Utils.{hasKind}
 use Rattle.semilinear.specs.Form.{Form}
-use Rattle.bit_partitioner.specs.Columns.{atomTree}
+use Rattle.partition_laws.specs.Columns.{atomTree}
 
 -- the kinds of an atom's records: Constant, Variable, And, Or, Xor, Not, Shr
 pub data AtomKind : ℕ → Type 0 where

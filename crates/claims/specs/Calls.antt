@@ -4,13 +4,13 @@ use Prim.Native.Nat.{ℕ}
 use mathlib.Core.List.{List, [], _∷_}
 use mathlib.Core.Bool.{true}
 use Rattle.semilinear.specs.Form.{Form, encodeForm, validForm}
-use Rattle.semilinear.specs.Outcome.{Outcome, accepted, refused}
-use Rattle.semilinear.specs.Value.{semilinearValue}
-use Rattle.semilinear.specs.Compact.{compactAtomTable}
+use Rattle.base.specs.Outcome.{Outcome, accepted, refused}
+use Rattle.semilinear_value.specs.Value.{semilinearValue}
+use Rattle.atom_table.specs.Compact.{compactAtomTable}
 use Rattle.term_refiner.specs.RefineTerms.{refineTerms}
-use Rattle.structure_recovery.specs.RecoverStructure.{recoverStructure}
-use Rattle.structure_recovery.specs.CoalesceTerms.{coalesceTerms}
-use Rattle.structure_recovery.specs.FlattenComplexAtoms.{flattenComplexAtoms}
+use Rattle.structure_laws.specs.RecoverStructure.{recoverStructure}
+use Rattle.structure_laws.specs.CoalesceTerms.{coalesceTerms}
+use Rattle.structure_laws.specs.FlattenComplexAtoms.{flattenComplexAtoms}
 
 -- the five passes
 pub data Pass : Type 0 where

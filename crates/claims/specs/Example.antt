@@ -3,14 +3,15 @@ use Prim.Native.Nat.{ℕ}
 use mathlib.Core.List.{List, [], _∷_}
 use mathlib.Core.Bool.{Bool, true, false, _&&_}
 use lib.Dec.{eqb}
-use Rattle.record.specs.Lists.{eqList}
+use Rattle.base.specs.Lists.{eqList}
 use Rattle.record.specs.Tree.{Tree}
 use Rattle.record.specs.Tree.Tree.{Constant, Variable, Binary}
 use Rattle.semilinear.specs.Form.{Row, Form}
-use Rattle.semilinear.specs.Outcome.{Outcome, accepted, refused, formOutcome}
-use Rattle.semilinear_normalizer.specs.Normalize.{normalizeTree}
-use Rattle.structure_recovery.specs.FlattenComplexAtoms.{flattened, flattenForm}
-use Rattle.bit_partitioner.specs.Partition.{partitionsOutcome}
+use Rattle.base.specs.Outcome.{Outcome, accepted, refused}
+use Rattle.semilinear.specs.Outcome.{formOutcome}
+use Rattle.normalizer_laws.specs.Normalize.{normalizeTree}
+use Rattle.structure_laws.specs.FlattenComplexAtoms.{flattened, flattenForm}
+use Rattle.partition_laws.specs.Partition.{partitionsOutcome}
 
 -- what a definition gives, and what it should give
 pub record Example : Type 0 where

@@ -5,8 +5,8 @@ use mathlib.Core.Bool.{true}
 use Rattle.record.specs.Tree.{Tree}
 use Rattle.record.specs.Tree.Tree.{Constant, Variable, Unary, Binary}
 use Rattle.term_refiner.specs.RefineTerms.{refineForm}
-use Rattle.structure_recovery.specs.RecoverStructure.{recoverForm}
-use Rattle.structure_recovery.specs.CoalesceTerms.{coalesceForm}
+use Rattle.structure_laws.specs.RecoverStructure.{recoverForm}
+use Rattle.structure_laws.specs.CoalesceTerms.{coalesceForm}
 use Rattle.claims.specs.Example.{Example, a, b, mask, row, form, normal, refusal, pass, flat, columns}
 
 -- ---- the starred puzzles, in document 01's order

@@ -6,7 +6,7 @@ use mathlib.Core.Bool.{true}
 use Rattle.record.specs.Fields.{width}
 use Rattle.expr.specs.ExprValue.{exprValue}
 use Rattle.semilinear.specs.Form.{Form, termCount, encodeForm, validForm}
-use Rattle.semilinear.specs.Value.{semilinearValue}
+use Rattle.semilinear_value.specs.Value.{semilinearValue}
 
 -- t are the bytes of a valid form of the expression's width, so that every atom has a variable and only kinds 0, 1, 4 to
 -- 7 and 9 (`isAtomTree`); n is its count of terms; and its value is that of the expression s under every assignment

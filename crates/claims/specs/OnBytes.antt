@@ -8,17 +8,19 @@ use lib.ListN.{replicate}
 use Rattle.record.specs.Tree.{Tree, recordBytes, encode}
 use Rattle.record.specs.Tree.Tree.{Constant, Variable, Unary, Binary}
 use Rattle.semilinear.specs.Form.{Row, Form, atomsBytes, termBytes, sumBytes, encodeForm}
-use Rattle.semilinear.specs.Outcome.{Outcome, accepted, refused, formOutcome}
-use Rattle.semilinear_normalizer.specs.Normalize.{normalizeToSemilinear}
-use Rattle.bit_partitioner.specs.Partition.{computePartitions}
+use Rattle.base.specs.Outcome.{Outcome, accepted, refused}
+use Rattle.semilinear.specs.Outcome.{formOutcome}
+use Rattle.normalizer_laws.specs.Normalize.{normalizeToSemilinear}
+use Rattle.partition_laws.specs.Partition.{computePartitions}
 use Rattle.claims.specs.Calls.{Pass, Call, passGives, useOf, inUse}
 use Rattle.claims.specs.Calls.Pass.{refine-terms, recover-structure, coalesce-terms, flatten-complex-atoms}
 use Rattle.claims.specs.Calls.Pass.{compact-atom-table}
 use Rattle.claims.specs.Example.{Example, a, b, mask, row, term, form}
+use Rattle.base.specs.Limits.{columnWords, formBytes}
 
 -- the length of a result slice, and one less
 abbrev whole : ℕ
-whole = 57360
+whole = formBytes
 
 abbrev short : ℕ
 short = 57359
@@ -53,7 +55,7 @@ onBytes =
     ∷ makes recover-structure (sheet (term 252 1 ∷ term 3 255 ∷ term 0 255 ∷ []))
     (form 8 253 (term 252 0 ∷ term 3 0 ∷ term 0 255 ∷ xor 3 1 ∷ [])) false
     ∷ record {
-      got = computePartitions (encodeForm (sheet (term 15 1 ∷ []))) 16448;
+      got = computePartitions (encodeForm (sheet (term 15 1 ∷ []))) columnWords;
       want = accepted (15 ∷ 2 ∷ 240 ∷ 0 ∷ []) (2 ∷ []);
     }
     -- coalescing, flattening with its flag, and compaction, which numbers the atoms anew

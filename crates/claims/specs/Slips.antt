@@ -7,8 +7,8 @@ use Rattle.record.specs.Tree.{Tree}
 use Rattle.record.specs.Tree.Tree.{Constant, Variable, Unary, Binary}
 use Rattle.semilinear.specs.Form.{Row}
 use Rattle.term_refiner.specs.RefineTerms.{refineForm}
-use Rattle.structure_recovery.specs.RecoverStructure.{recoverForm}
-use Rattle.structure_recovery.specs.CoalesceTerms.{coalesceForm}
+use Rattle.structure_laws.specs.RecoverStructure.{recoverForm}
+use Rattle.structure_laws.specs.CoalesceTerms.{coalesceForm}
 use Rattle.claims.specs.Example.{Example, a, b, mask, row, term, form, pass, flat, columns}
 
 -- a pass that takes some rows to others, and the constant 0 to itself

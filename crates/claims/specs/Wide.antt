@@ -7,8 +7,8 @@ use Rattle.record.specs.Tree.{Tree}
 use Rattle.record.specs.Tree.Tree.{Constant, Unary, Binary}
 use Rattle.semilinear.specs.Form.{Row, Form}
 use Rattle.term_refiner.specs.RefineTerms.{refineForm}
-use Rattle.structure_recovery.specs.RecoverStructure.{recoverForm}
-use Rattle.structure_recovery.specs.CoalesceTerms.{coalesceForm}
+use Rattle.structure_laws.specs.RecoverStructure.{recoverForm}
+use Rattle.structure_laws.specs.CoalesceTerms.{coalesceForm}
 use Rattle.claims.specs.Example.{Example, a, mask, row, term, form, normal, pass, flat, columns}
 
 -- 2 ^ 63 · a, and a ^ (2 ^ 64 - 1)

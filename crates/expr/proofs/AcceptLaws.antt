@@ -23,11 +23,11 @@ use Rattle.record.proofs.BytesLaws.{length-record, record-big, kind-record, byt
 use Rattle.record.proofs.BytesLaws.{spare-record, literal-record, body-record, last-record}
 use Rattle.record.proofs.BytesLaws.{bytes-body, bytes-left, bytes-right, literal-lt, var-index-lt}
 use Rattle.record.proofs.EncodeLaws.{length-encode, width-encode, left-joined, right-joined, sizeOf-pos}
-use Rattle.expr.specs.Refusal.{usesByte1, fieldsOk, rootRefusal, treeRefusal, exprRefusal, isExpr}
+use Rattle.expr_refusal.specs.Refusal.{usesByte1, fieldsOk, rootRefusal, treeRefusal, exprRefusal, isExpr}
 use Rattle.expr.specs.Value.{value}
 use Rattle.expr.specs.ExprValue.{exprValue}
-use Rattle.expr.proofs.RefusalLaws.{lowest-none, Root, fields-literal, fields-byte1, fields-inner, zero-of-root}
-use Rattle.expr.proofs.RefusalLaws.{accepted-big, accepted-root, accepted-body, accepted-left, accepted-right}
+use Rattle.expr_refusal.proofs.RefusalLaws.{lowest-none, Root, fields-literal, fields-byte1, fields-inner, zero-of-root}
+use Rattle.expr_refusal.proofs.RefusalLaws.{accepted-big, accepted-root, accepted-body, accepted-left, accepted-right}
 use Rattle.expr.proofs.IsExprLaws.{constant-of-expr, expr-of-constant, expr-of-variable}
 use Rattle.expr.proofs.IsExprLaws.{unary-of-expr, expr-of-unary, unary-arity}
 use Rattle.expr.proofs.IsExprLaws.{binary-of-expr, expr-of-binary, binary-arity, decode-encode}

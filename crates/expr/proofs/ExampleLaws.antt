@@ -7,16 +7,16 @@ use mathlib.Core.Bool.{Bool, true, false, Bool·beq, _&&_}
 use lib.Dec.{eqb, ltb}
 use lib.ListN.{take}
 use Rattle.record.specs.Fields.{u16, u32, u64, kind, byte1, varIndex, amount, size, width, spare, literal, arity}
-use Rattle.record.specs.Lists.{eqList}
+use Rattle.base.specs.Lists.{eqList}
 use Rattle.record.specs.Tree.{Tree, sizeOf, recordBytes, encode}
 use Rattle.record.specs.Tree.Tree.{Constant, Variable, Unary, Binary}
 use Rattle.record.specs.Span.{cut, body, left, right, step, stepsF, fold}
 use Rattle.record.specs.Decode.{leaf, decode}
-use Rattle.expr.specs.Refusal.{lowest, usesByte1, fieldsOk, sizeOk, formOk, widthOk, rootRefusal, exprRefusal}
+use Rattle.expr_refusal.specs.Refusal.{lowest, usesByte1, fieldsOk, sizeOk, formOk, widthOk, rootRefusal, exprRefusal}
 use Rattle.expr.specs.Value.{unary, binary, value}
 use Rattle.expr.specs.ExprValue.{exprValue}
 use Rattle.expr.specs.Hash.{varHash, structuralHash}
-use Rattle.expr.specs.Utils.{hasKind, isArith, isBitwise, hasArith, hasConstantArith}
+use Rattle.expr_utils.specs.Utils.{hasKind, isArith, isBitwise, hasArith, hasConstantArith}
 use Rattle.expr.specs.Vars.{nextVar, supportF, support}
 
 -- a file and its refusal; an accepted file, an assignment and the value; a tree whose hash is below another's; a tree

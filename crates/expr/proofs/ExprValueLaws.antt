@@ -8,10 +8,10 @@ use mathlib.Core.Bool.{Bool, true, false, not}
 use lib.Dec.{eqb, ltb}
 use lib.ListN.{length}
 use borrow.Author.Tests.{eq-eqb, ne-eqb, lt-ltb, le-ltb}
-use Rattle.record.specs.Choice.{when}
+use Rattle.base.specs.Choice.{when}
 use Rattle.record.specs.Fields.{width}
 use Rattle.record.specs.Decode.{decode}
-use Rattle.expr.specs.Refusal.{treeRefusal, exprRefusal}
+use Rattle.expr_refusal.specs.Refusal.{treeRefusal, exprRefusal}
 use Rattle.expr.specs.Value.{value}
 use Rattle.expr.specs.ExprValue.{exprValue}
 

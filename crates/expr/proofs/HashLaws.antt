@@ -8,7 +8,7 @@ use lib.Bits.{bitXor, xor-lt}
 use lib.Dec.{lit<}
 use Rattle.record.specs.Tree.{Tree}
 use Rattle.record.specs.Tree.Tree.{Constant, Variable, Unary, Binary}
-use Rattle.expr.specs.Refusal.{isExpr}
+use Rattle.expr_refusal.specs.Refusal.{isExpr}
 use Rattle.expr.specs.Hash.{mixHash, tagHash, varHash, structuralHash}
 use Rattle.expr.proofs.IsExprLaws.{unary-of-expr, binary-of-expr}
 

@@ -12,10 +12,10 @@ use Rattle.record.specs.Tree.{Tree, sizeOf, encode, IsBytes, Encodable}
 use Rattle.record.specs.Tree.Tree.{Constant, Variable, Unary, Binary}
 use Rattle.record.specs.Decode.{decode}
 use Rattle.record.proofs.FieldsLaws.{arity-one-of-le, arity-two-of-le}
-use Rattle.record.proofs.SizedLaws.{false-true, and-true, or-cases}
+use Rattle.base.proofs.BoolLaws.{false-true, and-true, or-cases}
 use Rattle.record.proofs.BytesLaws.{bytes-append, bytes-record}
 use Rattle.record.proofs.EncodeLaws.{encoded}
-use Rattle.expr.specs.Refusal.{isExpr}
+use Rattle.expr_refusal.specs.Refusal.{isExpr}
 use Rattle.expr.specs.Vars.{occurs}
 
 pub constant-of-expr : (v : ℕ) → isExpr (Constant v) ≡ true → v < 2 ^ 64

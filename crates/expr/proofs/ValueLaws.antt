@@ -11,11 +11,11 @@ use native.Mathlib.Omega.{arith}
 use lib.Dec.{eqb}
 use borrow.Author.Tests.{eq-eqb}
 use lib.Bits.{bitAnd, bitOr, bitXor, and-le-l, or-lt, xor-lt}
-use Rattle.record.specs.Choice.{when}
+use Rattle.base.specs.Choice.{when}
 use Rattle.record.specs.Tree.{Tree}
 use Rattle.record.specs.Tree.Tree.{Constant, Variable, Unary, Binary}
-use Rattle.record.proofs.SizedLaws.{false-true, or-of-l, or-of-r, or-false}
-use Rattle.expr.specs.Utils.{hasKind, hasVarDep}
+use Rattle.base.proofs.BoolLaws.{false-true, or-of-l, or-of-r, or-false}
+use Rattle.expr_utils.specs.Utils.{hasKind, hasVarDep}
 use Rattle.expr.specs.Value.{unary, binary, value}
 use Rattle.expr.specs.Vars.{occurs}
 

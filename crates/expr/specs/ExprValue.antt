@@ -3,10 +3,10 @@ use mathlib.Core.Path.{_≡_}
 use Prim.Native.Nat.{ℕ}
 use mathlib.Core.List.{List}
 use lib.Dec.{eqb}
-use Rattle.record.specs.Choice.{when}
+use Rattle.base.specs.Choice.{when}
 use Rattle.record.specs.Fields.{width}
 use Rattle.record.specs.Decode.{decode}
-use Rattle.expr.specs.Refusal.{exprRefusal}
+use Rattle.expr_refusal.specs.Refusal.{exprRefusal}
 use Rattle.expr.specs.Value.{value}
 
 -- the value of an accepted expression s under an assignment, 0 beside a refusal

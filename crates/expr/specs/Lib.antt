@@ -1,8 +1,5 @@
 -- What expressions mean: refusals, value, structural hash, tests and variables of a tree, and the entry point's answer.
-pub mod Refusal
 pub mod Value
 pub mod Hash
-pub mod Utils
 pub mod Vars
-pub mod Bitwise
 pub mod ExprValue

@@ -6,6 +6,7 @@ ghost use lib.ListN.{length};
 ghost use Rattle.record.specs.Span.{sized};
 ghost use Rattle.record.specs.Decode.{leaf, decode};
 ghost use Rattle.expr.specs.Hash.{mixHash, tagHash, varHash, structuralHash};
+ghost use Rattle.base.specs.Limits.{recordLength};
 
 // A hash with a child's hash x joined to it.
 pub fn mix_hash(h: u64, x: u64) -> u64
@@ -34,7 +35,7 @@ fn var_hash(i: u64) -> u64
 
 // The hash of a root without children.
 pub fn leaf_hash(t: &[u8]) -> u64
-    requires { ⌜ 16 ≤ length (now t) ⌝ }
+    requires { ⌜ recordLength ≤ length (now t) ⌝ }
     ensures { λ r. ⌜ r ≡ structuralHash (leaf (now (t .entry))) ⌝ }
 {
     if record::kind(t) == 0 {

@@ -1,8 +1,5 @@
 // Expressions in 16-byte records: their refusals, value, structural hash, tests and variables.
-pub mod bitwise;
 pub mod hash;
-pub mod refusal;
-pub mod utils;
 pub mod value;
 pub mod vars;
 
@@ -13,7 +10,7 @@ ghost use Rattle.expr.specs.ExprValue.{IsExprValue};
 pub fn expr_value(t: &[u8], vars: &[u64], value: &mut u64) -> u64
     ensures { λ r. ⌜ IsExprValue (now (t .entry)) (now (vars .entry)) r (now (value .exit)) ⌝ }
 {
-    let number = refusal::expr_refusal(t);
+    let number = expr_refusal::expr_refusal(t);
     if number != 0 {
         *value = 0;
         return number;

@@ -1,12 +1,14 @@
 // The value of an expression under an assignment, at w bits.
 ghost use mathlib.Core.Path.{_≡_};
-ghost use mathlib.Core.List.{_++_};
+ghost use mathlib.Core.List.{_++_, []};
 ghost use mathlib.Core.Bool.{true};
-ghost use Prim.Native.Nat.{ℕ, _^_, _<_, _≤_};
+ghost use Prim.Native.Nat.{_^_, _<_, _≤_};
 ghost use lib.ListN.{length, getD, replicate};
 ghost use Rattle.record.specs.Span.{sized};
 ghost use Rattle.record.specs.Decode.{leaf, decode};
 ghost use Rattle.expr.specs.Value.{unary, binary, value};
+ghost use Rattle.record.specs.Fields.{kind};
+ghost use Rattle.base.specs.Limits.{recordLength};
 
 // Word i of the assignment that is 0 below `from` and has the words of vars from there on.
 fn word(vars: &[u64], from: u64, i: u64) -> u64
@@ -52,7 +54,7 @@ fn binary(w: u32, k: u8, x: u64, y: u64) -> u64
 
 // The value of a root without children.
 fn leaf_value(t: &[u8], vars: &[u64], from: u64, w: u32) -> u64
-    requires { ⌜ (16 ≤ length (now t)) × (w ≤ 64) ⌝ }
+    requires { ⌜ (recordLength ≤ length (now t)) × (w ≤ 64) ⌝ }
     ensures { λ r. ⌜ r ≡ value w (replicate from 0 ++ now (vars .entry)) (leaf (now (t .entry))) ⌝ }
 {
     let mask = arith::bitmask(w);
@@ -89,4 +91,13 @@ pub fn value_at(t: &[u8], vars: &[u64], w: u32) -> u64
     ensures { λ r. ⌜ r ≡ value w (now (vars .entry)) (decode (now (t .entry))) ⌝ }
 {
     value_from(t, vars, 0, w)
+}
+
+// The value of a variable-free tree, at w bits.
+pub fn constant_value(t: &[u8], w: u32) -> u64
+    requires { ⌜ (sized (now t) ≡ true) × (w ≤ 64) ⌝ }
+    ensures { λ r. ⌜ r ≡ value w [] (decode (now (t .entry))) ⌝ }
+{
+    let none = [0u64; 1];
+    crate::value::value_at(t, &none[..0], w)
 }

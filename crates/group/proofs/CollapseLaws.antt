@@ -13,18 +13,17 @@ use lib.Dec.{eqb, ltb}
 use borrow.Author.Tests.{eqb-true, eqb-false, lt-ltb, le-ltb, ltb-true, not-true}
 use Rattle.arith.specs.Width.{modAdd}
 use Rattle.record.specs.Tree.{Tree}
-use Rattle.record.proofs.SizedLaws.{and-true}
-use Rattle.record.proofs.LoopLaws.{first-from, first-true}
+use Rattle.base.proofs.BoolLaws.{and-true}
+use Rattle.base.proofs.LoopLaws.{first-from, first-true}
 use Rattle.semilinear.specs.Form.{Row}
 use Rattle.group.specs.declared.Group.{Group}
-use Rattle.group.specs.declared.collapse.Three.{Three}
-use Rattle.group.specs.Group.{at, putEntry, isLive, consumed, Work, work, createMasked}
+use Rattle.group.specs.Group.{at, putEntry, isLive, consumed, Work, work}
+use Rattle.made.specs.Rows.{createMasked}
 use Rattle.group.specs.Steps.{remasked}
-use Rattle.group.specs.Collapse.{thirdFits, findThird, secondFits, findSecond, firstFits, findFirst}
-use Rattle.group.specs.Collapse.{collapseAt, threeTermCollapse}
-use Rattle.group.specs.Made.{Room, Grew, Stands, Stepped}
-use Rattle.group.specs.Links.{FoundThree}
-use Rattle.group.proofs.SteppedLaws.{stepped-none, stepped-of, stepped-as, stepped-met}
+use Rattle.group.specs.Collapse.{thirdFits, findThird, secondFits, findSecond, firstFits, findFirst, collapseAt, threeTermCollapse}
+use Rattle.made.specs.Made.{Grew}
+use Rattle.group.specs.Made.{Stands, Stepped}
+use Rattle.group.proofs.SteppedLaws.{stepped-of}
 use Rattle.group.proofs.DropLaws.{mk, mk-eq}
 
 -- ---- the three entries
@@ -100,23 +99,6 @@ module _ (w : ℕ) (g : Group) where
       let lk : k < g .len = ltb-true k (g .len) (q .1) in
       collapsible-of-tests i j k (omega (arith, second-after i)) l lj lk (p .0) (q .0) (third-fits i j lk)
 
--- the three numbers that the code found, one by one
-found-as : {w : ℕ} {g : Group} {r : Three} (P : ℕ → ℕ → ℕ → Type 0) → FoundThree w g r → r .first < g .len
-    → P (findFirst w g) (findSecond w g (findFirst w g))
-    (findThird w g (findFirst w g) (findSecond w g (findFirst w g)))
-    → P (r .first) (r .second) (r .third)
-found-as {w} {g} {r} P p l h =
-    let e = p .first-is in
-    let f = p .second-is l ∙ ap (findSecond w g) e in
-    let d = p .third-is l ∙ ap (λ (x : ℕ). findThird w g x (r .second)) e
-    ∙ ap (findThird w g (findFirst w g)) f in
-    rw (e, f, d) h
-
-pub three-collapsible : {w : ℕ} {g : Group} {r : Three} → FoundThree w g r → r .first < g .len
-    → Collapsible w g (r .first) (r .second) (r .third)
-three-collapsible {w} {g} {r} p l =
-    found-as (Collapsible w g) p l (found-collapsible w g (rw (← (p .first-is)) l))
-
 -- ---- the step on three entries
 
 -- a store of an element that is as it was
@@ -190,26 +172,3 @@ module _ (w : ℕ) (t : Tree) (x : Work) where
       ≡ threeTermCollapse w t x
   unfolding threeTermCollapse
   collapse-found l = sym (simp (lt-ltb (findFirst w (x .group)) (x .group .len) l))
-
--- where the ways of the code meet: nothing was found, or the three entries collapsed
-module _ {w : ℕ} (t : Tree) {g r : Group} {f : Three} {made out made′ out′ : List ℕ} (p : FoundThree w g f) where
-  pub collapse-same : g .len ≤ f .first → Room made out → made′ ≡ made → out′ ≡ out → r ≡ g
-      → Stepped w 2 (threeTermCollapse w t) g made out r made′ out′
-  collapse-same l room em eo er =
-      stepped-met em eo er
-      (stepped-as (omega arith)
-      (λ x q.
-      sym (collapse-none w t x
-      (rw (← q) (λ (u : findFirst w g < g .len). omega (arith, p .first-is)))))
-      (stepped-none room))
-
-  pub collapse-met : f .first < g .len → {q : Group} {made″ out″ : List ℕ}
-      → Stepped w 2 (collapseAt w t (f .first) (f .second) (f .third)) g made out q made″ out″
-      → made′ ≡ made″ → out′ ≡ out″ → r ≡ q → Stepped w 2 (threeTermCollapse w t) g made out r made′ out′
-  collapse-met l s em eo er =
-      stepped-met em eo er
-      (stepped-as (omega arith)
-      (λ x q.
-      found-as (λ i j k. collapseAt w t i j k x ≡ threeTermCollapse w t x) p l
-      (rw q (collapse-found w t x (rw (← q, ← (p .first-is)) l))))
-      s)

@@ -10,15 +10,18 @@ use lib.Seq.{set-getD}
 use lib.Dec.{eqb}
 use borrow.Author.Tests.{eq-eqb, ne-eqb}
 use Rattle.arith.specs.Effective.{reduceMask}
-use Rattle.record.specs.Choice.{when}
+use Rattle.base.specs.Choice.{when}
 use Rattle.record.specs.Tree.{Tree}
-use Rattle.record.proofs.LoopLaws.{for-same}
+use Rattle.base.proofs.LoopLaws.{for-same}
 use Rattle.group.specs.declared.Group.{Group}
 use Rattle.semilinear.specs.Form.{Row}
-use Rattle.record.specs.Loop.{forIn}
-use Rattle.group.specs.Group.{Entry, at, putEntry, isLive, Work, work, createMasked}
+use Rattle.base.specs.Loop.{forIn}
+use Rattle.group.specs.Group.{Entry, at, putEntry, isLive, Work, work}
+use Rattle.made.specs.Rows.{createMasked}
 use Rattle.group.specs.Steps.{remasked, cutAt, cutMasks}
-use Rattle.group.specs.Made.{Room, Held, Grew, Stands, Stepped, cutOf}
+use Rattle.made.specs.Made.{Room, Held, Grew}
+use Rattle.group.specs.Made.{Stands, Stepped}
+use Rattle.entries.specs.Tests.{cutOf}
 use Rattle.group.proofs.SteppedLaws.{later-none, stepped-of, stepped-as}
 
 -- the mask of an entry as the code cuts it

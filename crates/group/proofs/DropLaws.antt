@@ -10,16 +10,19 @@ use lib.Seq.{set-getD, getD-set-other}
 use lib.Bits.{bitOr}
 use lib.Dec.{eqb}
 use Rattle.arith.specs.Effective.{canChangeCoefficientTo}
-use Rattle.record.specs.Choice.{when}
+use Rattle.base.specs.Choice.{when}
 use Rattle.record.specs.Tree.{Tree}
 use Rattle.group.specs.declared.Group.{Group}
 use Rattle.semilinear.specs.Form.{Row}
-use Rattle.record.specs.Loop.{forIn}
-use Rattle.group.specs.Group.{Entry, at, putEntry, isLive, consumed, Work, work, createMasked}
+use Rattle.base.specs.Loop.{forIn}
+use Rattle.group.specs.Group.{Entry, at, putEntry, isLive, consumed, Work, work}
+use Rattle.made.specs.Rows.{createMasked}
 use Rattle.group.specs.Steps.{cutMasks, dropAt, dropZero, joinAt}
-use Rattle.group.specs.Made.{Room, Held, Grew, Stands, Stepped, dropsOf}
+use Rattle.made.specs.Made.{Room, Held, Grew}
+use Rattle.group.specs.Made.{Stands, Stepped}
+use Rattle.entries.specs.Tests.{dropsOf}
 use Rattle.group.proofs.SteppedLaws.{later-none, stepped-of, stepped-as, stepped-then, stepped-group}
-use Rattle.record.proofs.LoopLaws.{when-both, for-same, for-keeps}
+use Rattle.base.proofs.LoopLaws.{when-both, for-same, for-keeps}
 
 -- ---- the drop
 

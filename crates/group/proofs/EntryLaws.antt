@@ -7,7 +7,7 @@ use lib.ListN.{length, length-set, length-replicate}
 use lib.Seq.{getD-set-same, getD-set-other}
 use Rattle.group.specs.declared.Group.{Group}
 use Rattle.group.specs.Group.{Entry, at, putEntry, emptyGroup, pushEntry}
-use Rattle.record.specs.Loop.{turnsF, forIn}
+use Rattle.base.specs.Loop.{turnsF, forIn}
 
 -- the arrays have 256 elements, and the length is at most that
 pub record Sized (g : Group) : Type 0 where

@@ -10,9 +10,9 @@ use lib.ListN.{length}
 use Rattle.record.specs.Tree.{Tree}
 use Rattle.expr.specs.Value.{value}
 use Rattle.semilinear.specs.Form.{Row, rowsOk}
-use Rattle.semilinear.specs.Decompose.{Decomposed, noBasis, masked}
-use Rattle.group.specs.Group.{viewRow, ungrouped}
-use Rattle.semilinear.proofs.HoldsLaws.{bareRows}
+use Rattle.decompose.specs.Decompose.{Decomposed, noBasis, masked}
+use Rattle.views.specs.Grouping.{viewRow, ungrouped}
+use Rattle.atom_table.proofs.HoldsLaws.{bareRows}
 use Rattle.semilinear.proofs.FormLaws.{Good, good-row, rows-cons}
 use Rattle.group.proofs.WorkLaws.{rowValue, Extends}
 

@@ -12,7 +12,8 @@ use Rattle.record.specs.Tree.{Tree}
 use Rattle.expr.specs.Value.{value}
 use Rattle.semilinear.specs.Form.{Row}
 use Rattle.group.specs.declared.Group.{Group}
-use Rattle.group.specs.Group.{Entry, at, putEntry, isLive, createMasked}
+use Rattle.group.specs.Group.{Entry, at, putEntry, isLive}
+use Rattle.made.specs.Rows.{createMasked}
 use Rattle.group.proofs.EntryLaws.{Sized, at-put, at-put-other}
 use Rattle.group.proofs.TotalLaws.{len-put}
 use Rattle.group.proofs.WorkLaws.{rowValue, Extends, length-masked, row-value-masked}

@@ -7,22 +7,22 @@ use native.Mathlib.Decide.{ℕ-discrete}
 use mathlib.Core.List.{List, _∷_}
 use mathlib.Core.Bool.{Bool, true, false}
 use lib.ListN.{length, getD}
-use Rattle.record.specs.Loop.{forIn}
+use Rattle.base.specs.Loop.{forIn}
 use Rattle.record.specs.Tree.{Tree}
 use Rattle.record.specs.Decode.{decode}
-use Rattle.record.proofs.LoopLaws.{for-ind}
+use Rattle.base.proofs.LoopLaws.{for-ind}
 use Rattle.semilinear.specs.Form.{Row, eqTree}
 use Rattle.group.specs.declared.Group.{Group}
 use Rattle.group.specs.Group.{Entry, at, emptyGroup, pushEntry, groupOf}
-use Rattle.group.specs.Made.{Basis}
-use Rattle.group.specs.Views.{viewAt, basisBytes, blankRow, Views, hasBasis}
+use Rattle.made.specs.Made.{Basis}
+use Rattle.views.specs.Views.{viewAt, basisBytes, blankRow, Views, hasBasis}
 use Rattle.group.specs.Gathered.{gatherAt, gathered}
 use Rattle.group.proofs.EntryLaws.{Sized, sized-push, sized-empty, at-push, at-push-other}
 use Rattle.group.proofs.TotalLaws.{len-push}
 use Rattle.group.proofs.GroupOfLaws.{group-no-basis, group-same, group-other}
-use Rattle.group.proofs.ViewsLaws.{row-no-basis, row-masked}
-use Rattle.group.proofs.HasBasisLaws.{basis-ungrouped, basis-tree}
-use Rattle.group.proofs.FirstRowsLaws.{rows-loop}
+use Rattle.views.proofs.ViewsLaws.{row-no-basis, row-masked}
+use Rattle.views.proofs.HasBasisLaws.{basis-ungrouped, basis-tree}
+use Rattle.views.proofs.FirstRowsLaws.{rows-loop}
 
 module _ (f views : List ℕ) (hash : ℕ) (b : List ℕ) where
   module _ (i : ℕ) (g : Group) where

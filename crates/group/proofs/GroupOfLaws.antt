@@ -8,19 +8,20 @@ use mathlib.Core.Bool.{Bool, true, false}
 use lib.ListN.{length}
 use lib.Bits.{bitAnd}
 use Rattle.record.specs.Tree.{Tree}
-use Rattle.expr.specs.Refusal.{isExpr}
+use Rattle.expr_refusal.specs.Refusal.{isExpr}
 use Rattle.expr.specs.Value.{value}
 use Rattle.group.specs.declared.Group.{Group}
 use Rattle.semilinear.specs.Form.{Row, eqTree, rowsOk}
-use Rattle.semilinear.specs.Decompose.{Decomposed, noBasis, masked}
-use Rattle.group.specs.Group.{Entry, at, emptyGroup, pushEntry, viewRow, groupOf}
+use Rattle.decompose.specs.Decompose.{Decomposed, noBasis, masked}
+use Rattle.group.specs.Group.{Entry, at, emptyGroup, pushEntry, groupOf}
+use Rattle.views.specs.Grouping.{viewRow}
 use Rattle.semilinear.proofs.FormLaws.{Good, rows-cons}
 use Rattle.semilinear.proofs.AtomLaws.{tree-atom, eq-of-eq-tree}
-use Rattle.group.proofs.ViewLaws.{View, Seen, seen-row}
+use Rattle.views.proofs.ViewLaws.{View, Seen, seen-row}
 use Rattle.group.proofs.EntryLaws.{Sized, sized-push, sized-empty, at-push, at-push-other}
 use Rattle.group.proofs.TotalLaws.{total, len-push, total-push, total-empty}
 use Rattle.group.proofs.WorkLaws.{rowValue}
-use Rattle.group.proofs.GroupsLaws.{shareOf, basisSum, termValue}
+use Rattle.views.proofs.GroupsLaws.{shareOf, basisSum, termValue}
 
 -- an entry as it comes from a row
 pub record Fresh (w : ℕ) (vars : List ℕ) (b : Tree) (rows : List Row) (e : Entry) : Type 0 where

@@ -1,16 +1,11 @@
 -- The laws of the definitions, for the crates above.
-pub mod ViewLaws
 pub mod EntryLaws
 pub mod TotalLaws
-pub mod CoeffsLaws
 pub mod WorkLaws
-pub mod BasesLaws
-pub mod GroupsLaws
 pub mod GroupOfLaws
 pub mod FitsLaws
 pub mod SettleLaws
 pub mod ExtendsLaws
-pub mod WordsLaws
 pub mod SteppedLaws
 pub mod CutLaws
 pub mod DropLaws
@@ -20,19 +15,8 @@ pub mod KeysLaws
 pub mod BucketLaws
 pub mod StagesLaws
 pub mod SearchLaws
-pub mod LinksLaws
-pub mod ThirdLaws
-pub mod FindLaws
 pub mod CollapseLaws
-pub mod ViewsLaws
-pub mod SplitLaws
-pub mod ReadLaws
-pub mod HasBasisLaws
-pub mod InsertLaws
-pub mod FirstRowsLaws
 pub mod GatherLaws
 pub mod SettleWordsLaws
 pub mod ShownLaws
-pub mod NextBasisLaws
-pub mod LoneLaws
 pub mod PassLaws

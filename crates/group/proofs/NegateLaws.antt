@@ -5,16 +5,15 @@ use mathlib.Core.Bool.{Bool, true, false, not, _&&_}
 use lib.ListN.{getD, set}
 use lib.Seq.{set-getD}
 use lib.Dec.{eqb}
-use borrow.Author.Tests.{eq-eqb, ne-eqb}
 use Rattle.arith.specs.Width.{bitmask}
 use Rattle.arith.proofs.WidthLaws.{bitmask-ones}
 use Rattle.arith.specs.Effective.{canChangeCoefficientTo}
-use Rattle.record.specs.Choice.{when}
+use Rattle.base.specs.Choice.{when}
 use Rattle.group.specs.declared.Group.{Group}
 use Rattle.group.specs.Group.{Entry, at, putEntry, isLive}
 use Rattle.group.specs.Steps.{minusOneAt, toMinusOne}
-use Rattle.group.specs.Made.{negatesOf}
-use Rattle.record.proofs.LoopLaws.{when-both, for-same, for-keeps}
+use Rattle.entries.specs.Tests.{negatesOf}
+use Rattle.base.proofs.LoopLaws.{when-both, for-same, for-keeps}
 
 abbrev pub negatesEntry : ℕ → Group → ℕ → Bool
 negatesEntry w g i = negatesOf (getD (g .marks) i 0) (getD (g .coeffs) i 0) (getD (g .masks) i 0) w
@@ -28,25 +27,6 @@ test-negates w u c m = go (eqb u 1) (eqb c (2 ^ w - 1)) (canChangeCoefficientTo 
     go true b t = refl
     go false true t = refl
     go false false t = refl
-
--- the ways through `negates`
-module _ (u c m w : ℕ) where
-  pub negates-dead : u ≡ 1 → false ≡ negatesOf u c m w
-  unfolding negatesOf
-  negates-dead a = simp (eq-eqb u 1 a)
-
-  module _ (hw : w ≤ 64) (a : u ≡ 1 → ⊥) where
-    pub negates-there : c ≡ bitmask w → false ≡ negatesOf u c m w
-    unfolding negatesOf
-    negates-there e = simp (ne-eqb u 1 a, eq-eqb c (2 ^ w - 1) (e ∙ bitmask-ones w hw))
-
-    pub negates-may : {minus : ℕ} → minus ≡ bitmask w → (c ≡ minus → ⊥) → {r : Bool}
-        → r ≡ canChangeCoefficientTo c minus m w → r ≡ negatesOf u c m w
-    unfolding negatesOf
-    negates-may e d h =
-        let ones = e ∙ bitmask-ones w hw in
-        h ∙ ap (λ (x : ℕ). canChangeCoefficientTo c x m w) ones
-        ∙ sym (simp (ne-eqb u 1 a, ne-eqb c (2 ^ w - 1) (λ q. d (q ∙ sym ones))))
 
 module _ (w i : ℕ) (g : Group) where
   entry-negates : (not (eqb (at g i .mark) 1)

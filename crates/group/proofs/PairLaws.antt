@@ -1,28 +1,30 @@
 -- Laws of the merge of pairs (specs/Steps.antt) as the code does it.
-use mathlib.Core.Path.{_≡_, refl, ap, sym, subst, _∙_}
-use Prim.Native.Nat.{ℕ, _+_, _^_, _<_}
+use Rattle.entries.proofs.TestsLaws.{pair-4}
+use mathlib.Core.Path.{_≡_, refl, ap, sym, _∙_}
+use Prim.Native.Nat.{ℕ, _+_, _<_}
 use native.Mathlib.Omega.{arith}
 use mathlib.Core.List.{List, [], _∷_}
 use mathlib.Core.Bool.{Bool, true, false, not, _&&_, _||_}
-use lib.ListN.{length, getD, set}
+use lib.ListN.{getD}
 use lib.Bits.{bitAnd}
 use lib.Dec.{eqb, ltb}
-use borrow.Author.Tests.{eq-eqb, ne-eqb, eqb-true, eqb-false, ltb-true, not-true}
+use borrow.Author.Tests.{eqb-true, eqb-false, ltb-true, not-true}
 use Rattle.arith.specs.Effective.{canChangeCoefficientTo}
-use Rattle.record.specs.Choice.{when}
+use Rattle.base.specs.Choice.{when}
 use Rattle.record.specs.Tree.{Tree}
 use Rattle.group.specs.declared.Group.{Group}
-use Rattle.group.specs.declared.merge.Joined.{Joined}
-use Rattle.group.specs.declared.merge.Joined.the-variants.{Apart, At}
-use Rattle.record.specs.Loop.{forIn, firstIn}
+use Rattle.entries.specs.declared.pair.Joined.{Joined}
+use Rattle.entries.specs.declared.pair.Joined.the-variants.{Apart, At}
+use Rattle.base.specs.Loop.{forIn, firstIn}
 use Rattle.group.specs.Group.{at, isLive, Work}
-use Rattle.group.specs.Steps.{joinAt, pairAt, pairMerge, slotFits, placeAt, placeBucket, bucketKeys}
-use Rattle.group.specs.Steps.{placeBuckets, bucketMerge}
-use Rattle.group.specs.Made.{Room, Stands, Stepped}
-use Rattle.group.specs.Pair.{pairOf, pairIn, joinFound}
-use Rattle.group.proofs.SteppedLaws.{later-none, stepped-of, stepped-as, stepped-none, stepped-met}
-use Rattle.record.proofs.LoopLaws.{when-both, first-true, for-same}
-use Rattle.record.proofs.SizedLaws.{false-true, and-true}
+use Rattle.group.specs.Steps.{joinAt, pairAt, pairMerge, slotFits, placeAt, placeBucket, bucketKeys, placeBuckets, bucketMerge}
+use Rattle.made.specs.Made.{Room}
+use Rattle.group.specs.Made.{Stepped}
+use Rattle.entries.specs.Tests.{pairOf, pairIn}
+use Rattle.group.specs.Pair.{joinFound}
+use Rattle.group.proofs.SteppedLaws.{stepped-as, stepped-none, stepped-met}
+use Rattle.base.proofs.LoopLaws.{when-both, first-true, for-same}
+use Rattle.base.proofs.BoolLaws.{false-true, and-true}
 
 -- what the code asks of the entries i and j
 abbrev pub pairEntry : ℕ → Group → ℕ → ℕ → Joined
@@ -85,42 +87,6 @@ unfolding pairMerge
 pair-loop {w} t {g} p =
     stepped-as (omega arith)
     (λ x e. ap (λ (k : Group). forIn (λ (i : ℕ). forIn (pairAt w t i) (i + 1) (k .len)) 0 (k .len) x) e) p
-
--- ---- the ways through `pair_at`
-
-module _ (u v c m d p w : ℕ) where
-  pub pair-1 : u ≡ 1 → Apart ≡ pairOf u v c m d p w
-  unfolding pairOf
-  pair-1 a = simp (eq-eqb u 1 a)
-
-  module _ (a : u ≡ 1 → ⊥) where
-    pub pair-2 : v ≡ 1 → Apart ≡ pairOf u v c m d p w
-    unfolding pairOf
-    pair-2 b = simp (ne-eqb u 1 a, eq-eqb v 1 b)
-
-    module _ (b : v ≡ 1 → ⊥) where
-      pub pair-3 : (bitAnd m p ≡ 0 → ⊥) → Apart ≡ pairOf u v c m d p w
-      unfolding pairOf
-      pair-3 z = simp (ne-eqb u 1 a, ne-eqb v 1 b, ne-eqb (bitAnd m p) 0 z)
-
-      module _ (z : bitAnd m p ≡ 0) where
-        pub pair-4 : c ≡ d → At c ≡ pairOf u v c m d p w
-        unfolding pairOf
-        pair-4 q = simp (ne-eqb u 1 a, ne-eqb v 1 b, eq-eqb (bitAnd m p) 0 z, eq-eqb c d q)
-
-        module _ (q : c ≡ d → ⊥) where
-          pub pair-5 : canChangeCoefficientTo d c p w ≡ true → At c ≡ pairOf u v c m d p w
-          unfolding pairOf
-          pair-5 r = simp (ne-eqb u 1 a, ne-eqb v 1 b, eq-eqb (bitAnd m p) 0 z, ne-eqb c d q, r)
-
-          module _ (r : canChangeCoefficientTo d c p w ≡ false) where
-            pub pair-6 : canChangeCoefficientTo c d m w ≡ true → At d ≡ pairOf u v c m d p w
-            unfolding pairOf
-            pair-6 s = simp (ne-eqb u 1 a, ne-eqb v 1 b, eq-eqb (bitAnd m p) 0 z, ne-eqb c d q, r, s)
-
-            pub pair-7 : canChangeCoefficientTo c d m w ≡ false → Apart ≡ pairOf u v c m d p w
-            unfolding pairOf
-            pair-7 s = simp (ne-eqb u 1 a, ne-eqb v 1 b, eq-eqb (bitAnd m p) 0 z, ne-eqb c d q, r, s)
 
 -- ---- where no pair joins, both merges change nothing
 

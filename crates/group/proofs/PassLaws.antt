@@ -7,35 +7,36 @@ use mathlib.Core.List.{List, []}
 use mathlib.Core.Bool.{Bool, true, false}
 use lib.ListN.{length, getD, drop, length-take}
 use Rattle.record.specs.Fields.{width}
-use Rattle.record.specs.Put.{padded}
+use Rattle.base.specs.Put.{padded}
 use Rattle.record.specs.Span.{body}
 use Rattle.record.specs.Tree.{Tree, IsBytes}
 use Rattle.record.specs.Decode.{decode}
-use Rattle.record.proofs.PutLaws.{length-padded}
-use Rattle.semilinear.specs.declared.table.Table.{Table}
+use Rattle.base.proofs.PutLaws.{length-padded}
+use Rattle.atom_table.specs.declared.table.Table.{Table}
 use Rattle.semilinear.specs.Form.{Row}
 use Rattle.semilinear.specs.Items.{atomCount, afterAtoms}
 use Rattle.semilinear.specs.Valid.{atomsOk, isSemilinear}
 use Rattle.semilinear.specs.DecodeForm.{rowsOf, decodeForm, readForm}
 use Rattle.semilinear.specs.Scan.{AtomsEnd}
-use Rattle.semilinear.specs.Table.{Placed}
-use Rattle.semilinear.specs.Terms.{coeffsOf, Copied}
-use Rattle.semilinear.proofs.HoldsLaws.{holds-bare}
-use Rattle.semilinear.proofs.TermsLaws.{length-coeffs}
+use Rattle.atom_table.specs.Table.{Placed}
+use Rattle.atom_table.specs.Terms.{coeffsOf, Copied}
+use Rattle.atom_table.proofs.HoldsLaws.{holds-bare}
+use Rattle.atom_table.proofs.TermsLaws.{length-coeffs}
 use Rattle.semilinear.proofs.ValidLaws.{semilinear-parts}
 use Rattle.group.specs.declared.Group.{Group}
-use Rattle.group.specs.Group.{emptyGroup, basesOf, groupOf, ungrouped}
-use Rattle.group.specs.Made.{tableOf, Room, Held, Basis}
-use Rattle.group.specs.Shown.{Shown}
-use Rattle.group.specs.Views.{viewAt, basisBytes, Views, ViewsRead, Readable}
-use Rattle.group.specs.Bases.{firstRows, FirstAre}
+use Rattle.group.specs.Group.{emptyGroup, groupOf}
+use Rattle.views.specs.Grouping.{basesOf, ungrouped}
+use Rattle.made.specs.Made.{tableOf, Room, Held, Basis}
+use Rattle.made.specs.Shown.{Shown}
+use Rattle.views.specs.Views.{viewAt, basisBytes, Views, ViewsRead, Readable}
+use Rattle.views.specs.Bases.{firstRows, FirstAre}
 use Rattle.group.specs.Gathered.{gathered}
 use Rattle.group.proofs.ExtendsLaws.{ungrouped-length, ungrouped-bare}
-use Rattle.group.proofs.FirstRowsLaws.{first-rows}
+use Rattle.views.proofs.FirstRowsLaws.{first-rows}
 use Rattle.group.proofs.GatherLaws.{gather-group, len-gathered}
-use Rattle.group.proofs.HasBasisLaws.{readable}
-use Rattle.group.proofs.NextBasisLaws.{NextBasis, next-basis, bases-end}
-use Rattle.group.proofs.ReadLaws.{length-rows, kept-padded}
+use Rattle.views.proofs.HasBasisLaws.{readable}
+use Rattle.views.proofs.NextBasisLaws.{NextBasis, next-basis, bases-end}
+use Rattle.views.proofs.ReadLaws.{length-rows, kept-padded}
 use Rattle.group.proofs.ShownLaws.{begun, held-copied, copied-end}
 
 -- ---- the begin

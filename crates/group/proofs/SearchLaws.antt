@@ -7,10 +7,10 @@ use native.Mathlib.Decide.{decLt}
 use mathlib.Core.Bool.{Bool, true, false, _&&_}
 use lib.Dec.{ltb}
 use borrow.Author.Tests.{le-ltb}
-use Rattle.record.specs.Choice.{when}
-use Rattle.record.specs.Loop.{firstIn}
-use Rattle.record.proofs.SizedLaws.{false-true}
-use Rattle.record.proofs.LoopLaws.{first-from, first-le, first-true, first-next, first-here, first-end}
+use Rattle.base.specs.Choice.{when}
+use Rattle.base.specs.Loop.{firstIn}
+use Rattle.base.proofs.BoolLaws.{false-true}
+use Rattle.base.proofs.LoopLaws.{first-from, first-le, first-true, first-next, first-here, first-end}
 
 -- a test that implies one that fails
 pub false-of-implied : (s t : Bool) → (s ≡ true → t ≡ true) → t ≡ false → s ≡ false

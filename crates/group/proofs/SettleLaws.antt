@@ -9,12 +9,13 @@ use Rattle.arith.specs.Congruence.{Eqm}
 use Rattle.arith.specs.Width.{modAdd}
 use Rattle.arith.proofs.CongruenceLaws.{eqm-of-eq, eqm-refl, eqm-trans, eqm-add, eqm-mul-r}
 use Rattle.arith.proofs.WidthLaws.{mod-add-eqm, mod-add-lt}
-use Rattle.record.specs.Choice.{when}
-use Rattle.record.proofs.LoopLaws.{for-ind}
+use Rattle.base.specs.Choice.{when}
+use Rattle.base.proofs.LoopLaws.{for-ind}
 use Rattle.expr.specs.Value.{value}
 use Rattle.group.specs.declared.Group.{Group}
 use Rattle.semilinear.specs.Form.{Row, sumRows, rowsOk}
-use Rattle.group.specs.Group.{Entry, at, isLive, addCoeff, settleAt, settle}
+use Rattle.group.specs.Group.{Entry, at, isLive, settleAt, settle}
+use Rattle.made.specs.Rows.{addCoeff}
 use Rattle.semilinear.proofs.FormLaws.{Good, good-row, rows-cons}
 use Rattle.group.proofs.TotalLaws.{sumTo}
 use Rattle.group.proofs.WorkLaws.{rowValue, Added, added-refl, added-trans, added-eqm}

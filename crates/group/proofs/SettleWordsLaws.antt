@@ -9,15 +9,16 @@ use mathlib.Core.Bool.{true, not}
 use lib.ListN.{length, getD, replicate, length-set, length-map, length-append}
 use lib.Dec.{eqb}
 use borrow.Author.Tests.{eq-eqb, ne-eqb}
-use Rattle.record.specs.Loop.{forIn}
-use Rattle.record.specs.Put.{padded}
-use Rattle.record.proofs.LoopLaws.{for-ind, for-keeps, for-none, for-more}
+use Rattle.base.specs.Loop.{forIn}
+use Rattle.base.specs.Put.{padded}
+use Rattle.base.proofs.LoopLaws.{for-ind, for-keeps, for-none, for-more}
 use Rattle.record.specs.Tree.{Tree}
 use Rattle.semilinear.specs.Form.{Row}
-use Rattle.semilinear.specs.Terms.{coeffsOf}
-use Rattle.semilinear.proofs.TermsLaws.{length-coeffs, coeffs-append}
+use Rattle.atom_table.specs.Terms.{coeffsOf}
+use Rattle.atom_table.proofs.TermsLaws.{length-coeffs, coeffs-append}
 use Rattle.group.specs.declared.Group.{Group}
-use Rattle.group.specs.Group.{at, isLive, createRow, addCoeff, settleAt, settle}
+use Rattle.group.specs.Group.{at, isLive, settleAt, settle}
+use Rattle.made.specs.Rows.{createRow, addCoeff}
 use Rattle.group.specs.Gathered.{addWord, settleWordAt, settleWords}
 use Rattle.group.proofs.SettleLaws.{add-length}
 

@@ -9,30 +9,31 @@ use mathlib.Core.Bool.{Bool, true, false}
 use lib.ListN.{length, getD, take, drop, length-append}
 use lib.Seq.{take-suc, drop-at}
 use Rattle.record.specs.Fields.{width}
-use Rattle.record.specs.Loop.{forIn}
-use Rattle.record.specs.Put.{padded}
+use Rattle.base.specs.Loop.{forIn}
+use Rattle.base.specs.Put.{padded}
 use Rattle.record.specs.Span.{body}
 use Rattle.record.specs.Tree.{IsBytes, sizeOf}
-use Rattle.record.proofs.LoopLaws.{when-both, for-keeps}
-use Rattle.record.proofs.PutLaws.{take-padded, length-padded}
-use Rattle.semilinear.specs.declared.table.Table.{Table}
+use Rattle.base.proofs.LoopLaws.{when-both, for-keeps}
+use Rattle.base.proofs.PutLaws.{take-padded, length-padded}
+use Rattle.atom_table.specs.declared.table.Table.{Table}
 use Rattle.semilinear.specs.Form.{Row, Form, atomsBytes, treeRecords, fitsTable}
 use Rattle.semilinear.specs.Items.{afterAtoms}
 use Rattle.semilinear.specs.Valid.{isSemilinear}
 use Rattle.semilinear.specs.DecodeForm.{rowsOf, decodeForm, readForm}
 use Rattle.semilinear.specs.Scan.{AtomsEnd}
-use Rattle.semilinear.specs.Terms.{coeffsOf, coeffsIn, Copied, Ends}
+use Rattle.atom_table.specs.Terms.{coeffsOf, coeffsIn, Copied, Ends}
 use Rattle.semilinear.proofs.AcceptLaws.{written}
-use Rattle.semilinear.proofs.HoldsLaws.{at-holds, bareRows, holds-bare}
-use Rattle.semilinear.proofs.TermsLaws.{length-coeffs}
+use Rattle.atom_table.proofs.HoldsLaws.{at-holds, bareRows, holds-bare}
+use Rattle.atom_table.proofs.TermsLaws.{length-coeffs}
 use Rattle.group.specs.declared.Group.{Group}
-use Rattle.group.specs.Group.{at, isLive, addCoeff, settleAt, settle}
-use Rattle.group.specs.Made.{tableOf, flagOf, wordsOf, Held}
-use Rattle.group.specs.Shown.{Shown}
+use Rattle.group.specs.Group.{at, isLive, settleAt, settle}
+use Rattle.made.specs.Rows.{addCoeff}
+use Rattle.made.specs.Made.{tableOf, flagOf, wordsOf, Held}
+use Rattle.made.specs.Shown.{Shown}
 use Rattle.group.specs.Gathered.{addWord, settleWords}
-use Rattle.group.proofs.CoeffsLaws.{fits-length}
+use Rattle.made.proofs.CoeffsLaws.{fits-length}
 use Rattle.group.proofs.SettleWordsLaws.{add-padded, settle-words}
-use Rattle.group.proofs.WordsLaws.{held-start}
+use Rattle.made.proofs.WordsLaws.{held-start}
 
 -- ---- the begin
 

@@ -8,8 +8,10 @@ use Rattle.record.specs.Tree.{Tree}
 use Rattle.group.specs.declared.Group.{Group}
 use Rattle.group.specs.Group.{Work, work, onGroup}
 use Rattle.group.specs.Steps.{cutMasks, dropZero, bucketMerge, pairMerge, toMinusOne}
-use Rattle.group.specs.Made.{Room, Stepped}
-use Rattle.group.specs.Stages.{cutAndDrop, mergeAll, NoSingle, NoMerge}
+use Rattle.made.specs.Made.{Room}
+use Rattle.group.specs.Made.{Stepped}
+use Rattle.group.specs.Stages.{cutAndDrop, mergeAll}
+use Rattle.entries.specs.Tests.{NoSingle, NoMerge}
 use Rattle.group.proofs.SteppedLaws.{stepped-none, stepped-as, stepped-then, stepped-met, stepped-group}
 use Rattle.group.proofs.CutLaws.{cut-none}
 use Rattle.group.proofs.DropLaws.{drop-none, len-drop-zero}

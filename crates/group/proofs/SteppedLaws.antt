@@ -7,11 +7,12 @@ use native.Mathlib.Decide.{ℕ-discrete}
 use mathlib.Core.List.{List}
 use lib.ListN.{length, getD}
 use Rattle.group.specs.declared.Group.{Group}
-use Rattle.record.proofs.LoopLaws.{for-none, for-more}
+use Rattle.base.proofs.LoopLaws.{for-none, for-more}
 use Rattle.semilinear.specs.Form.{Row}
-use Rattle.record.specs.Loop.{turnsF, forIn}
+use Rattle.base.specs.Loop.{turnsF, forIn}
 use Rattle.group.specs.Group.{Work, work, onGroup}
-use Rattle.group.specs.Made.{Room, Later, Held, Stands, Stepped}
+use Rattle.made.specs.Made.{Room, Later, Held}
+use Rattle.group.specs.Made.{Stands, Stepped}
 
 -- ---- steps
 

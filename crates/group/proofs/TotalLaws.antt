@@ -10,7 +10,7 @@ use lib.Bits.{bitAnd}
 use lib.Dec.{eqb}
 use Rattle.arith.specs.Congruence.{Eqm}
 use Rattle.arith.proofs.CongruenceLaws.{eqm-of-eq, eqm-refl, eqm-trans, eqm-add, eqm-cancel}
-use Rattle.record.specs.Choice.{when}
+use Rattle.base.specs.Choice.{when}
 use Rattle.group.specs.declared.Group.{Group}
 use Rattle.group.specs.Group.{Entry, at, putEntry, emptyGroup, pushEntry, isLive, consumed}
 use Rattle.group.proofs.EntryLaws.{Sized, sized-put, at-put, at-put-other, at-push, at-push-other}

@@ -15,18 +15,18 @@ use borrow.Author.Tests.{eq-eqb, ne-eqb}
 use Rattle.arith.specs.Congruence.{Eqm}
 use Rattle.arith.proofs.CongruenceLaws.{eqm-of-eq, eqm-refl, eqm-trans, eqm-add}
 use Rattle.arith.proofs.MaskLaws.{and-full}
-use Rattle.record.specs.Choice.{when}
-use Rattle.record.specs.Put.{padded}
+use Rattle.base.specs.Choice.{when}
+use Rattle.base.specs.Put.{padded}
 use Rattle.record.specs.Tree.{Tree}
 use Rattle.record.specs.Tree.Tree.{Constant, Binary}
 use Rattle.expr.specs.Value.{value, binary}
 use Rattle.expr.proofs.ValueLaws.{value-lt}
 use Rattle.semilinear.specs.Form.{Row, sumRows, isAtomTree, rowOk, rowsOk, fitsTable}
-use Rattle.semilinear.specs.Terms.{coeffsOf}
-use Rattle.group.specs.Group.{createRow, maskedTree, createMasked}
+use Rattle.atom_table.specs.Terms.{coeffsOf}
+use Rattle.made.specs.Rows.{createRow, maskedTree, createMasked}
 use Rattle.semilinear.proofs.FormLaws.{good-row, rows-cons}
 use Rattle.semilinear.proofs.AtomLaws.{atom-tree, tree-atom, masked-atom}
-use Rattle.group.proofs.CoeffsLaws.{coeffs-create, fits-less}
+use Rattle.made.proofs.CoeffsLaws.{coeffs-create, fits-less}
 
 -- ---- the value of a row's tree
 

@@ -6,11 +6,12 @@ use lib.ListN.{length}
 use lib.Bits.{bitAnd, bitOr}
 use lib.Dec.{eqb, ltb}
 use Rattle.arith.specs.Width.{modAdd}
-use Rattle.record.specs.Choice.{when}
+use Rattle.base.specs.Choice.{when}
 use Rattle.record.specs.Tree.{Tree}
 use Rattle.group.specs.declared.Group.{Group}
-use Rattle.record.specs.Loop.{firstIn}
-use Rattle.group.specs.Group.{at, putEntry, isLive, consumed, Work, work, createMasked}
+use Rattle.base.specs.Loop.{firstIn}
+use Rattle.group.specs.Group.{at, putEntry, isLive, consumed, Work, work}
+use Rattle.made.specs.Rows.{createMasked}
 use Rattle.group.specs.Steps.{remasked}
 
 unfoldable pub thirdFits : ℕ → Group → ℕ → ℕ → ℕ → Bool

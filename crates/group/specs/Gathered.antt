@@ -5,11 +5,12 @@ use mathlib.Core.List.{List}
 use lib.ListN.{getD, set}
 use lib.Dec.{eqb}
 use Rattle.arith.specs.Width.{modAdd}
-use Rattle.record.specs.Choice.{when}
-use Rattle.record.specs.Loop.{forIn}
+use Rattle.base.specs.Choice.{when}
+use Rattle.base.specs.Loop.{forIn}
 use Rattle.group.specs.declared.Group.{Group}
-use Rattle.group.specs.Group.{consumedMark, emptyGroup, pushEntry}
-use Rattle.group.specs.Views.{viewAt, hasBasis}
+use Rattle.entries.specs.Marks.{consumedMark}
+use Rattle.group.specs.Group.{emptyGroup, pushEntry}
+use Rattle.views.specs.Views.{viewAt, hasBasis}
 
 -- row i, where it has this basis
 unfoldable pub gatherAt : List ℕ → List ℕ → ℕ → List ℕ → ℕ → Group → Group

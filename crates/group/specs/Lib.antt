@@ -4,12 +4,8 @@ pub mod Group
 pub mod Steps
 pub mod Collapse
 pub mod Made
-pub mod Shown
 pub mod Pair
 pub mod Bucket
 pub mod Stages
-pub mod Links
-pub mod Views
-pub mod Bases
 pub mod Gathered
-pub mod Lone
+pub mod Fair

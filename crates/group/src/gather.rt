@@ -1,12 +1,13 @@
 // The group of a basis: the rows that have it.
 use crate::Group;
-use crate::LIVE;
-use crate::views;
+use base::limits;
+use entries::LIVE;
 ghost use mathlib.Core.Path.{_≡_};
 ghost use Prim.Native.Nat.{_≤_};
 ghost use Rattle.group.specs.Group.{emptyGroup};
-ghost use Rattle.group.specs.Views.{Readable};
+ghost use Rattle.views.specs.Views.{Readable};
 ghost use Rattle.group.specs.Gathered.{gathered};
+ghost use Rattle.base.specs.Limits.{groupEntries};
 
 impl Group {
     // A group without entries.
@@ -14,17 +15,17 @@ impl Group {
         ensures { λ r. ⌜ r ≡ emptyGroup ⌝ }
     {
         Group {
-            coeffs: [0u64; 256],
-            masks: [0u64; 256],
-            atoms: [0u64; 256],
-            marks: [0u8; 256],
+            coeffs: [0u64; limits::GROUP_ENTRIES],
+            masks: [0u64; limits::GROUP_ENTRIES],
+            atoms: [0u64; limits::GROUP_ENTRIES],
+            marks: [0u8; limits::GROUP_ENTRIES],
             len: 0,
         }
     }
 
     // The rows, of n, that have the basis b with this hash.
     pub fn gather(n: usize, hash: u64, b: &[u8], views: &[u64], f: &[u8]) -> Self
-        requires { ⌜ Readable (now f) (now views) n × (n ≤ 256) ⌝ }
+        requires { ⌜ Readable (now f) (now views) n × (n ≤ groupEntries) ⌝ }
         ensures { λ r. ⌜ r ≡ gathered (now (f .entry)) (now (views .entry)) hash
             (now (b .entry)) n ⌝ }
     {

@@ -9,17 +9,17 @@ use contract.Lifetimes.{Lfts}
 use borrow.Fn.World.{ArgsD}
 use borrow.Fn.Kinds.{endedOf}
 use denote.Triple.Clauses.{AtExit}
-use Rattle.record.specs.Put.{padded}
+use Rattle.base.specs.Put.{padded}
 use Rattle.record.specs.Tree.{IsBytes}
 use Rattle.semilinear.specs.declared.outcome.Answer.{Answer}
 use Rattle.semilinear.specs.Form.{Form, termCount, encodeForm, validForm}
-use Rattle.semilinear.specs.Outcome.{Outcome, accepted, refusalOf, numbersOf, writtenOf, Gives, flagNumber}
+use Rattle.base.specs.Outcome.{Outcome, accepted, refusalOf, numbersOf, writtenOf, Gives, flagNumber}
 use Rattle.semilinear.specs.Answers.{refusedAnswer, GivesForm}
-use Rattle.semilinear.proofs.MadeLaws.{Made, made, not-made}
+use Rattle.atom_table.proofs.MadeLaws.{Made, made, not-made}
 use Rattle.semilinear.proofs.OutcomeLaws.{formAnswer, gives-form, gives-refused, gives-two}
-use Rattle.semilinear.proofs.PassLaws.{gives-same}
-use Rattle.semilinear_normalizer.specs.Normalize.{normalizeToSemilinear}
-use Rattle.semilinear_normalizer.proofs.NormalizeLaws.{normalize-form}
+use Rattle.atom_table.proofs.PassLaws.{gives-same}
+use Rattle.normalizer_laws.specs.Normalize.{normalizeToSemilinear}
+use Rattle.normalizer_laws.proofs.NormalizeLaws.{normalize-form}
 use Rattle.claims.specs.Calls.{Pass, Call, refine-terms, recover-structure, coalesce-terms, flatten-complex-atoms}
 use Rattle.claims.specs.Calls.{compact-atom-table, passGives, afterCall}
 use Rattle.claims.proofs.CallsLaws.{pass-keeps, call-keeps}

@@ -7,13 +7,13 @@ use mathlib.Core.Bool.{Bool, true, false}
 use lib.ListN.{length, getD, take}
 use lib.Dec.{eqb}
 use denote.Ref.{now}
-use Rattle.record.specs.Choice.{when}
+use Rattle.base.specs.Choice.{when}
 use Rattle.record.specs.Tree.{IsBytes}
-use Rattle.record.specs.Put.{padded}
-use Rattle.record.proofs.PutLaws.{take-padded}
-use Rattle.semilinear.specs.Outcome.{Outcome, accepted, refused, refusalOf, numbersOf, writtenOf, Gives}
-use Rattle.semilinear_normalizer.specs.Normalize.{normalizeToSemilinear}
-use Rattle.semilinear_normalizer.proofs.NormalizeLaws.{normalize-refused}
+use Rattle.base.specs.Put.{padded}
+use Rattle.base.proofs.PutLaws.{take-padded}
+use Rattle.base.specs.Outcome.{Outcome, accepted, refused, refusalOf, numbersOf, writtenOf, Gives}
+use Rattle.normalizer_laws.specs.Normalize.{normalizeToSemilinear}
+use Rattle.normalizer_laws.proofs.NormalizeLaws.{normalize-refused}
 use Rattle.claims.specs.Calls.{inUse}
 use Rattle.runner.specs.RunPasses.{callsOf, isList, bytesOutcome, listOutcome, runOutcome, runPasses}
 use Rattle.hogzelt.proofs.Trace.{Ran, Claimed}

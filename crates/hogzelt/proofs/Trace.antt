@@ -12,7 +12,7 @@ use borrow.Fn.World.{ArgsD}
 use borrow.Fn.Kinds.{endedOf, Out}
 use denote.Triple.Clauses.{AtExit}
 use Rattle.arith.specs.Bit.{bitAt}
-use Rattle.record.specs.Choice.{when}
+use Rattle.base.specs.Choice.{when}
 use Rattle.record.specs.Fields.{width}
 use Rattle.record.specs.Tree.{IsBytes}
 use Rattle.expr.specs.ExprValue.{exprValue}
@@ -20,10 +20,10 @@ use Rattle.expr.specs.Vars.{support}
 use Rattle.truth.specs.Truth.{rowOf}
 use Rattle.semilinear.specs.Form.{Form, encodeForm, validForm}
 use Rattle.semilinear.specs.DecodeForm.{decodeForm}
-use Rattle.semilinear.specs.Outcome.{accepted}
-use Rattle.semilinear.specs.Value.{semilinearValue}
-use Rattle.semilinear_normalizer.specs.Normalize.{normalizeToSemilinear}
-use Rattle.bit_partitioner.specs.Columns.{atomTree, IsRow, Columns}
+use Rattle.base.specs.Outcome.{accepted}
+use Rattle.semilinear_value.specs.Value.{semilinearValue}
+use Rattle.normalizer_laws.specs.Normalize.{normalizeToSemilinear}
+use Rattle.partition_laws.specs.Columns.{atomTree, IsRow, Columns}
 use Rattle.claims.specs.Atoms.{AllAtoms}
 use Rattle.claims.specs.Calls.{Pass, Call, refine-terms, recover-structure, coalesce-terms, flatten-complex-atoms}
 use Rattle.claims.specs.Calls.{compact-atom-table, inUse}

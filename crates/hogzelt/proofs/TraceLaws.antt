@@ -10,21 +10,22 @@ use lib.Dec.{eqb}
 use denote.Ref.{now}
 use borrow.Author.Tests.{ne-eqb}
 use Rattle.record.specs.Tree.{IsBytes}
-use Rattle.record.specs.Put.{padded}
-use Rattle.record.proofs.PutLaws.{take-padded}
+use Rattle.base.specs.Put.{padded}
+use Rattle.base.proofs.PutLaws.{take-padded}
 use Rattle.semilinear.specs.Form.{Form, encodeForm, validForm}
 use Rattle.semilinear.specs.DecodeForm.{decodeForm}
-use Rattle.semilinear.specs.Outcome.{Outcome, accepted, refused, refusalOf, numbersOf, writtenOf, Gives, formOutcome}
-use Rattle.semilinear.specs.Value.{semilinearValue}
+use Rattle.base.specs.Outcome.{Outcome, accepted, refused, refusalOf, numbersOf, writtenOf, Gives}
+use Rattle.semilinear.specs.Outcome.{formOutcome}
+use Rattle.semilinear_value.specs.Value.{semilinearValue}
 use Rattle.semilinear.proofs.EncodeFormLaws.{form-decode, bytes-form}
-use Rattle.semilinear.proofs.MadeLaws.{Made, made, not-made}
+use Rattle.atom_table.proofs.MadeLaws.{Made, made, not-made}
 use Rattle.semilinear.proofs.OutcomeLaws.{gives-two}
-use Rattle.semilinear.proofs.ValueLaws.{encoded-value}
-use Rattle.semilinear_normalizer.specs.Normalize.{normalizeToSemilinear}
-use Rattle.semilinear_normalizer.proofs.NormalizeLaws.{normalize-form, normalize-refused}
-use Rattle.bit_partitioner.specs.Columns.{atomTree}
-use Rattle.bit_partitioner.specs.Partition.{computePartitions}
-use Rattle.bit_partitioner.proofs.ColumnsLaws.{row-is}
+use Rattle.semilinear_value.proofs.ValueLaws.{encoded-value}
+use Rattle.normalizer_laws.specs.Normalize.{normalizeToSemilinear}
+use Rattle.normalizer_laws.proofs.NormalizeLaws.{normalize-form, normalize-refused}
+use Rattle.partition_laws.specs.Columns.{atomTree}
+use Rattle.partition_laws.specs.Partition.{computePartitions}
+use Rattle.partition_laws.proofs.ColumnsLaws.{row-is}
 use Rattle.bit_partitioner.proofs.EntryLaws.{columns-of-call}
 use Rattle.claims.specs.Calls.{Pass, Call, refine-terms, recover-structure, coalesce-terms, flatten-complex-atoms}
 use Rattle.claims.specs.Calls.{compact-atom-table, passGives, useOf, afterCall, inUse}

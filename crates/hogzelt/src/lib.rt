@@ -4,15 +4,15 @@ ghost use Rattle.arith.specs.Effective.{reduceMask, canChangeMaskTo, canChangeC
 ghost use mathlib.Core.List.{[], _∷_};
 ghost use lib.ListN.{length, replicate};
 ghost use Rattle.expr.specs.ExprValue.{IsExprValue};
-ghost use Rattle.semilinear.specs.Value.{IsSemilinearValue};
-ghost use Rattle.semilinear.specs.Outcome.{flagNumber, Gives};
-ghost use Rattle.semilinear.specs.Compact.{compactAtomTable};
-ghost use Rattle.semilinear_normalizer.specs.Normalize.{normalizeToSemilinear};
+ghost use Rattle.semilinear_value.specs.Value.{IsSemilinearValue};
+ghost use Rattle.base.specs.Outcome.{flagNumber, Gives};
+ghost use Rattle.atom_table.specs.Compact.{compactAtomTable};
+ghost use Rattle.normalizer_laws.specs.Normalize.{normalizeToSemilinear};
 ghost use Rattle.term_refiner.specs.RefineTerms.{refineTerms};
-ghost use Rattle.structure_recovery.specs.RecoverStructure.{recoverStructure};
-ghost use Rattle.structure_recovery.specs.CoalesceTerms.{coalesceTerms};
-ghost use Rattle.structure_recovery.specs.FlattenComplexAtoms.{flattenComplexAtoms};
-ghost use Rattle.bit_partitioner.specs.Partition.{computePartitions};
+ghost use Rattle.structure_laws.specs.RecoverStructure.{recoverStructure};
+ghost use Rattle.structure_laws.specs.CoalesceTerms.{coalesceTerms};
+ghost use Rattle.structure_laws.specs.FlattenComplexAtoms.{flattenComplexAtoms};
+ghost use Rattle.partition_laws.specs.Partition.{computePartitions};
 ghost use Rattle.runner.specs.RunPasses.{runPasses};
 
 // The value of an expression under an assignment; returns the refusal, 0 where it is accepted.
@@ -62,7 +62,7 @@ pub extern "C" fn hogzelt_can_change_coefficient_to(
 pub extern "C" fn hogzelt_semilinear_value(s: &[u8], vars: &[u64], value: &mut u64) -> u64
     ensures { λ r. ⌜ IsSemilinearValue (now (s .entry)) (now (vars .entry)) r (now (value .exit)) ⌝ }
 {
-    semilinear::value::semilinear_value(s, vars, value)
+    semilinear_value::semilinear_value(s, vars, value)
 }
 
 // The form s without the atoms that have no term; returns the refusal, 0 where it is accepted.
@@ -76,7 +76,7 @@ pub extern "C" fn hogzelt_compact_atom_table(
     ensures { λ r. ⌜ Gives (compactAtomTable (now (s .entry)) (length (now (out .entry))))
         (length (now (out .entry))) r (now (used .exit) ∷ now (terms .exit) ∷ []) (now (out .exit)) ⌝ }
 {
-    let answer = semilinear::compact::compact_atom_table(s, out);
+    let answer = atom_table::compact::compact_atom_table(s, out);
     *used = answer.used;
     *terms = answer.terms;
     answer.refusal
@@ -144,7 +144,7 @@ pub extern "C" fn hogzelt_coalesce_terms(
     ensures { λ r. ⌜ Gives (coalesceTerms (now (s .entry)) (length (now (out .entry))))
         (length (now (out .entry))) r (now (used .exit) ∷ now (terms .exit) ∷ []) (now (out .exit)) ⌝ }
 {
-    let joined = structure_recovery::coalesce::coalesce_terms(s, out);
+    let joined = coalesce::coalesce_terms(s, out);
     *used = joined.used;
     *terms = joined.terms;
     joined.refusal
@@ -174,7 +174,7 @@ pub extern "C" fn hogzelt_flatten_complex_atoms(
         (length (now (out .entry))) r (now (used .exit) ∷ now (terms .exit) ∷ now (flattened .exit) ∷ [])
         (now (out .exit)) ⌝ }
 {
-    let flat = structure_recovery::flatten::flatten_complex_atoms(s, out);
+    let flat = flatten::flatten_complex_atoms(s, out);
     *used = flat.used;
     *terms = flat.terms;
     *flattened = flag_number(flat.flag);
@@ -209,7 +209,7 @@ pub extern "C" fn hogzelt_run_passes(
     ensures { λ _. ⌜ now (spare .exit) ≡ replicate (length (now (spare .entry))) 0 ⌝ }
 {
     let ran = runner::run_passes(expr, calls, sheet, spare);
-    record::write::clear(spare);
+    base::write::clear(spare);
     *used = ran.used;
     *terms = ran.terms;
     ran.refusal

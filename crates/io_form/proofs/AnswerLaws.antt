@@ -6,7 +6,7 @@ use mathlib.Core.List.{List}
 use lib.ListN.{length}
 use lib.Seq.{length-take-le}
 use Rattle.semilinear.specs.declared.outcome.Answer.{Answer}
-use Rattle.semilinear_normalizer.proofs.UsedLaws.{UsedWithin}
+use Rattle.normalizer_laws.proofs.UsedLaws.{UsedWithin}
 use Rattle.io_form.specs.Used.{IsUsed}
 
 pub answer-used : {len : ℕ} {r : Answer} (out : List ℕ) → UsedWithin len r → length out ≡ len → r .refusal ≡ 0

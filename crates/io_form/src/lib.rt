@@ -1,6 +1,10 @@
 // What the programs share: an expression is read from standard input and normalised, and a refusal
 // is printed.
+use base::limits;
 ghost use Rattle.io_form.specs.Used.{IsUsed};
+
+// An expression's bytes, and one more, by which a longer input is told.
+pub const INPUT_BYTES: usize = limits::EXPR_BYTES + 1;
 
 // R and the refusal's number.
 pub fn print_refusal(number: u64) {
@@ -26,7 +30,7 @@ fn normalize_or_print(t: &[u8], out: &mut [u8]) -> usize
 pub fn normalize_input(out: &mut [u8]) -> usize
     ensures { λ r. ⌜ IsUsed r (now (out .exit)) ⌝ }
 {
-    let mut bytes = [0u8; 16385];
+    let mut bytes = [0u8; INPUT_BYTES];
     let n = io::read_full(0, &mut bytes);
     normalize_or_print(&bytes[..n], out)
 }

@@ -1,8 +1,10 @@
 // Reads an expression on standard input (document 01: a tangle) and prints its semilinear form: C
 // and the constant, then for each term T, the atom's number and the coefficient; or R and the
 // refusal.
+use base::limits;
 ghost use Prim.Native.Nat.{_≤_};
 ghost use lib.ListN.{length};
+ghost use Rattle.base.specs.Limits.{recordLength};
 
 fn text(s: &[u8]) {
     io::write_all(1, s);
@@ -16,7 +18,7 @@ fn print_word(x: u64) {
 
 // The term at the front of q.
 fn print_term(q: &[u8])
-    requires { ⌜ 16 ≤ length (now q) ⌝ }
+    requires { ⌜ recordLength ≤ length (now q) ⌝ }
 {
     text(b"T ");
     io::print_decimal(1, semilinear::items::front_number(q));
@@ -33,13 +35,13 @@ fn print_terms(f: &[u8]) {
             return;
         }
         print_term(q);
-        at += 16;
+        at += limits::RECORD_LENGTH;
     }
 }
 
 // The form s: the constant stands in its last record.
 fn print_form(s: &[u8])
-    requires { ⌜ 16 ≤ length (now s) ⌝ }
+    requires { ⌜ recordLength ≤ length (now s) ⌝ }
 {
     text(b"C ");
     print_word(record::literal(s));
@@ -47,7 +49,7 @@ fn print_form(s: &[u8])
 }
 
 fn main() {
-    let mut out = [0u8; 57360];
+    let mut out = [0u8; limits::FORM_BYTES];
     let used = io_form::normalize_input(&mut out);
     if used != 0 {
         print_form(&out[..used]);

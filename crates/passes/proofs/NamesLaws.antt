@@ -3,7 +3,7 @@ use mathlib.Core.Path.{_≡_, sym, _∙_}
 use mathlib.Core.List.{List}
 use mathlib.Core.Bool.{Bool, true, false}
 use Prim.Native.Nat.{ℕ}
-use Rattle.record.specs.Lists.{eqList}
+use Rattle.base.specs.Lists.{eqList}
 use Rattle.passes.specs.Names.{isName, named, passNumber}
 
 module _ (name function short : List ℕ) where

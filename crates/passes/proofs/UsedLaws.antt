@@ -7,14 +7,14 @@ use mathlib.Core.Bool.{Bool}
 use lib.Dec.{eqb}
 use lib.ListN.{length, getD, replicate, length-append}
 use lib.Seq.{length-take-le}
-use Rattle.record.specs.Choice.{when}
-use Rattle.record.specs.Put.{padded}
-use Rattle.record.proofs.LoopLaws.{when-both}
+use Rattle.base.specs.Choice.{when}
+use Rattle.base.specs.Put.{padded}
+use Rattle.base.proofs.LoopLaws.{when-both}
 use Rattle.io.specs.Counts.{Counts}
 use Rattle.semilinear.specs.declared.outcome.Answer.{Answer}
-use Rattle.semilinear.specs.Outcome.{Outcome, accepted, refused, refusalOf, numbersOf, writtenOf}
+use Rattle.base.specs.Outcome.{Outcome, accepted, refused, refusalOf, numbersOf, writtenOf}
 use Rattle.semilinear.specs.Answers.{GivesForm}
-use Rattle.semilinear_normalizer.specs.Normalize.{normalizeToSemilinear}
+use Rattle.normalizer_laws.specs.Normalize.{normalizeToSemilinear}
 use Rattle.claims.specs.Calls.{Call}
 use Rattle.runner.specs.RunPasses.{callsOf, isList, bytesOutcome, listOutcome, runOutcome, runPasses}
 

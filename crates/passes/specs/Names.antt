@@ -4,8 +4,8 @@ use Prim.Native.Char.{code}
 use Prim.Native.String.{String, [] as end, _∷_ as _then_}
 use mathlib.Core.List.{List, [], _∷_}
 use mathlib.Core.Bool.{Bool, true}
-use Rattle.record.specs.Choice.{when}
-use Rattle.record.specs.Lists.{eqList}
+use Rattle.base.specs.Choice.{when}
+use Rattle.base.specs.Lists.{eqList}
 
 -- the bytes of a text in ASCII
 unfoldable pub textBytes : String → List ℕ

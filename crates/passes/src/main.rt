@@ -9,6 +9,7 @@
 // that no term uses.
 mod names;
 
+use base::limits;
 ghost use mathlib.Core.Path.{_≡_};
 ghost use Prim.Native.Nat.{_+_, _*_, _≤_, _<_};
 ghost use lib.ListN.{length};
@@ -32,7 +33,7 @@ fn put_call(k: usize, pass: u64, calls: &mut [u64])
     requires { ⌜ 2 * k + 1 < length (now calls) ⌝ }
 {
     calls[2 * k] = pass;
-    calls[2 * k + 1] = 57360;
+    calls[2 * k + 1] = limits::FORM_BYTES_U64;
 }
 
 // The calls that the first arguments name, n of them.
@@ -92,10 +93,10 @@ fn run_or_print(t: &[u8], calls: &[u64], sheet: &mut [u8], spare: &mut [u8]) -> 
 
 // Room for one byte more than the longest expression has, so that input past it is refused.
 fn main() {
-    let mut bytes = [0u8; 16385];
+    let mut bytes = [0u8; io_form::INPUT_BYTES];
     let mut calls = [0u64; 512];
-    let mut sheet = [0u8; 57360];
-    let mut spare = [0u8; 57360];
+    let mut sheet = [0u8; limits::FORM_BYTES];
+    let mut spare = [0u8; limits::FORM_BYTES];
     let n = io::read_full(0, &mut bytes);
     let words = read_list(&mut calls);
     let used = run_or_print(&bytes[..n], &calls[..words], &mut sheet, &mut spare);

@@ -1,5 +1,4 @@
 -- The laws of the definitions, for the crates above.
-pub mod LoopLaws
 pub mod FieldsLaws
 pub mod SpanLaws
 pub mod SizedLaws
@@ -7,5 +6,3 @@ pub mod BytesLaws
 pub mod EncodeLaws
 pub mod DecodeLaws
 pub mod LeafLaws
-pub mod ListsLaws
-pub mod PutLaws

@@ -1,40 +1,17 @@
 -- Laws of `sized` (specs/Span.antt): a span whose size fields are right has a record, and so have its children's spans.
-use mathlib.Core.Path.{_≡_, refl, sym, _∙_}
+use Rattle.base.proofs.BoolLaws.{false-true, and-true}
+use mathlib.Core.Path.{_≡_, sym, _∙_}
 use Prim.Native.Nat.{ℕ, _*_, _≤_, _<_}
 use native.Mathlib.Omega.{arith}
 use native.Mathlib.Decide.{decLt, ℕ-discrete}
 use mathlib.Core.List.{List}
-use mathlib.Core.Bool.{Bool, true, false, _&&_, _||_, or-true}
+use mathlib.Core.Bool.{Bool, true, _&&_}
 use lib.ListN.{length}
 use lib.Dec.{eqb}
 use borrow.Author.Tests.{eqb-true}
 use Rattle.record.specs.Fields.{kind, size, arity}
 use Rattle.record.specs.Span.{body, left, right, sized}
 use Rattle.record.proofs.SpanLaws.{fold-none, fold-leaf, fold-one, fold-two}
-
-pub false-true : {A : Type 0} → false ≡ true → A
-false-true e = let z : _≡_ {A = ℕ} 0 1 = cc in absurd (omega arith)
-
--- both parts of a conjunction of tests
-pub and-true : (a b : Bool) → a && b ≡ true → (a ≡ true) × (b ≡ true)
-and-true true b e = (refl, e)
-and-true false b e = false-true e
-
--- both parts of a disjunction of tests that fails
-pub or-false : (a b : Bool) → a || b ≡ false → (a ≡ false) × (b ≡ false)
-or-false true b e = false-true (sym e)
-or-false false b e = (refl, e)
-
--- a disjunction of tests from one part, and one of its parts
-pub or-of-l : (a b : Bool) → a ≡ true → a || b ≡ true
-or-of-l a b e = simp e
-
-pub or-of-r : (a b : Bool) → b ≡ true → a || b ≡ true
-or-of-r a b e = simp e (or-true a)
-
-pub or-cases : {A : Type 0} (a b : Bool) → a || b ≡ true → (a ≡ true → A) → (b ≡ true → A) → A
-or-cases true b e p q = p refl
-or-cases false b e p q = q e
 
 abbrev rootSized : List ℕ → Bool
 rootSized s = eqb (size s * 16) (length s)

@@ -10,7 +10,7 @@ use lib.ListN.{length, drop, length-take, length-drop, take-append-drop}
 use lib.Seq.{take-add}
 use lib.Dec.{ltb}
 use borrow.Author.Tests.{lt-ltb, le-ltb, ltb-false, ne-eqb}
-use Rattle.record.specs.Choice.{when}
+use Rattle.base.specs.Choice.{when}
 use Rattle.record.specs.Fields.{u16, kind, arity}
 use Rattle.record.specs.Span.{cut, body, left, right, step, stepsF, fold}
 

@@ -2,7 +2,7 @@
 use Prim.Native.Nat.{ℕ}
 use mathlib.Core.List.{List}
 use lib.Dec.{eqb}
-use Rattle.record.specs.Choice.{when}
+use Rattle.base.specs.Choice.{when}
 use Rattle.record.specs.Fields.{kind, varIndex, amount, literal}
 use Rattle.record.specs.Span.{fold}
 use Rattle.record.specs.Tree.{Tree}

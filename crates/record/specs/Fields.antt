@@ -4,7 +4,8 @@ use Prim.Native.Nat.{ℕ, _+_, _-_, _*_, _^_}
 use mathlib.Core.List.{List}
 use lib.ListN.{length, getD}
 use lib.Dec.{ltb}
-use Rattle.record.specs.Choice.{when}
+use Rattle.base.specs.Choice.{when}
+use Rattle.base.specs.Limits.{recordLength}
 
 -- the number in two, four or eight bytes from place i on, little-endian; what lies past the end counts as 0
 unfoldable pub u16 : List ℕ → ℕ → ℕ
@@ -18,7 +19,7 @@ u64 s i = u32 s i + u32 s (i + 4) * 2 ^ 32
 
 -- byte 0 of the root: its kind
 unfoldable pub kind : List ℕ → ℕ
-kind s = getD s (length s - 16) 0
+kind s = getD s (length s - recordLength) 0
 
 -- byte 1 of the root
 unfoldable pub byte1 : List ℕ → ℕ

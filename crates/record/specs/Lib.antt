@@ -1,9 +1,5 @@
 -- The 16-byte record of document 01, expression trees in it, and recursion over spans of records.
-pub mod Choice
-pub mod Loop
-pub mod Lists
 pub mod Fields
 pub mod Tree
 pub mod Span
 pub mod Decode
-pub mod Put

@@ -5,6 +5,7 @@ use mathlib.Core.Path.{_≡_}
 use mathlib.Core.List.{List, [], _∷_, _++_}
 use lib.ListN.{getD}
 use Rattle.record.specs.Fields.{arity}
+use Rattle.base.specs.Limits.{varLimit}
 
 -- a literal; a variable by its number; one child, with kind and amount; two children, with kind
 pub data Tree : Type 0 where
@@ -40,6 +41,6 @@ IsBytes s = (i : ℕ) → getD s i 0 < 256
 -- the trees that bytes can hold: each kind has its number of children, and literals fit
 unfoldable pub Encodable : Tree → Type 0
 Encodable (Constant v) = v < 2 ^ 64
-Encodable (Variable i) = i < 256
+Encodable (Variable i) = i < varLimit
 Encodable (Unary k a t) = (arity k ≡ 1) × Encodable t
 Encodable (Binary k l r) = (arity k ≡ 2) × Encodable l × Encodable r

@@ -2,12 +2,14 @@
 // the writers stand in `write`.
 pub mod write;
 
+use base::limits;
 ghost use mathlib.Core.Path.{_≡_};
 ghost use Prim.Native.Nat.{ℕ, _+_, _-_, _*_, _^_, _<_, _≤_};
 ghost use lib.ListN.{length};
-ghost use Rattle.record.specs.Lists.{eqList};
+ghost use Rattle.base.specs.Lists.{eqList};
 ghost use Rattle.record.specs.Fields.{u16, u32, u64, kind, byte1, varIndex, amount, size, width, spare, literal, arity};
 ghost use Rattle.record.specs.Span.{cut, body, left, right};
+ghost use Rattle.base.specs.Limits.{recordLength, varLimit};
 
 fn wide(x: u8) -> u64
     ensures { λ r. ⌜ (r ≡ x) × (r < 2 ^ 8) ⌝ }
@@ -41,16 +43,16 @@ pub fn read_u64(t: &[u8], i: usize) -> u64
 
 // The kind of the root.
 pub fn kind(t: &[u8]) -> u8
-    requires { ⌜ 16 ≤ length (now t) ⌝ }
+    requires { ⌜ recordLength ≤ length (now t) ⌝ }
     ensures { λ r. ⌜ r ≡ kind (now (t .entry)) ⌝ }
 {
     let n = t.len();
-    t[n - 16]
+    t[n - limits::RECORD_LENGTH]
 }
 
 // Byte 1 of the root, as it stands.
 pub fn byte1(t: &[u8]) -> u8
-    requires { ⌜ 16 ≤ length (now t) ⌝ }
+    requires { ⌜ recordLength ≤ length (now t) ⌝ }
     ensures { λ r. ⌜ r ≡ byte1 (now (t .entry)) ⌝ }
 {
     let n = t.len();
@@ -59,15 +61,15 @@ pub fn byte1(t: &[u8]) -> u8
 
 // The variable number of a root of kind Variable.
 pub fn var_index(t: &[u8]) -> u64
-    requires { ⌜ 16 ≤ length (now t) ⌝ }
-    ensures { λ r. ⌜ (r ≡ varIndex (now (t .entry))) × (r < 256) ⌝ }
+    requires { ⌜ recordLength ≤ length (now t) ⌝ }
+    ensures { λ r. ⌜ (r ≡ varIndex (now (t .entry))) × (r < varLimit) ⌝ }
 {
     wide(byte1(t))
 }
 
 // The shift count of a root of kind Shr, 0 for Not and Neg.
 pub fn amount(t: &[u8]) -> u64
-    requires { ⌜ 16 ≤ length (now t) ⌝ }
+    requires { ⌜ recordLength ≤ length (now t) ⌝ }
     ensures { λ r. ⌜ (r ≡ amount (now (t .entry))) × (r < 256) ⌝ }
 {
     wide(byte1(t))
@@ -75,7 +77,7 @@ pub fn amount(t: &[u8]) -> u64
 
 // The size field of the root.
 pub fn size(t: &[u8]) -> u64
-    requires { ⌜ 16 ≤ length (now t) ⌝ }
+    requires { ⌜ recordLength ≤ length (now t) ⌝ }
     ensures { λ r. ⌜ (r ≡ size (now (t .entry))) × (r < 2 ^ 16) ⌝ }
 {
     read_u16(t, t.len() - 14)
@@ -83,7 +85,7 @@ pub fn size(t: &[u8]) -> u64
 
 // The width of the root.
 pub fn width(t: &[u8]) -> u8
-    requires { ⌜ 16 ≤ length (now t) ⌝ }
+    requires { ⌜ recordLength ≤ length (now t) ⌝ }
     ensures { λ r. ⌜ r ≡ width (now (t .entry)) ⌝ }
 {
     let n = t.len();
@@ -92,7 +94,7 @@ pub fn width(t: &[u8]) -> u8
 
 // The sum of the root's bytes 5 to 7.
 pub fn spare(t: &[u8]) -> u64
-    requires { ⌜ 16 ≤ length (now t) ⌝ }
+    requires { ⌜ recordLength ≤ length (now t) ⌝ }
     ensures { λ r. ⌜ r ≡ spare (now (t .entry)) ⌝ }
 {
     let n = t.len();
@@ -101,7 +103,7 @@ pub fn spare(t: &[u8]) -> u64
 
 // The literal of the root.
 pub fn literal(t: &[u8]) -> u64
-    requires { ⌜ 16 ≤ length (now t) ⌝ }
+    requires { ⌜ recordLength ≤ length (now t) ⌝ }
     ensures { λ r. ⌜ r ≡ literal (now (t .entry)) ⌝ }
 {
     read_u64(t, t.len() - 8)
@@ -125,7 +127,7 @@ pub fn arity(k: u8) -> u8
 
 // How many children the root has.
 pub fn root_arity(t: &[u8]) -> u8
-    requires { ⌜ 16 ≤ length (now t) ⌝ }
+    requires { ⌜ recordLength ≤ length (now t) ⌝ }
     ensures { λ r. ⌜ r ≡ arity (kind (now (t .entry))) ⌝ }
 {
     arity(kind(t))
@@ -133,15 +135,15 @@ pub fn root_arity(t: &[u8]) -> u8
 
 // Where the right child's span begins, of a root with two children.
 pub fn cut(t: &[u8]) -> usize
-    ensures { λ r. ⌜ (r ≡ cut (now (t .entry))) × (r ≤ length (now (t .entry)) - 16) ⌝ }
+    ensures { λ r. ⌜ (r ≡ cut (now (t .entry))) × (r ≤ length (now (t .entry)) - recordLength) ⌝ }
 {
     let n = t.len();
     if n < 32 {
         return 0;
     }
     let size = read_u16(t, n - 30) as usize;
-    if size * 16 <= n - 16 {
-        return n - 16 - size * 16;
+    if size * limits::RECORD_LENGTH <= n - limits::RECORD_LENGTH {
+        return n - limits::RECORD_LENGTH - size * limits::RECORD_LENGTH;
     }
     0
 }
@@ -151,10 +153,10 @@ pub fn body(t: &[u8]) -> &[u8]
     ensures { λ r. ⌜ now r ≡ body (now (t .entry)) ⌝ }
 {
     let n = t.len();
-    if n < 16 {
+    if n < limits::RECORD_LENGTH {
         return &t[..0];
     }
-    let m = n - 16;
+    let m = n - limits::RECORD_LENGTH;
     &t[..m]
 }
 
@@ -171,11 +173,11 @@ pub fn right(t: &[u8]) -> &[u8]
     ensures { λ r. ⌜ now r ≡ right (now (t .entry)) ⌝ }
 {
     let n = t.len();
-    if n < 16 {
+    if n < limits::RECORD_LENGTH {
         return &t[..0];
     }
     let c = cut(t);
-    let m = n - 16;
+    let m = n - limits::RECORD_LENGTH;
     &t[c..m]
 }
 

@@ -6,16 +6,16 @@ use mathlib.Core.List.{List, [], _∷_}
 use mathlib.Core.Bool.{Bool, true, false}
 use lib.ListN.{length, getD, take}
 use borrow.Author.Tests.{ne-eqb}
-use Rattle.record.specs.Choice.{when}
-use Rattle.record.specs.Put.{padded}
+use Rattle.base.specs.Choice.{when}
+use Rattle.base.specs.Put.{padded}
 use Rattle.record.specs.Tree.{IsBytes}
 use Rattle.semilinear.specs.declared.outcome.Answer.{Answer}
-use Rattle.semilinear.specs.Outcome.{Outcome, accepted, refused, refusalOf, numbersOf, writtenOf}
+use Rattle.base.specs.Outcome.{Outcome, accepted, refused, refusalOf, numbersOf, writtenOf}
 use Rattle.semilinear.specs.Answers.{GivesForm}
-use Rattle.semilinear.proofs.PassLaws.{gives-same}
-use Rattle.semilinear_normalizer.specs.Normalize.{normalizeToSemilinear}
-use Rattle.semilinear_normalizer.proofs.NormalizeLaws.{FileCase, wrong-length, wrong-slice, no-expression, expression}
-use Rattle.semilinear_normalizer.proofs.NormalizeLaws.{file-case, normalize-form, normalize-refused}
+use Rattle.atom_table.proofs.PassLaws.{gives-same}
+use Rattle.normalizer_laws.specs.Normalize.{normalizeToSemilinear}
+use Rattle.normalizer_laws.proofs.NormalizeLaws.{FileCase, wrong-length, wrong-slice, no-expression, expression}
+use Rattle.normalizer_laws.proofs.NormalizeLaws.{file-case, normalize-form, normalize-refused}
 use Rattle.claims.specs.Calls.{inUse}
 use Rattle.runner.specs.RunPasses.{callsOf, isList, bytesOutcome, listOutcome, runOutcome, runPasses}
 use Rattle.runner.specs.Placed.{Lies}

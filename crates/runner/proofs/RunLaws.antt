@@ -8,7 +8,7 @@ use lib.Seq.{take-length}
 use Rattle.semilinear.specs.declared.outcome.Answer.{Answer}
 use Rattle.semilinear.specs.Form.{Form, termCount}
 use Rattle.semilinear.specs.DecodeForm.{decodeForm}
-use Rattle.semilinear.specs.Outcome.{refusalOf, numbersOf, writtenOf}
+use Rattle.base.specs.Outcome.{refusalOf, numbersOf, writtenOf}
 use Rattle.semilinear.specs.Answers.{GivesForm}
 use Rattle.semilinear.proofs.EncodeFormLaws.{form-decode}
 use Rattle.claims.specs.Calls.{Call, afterCall, inUse}

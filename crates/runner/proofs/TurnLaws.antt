@@ -8,15 +8,16 @@ use mathlib.Core.List.{List, [], _∷_, _++_, append-nil}
 use mathlib.Core.Bool.{Bool, true, false}
 use lib.ListN.{length, getD, take, drop, drop-of-length-le, length-take}
 use lib.Seq.{length-take-le, take-at, take-take, take-length}
-use Rattle.record.specs.Choice.{when}
-use Rattle.record.specs.Put.{put, padded}
-use Rattle.record.proofs.PutLaws.{take-padded, length-padded}
+use Rattle.base.specs.Choice.{when}
+use Rattle.base.specs.Put.{put, padded}
+use Rattle.base.proofs.PutLaws.{take-padded, length-padded}
 use Rattle.semilinear.specs.declared.outcome.Answer.{Answer}
 use Rattle.semilinear.specs.Form.{Form, termCount, encodeForm, validForm}
-use Rattle.semilinear.specs.Outcome.{Outcome, accepted, refused, refusalOf, numbersOf, writtenOf, formOutcome}
+use Rattle.base.specs.Outcome.{Outcome, accepted, refused, refusalOf, numbersOf, writtenOf}
+use Rattle.semilinear.specs.Outcome.{formOutcome}
 use Rattle.semilinear.specs.Answers.{GivesForm}
 use Rattle.semilinear.proofs.FormLaws.{length-form-le}
-use Rattle.semilinear.proofs.MadeLaws.{Made, made, not-made}
+use Rattle.atom_table.proofs.MadeLaws.{Made, made, not-made}
 use Rattle.claims.specs.Calls.{Pass, Call, passGives, useOf, afterCall}
 use Rattle.claims.proofs.CallsLaws.{pass-keeps, pass-two}
 use Rattle.runner.specs.Placed.{Lies, bytesIn, Placed}

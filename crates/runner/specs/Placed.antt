@@ -4,9 +4,10 @@ use Prim.Native.Nat.{ℕ}
 use mathlib.Core.List.{List}
 use mathlib.Core.Bool.{Bool, true}
 use lib.ListN.{length, take}
-use Rattle.record.specs.Choice.{when}
-use Rattle.record.specs.Put.{padded}
+use Rattle.base.specs.Choice.{when}
+use Rattle.base.specs.Put.{padded}
 use Rattle.semilinear.specs.Form.{Form, termCount, encodeForm, validForm}
+use Rattle.base.specs.Limits.{formBytes}
 
 -- the bytes t are those of a valid form; they lie at the start of a slice of 57,360, with the numbers beside
 pub record Lies (t : List ℕ) (used terms : ℕ) (slice : List ℕ) : Type 0 where
@@ -15,7 +16,7 @@ pub record Lies (t : List ℕ) (used terms : ℕ) (slice : List ℕ) : Type 0 wh
   pub valid : validForm form ≡ true
   pub count : used ≡ length t
   pub terms-count : terms ≡ termCount (form .rows)
-  pub written : slice ≡ padded 57360 t
+  pub written : slice ≡ padded formBytes t
 
 -- the bytes in use, in the first slice or in the second
 abbrev pub bytesIn : Bool → ℕ → List ℕ → List ℕ → List ℕ
@@ -23,4 +24,4 @@ bytesIn first used a b = take used (when first (λ _. a) (λ _. b))
 
 -- the bytes t lie in the first 57,360 bytes of the one slice or of the other
 pub record Placed (t : List ℕ) (first : Bool) (used terms : ℕ) (a b : List ℕ) : Type 0 where
-  pub lies : Lies t used terms (take 57360 (when first (λ _. a) (λ _. b)))
+  pub lies : Lies t used terms (take formBytes (when first (λ _. a) (λ _. b)))

@@ -4,11 +4,11 @@ use mathlib.Core.List.{List, [], _∷_}
 use mathlib.Core.Bool.{Bool, true, false, _&&_}
 use lib.ListN.{length}
 use lib.Dec.{eqb, leb}
-use Rattle.record.specs.Choice.{when}
+use Rattle.base.specs.Choice.{when}
 use Rattle.semilinear.specs.Form.{termCount}
 use Rattle.semilinear.specs.DecodeForm.{decodeForm}
-use Rattle.semilinear.specs.Outcome.{Outcome, accepted, refused, refusalOf}
-use Rattle.semilinear_normalizer.specs.Normalize.{normalizeToSemilinear}
+use Rattle.base.specs.Outcome.{Outcome, accepted, refused, refusalOf}
+use Rattle.normalizer_laws.specs.Normalize.{normalizeToSemilinear}
 use Rattle.claims.specs.Calls.{Pass, Call, refine-terms, recover-structure, coalesce-terms, flatten-complex-atoms}
 use Rattle.claims.specs.Calls.{compact-atom-table, inUse}
 

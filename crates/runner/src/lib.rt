@@ -8,6 +8,7 @@ ghost use Rattle.semilinear.specs.Answers.{GivesForm};
 ghost use Rattle.claims.specs.Calls.{passGives, afterCall, inUse};
 ghost use Rattle.runner.specs.RunPasses.{passAt, isPass, callOf, callsOf, isList, bytesOutcome, runPasses};
 ghost use Rattle.runner.specs.Placed.{Lies, bytesIn, Placed};
+ghost use Rattle.base.specs.Limits.{formBytes};
 
 // The form in use: whether it is in the first slice, how many bytes it has, and its count of terms.
 pub struct InUse {
@@ -63,12 +64,12 @@ fn make_call(pass: u64, s: &[u8], out: &mut [u8]) -> Answer
         return structure_recovery::recover::recover_structure(s, out);
     }
     if pass == 3 {
-        return structure_recovery::coalesce::coalesce_terms(s, out);
+        return coalesce::coalesce_terms(s, out);
     }
     if pass == 4 {
-        return structure_recovery::flatten::flatten_complex_atoms(s, out);
+        return flatten::flatten_complex_atoms(s, out);
     }
-    semilinear::compact::compact_atom_table(s, out)
+    atom_table::compact::compact_atom_table(s, out)
 }
 
 // One call: it reads the first used bytes of from and writes the first len bytes of to.
@@ -135,7 +136,7 @@ fn run_list(calls: &[u64], start: InUse, sheet: &mut [u8], spare: &mut [u8]) -> 
 
 // The form in use is left in sheet.
 fn settle(first: bool, used: usize, terms: u64, sheet: &mut [u8], spare: &[u8])
-    requires { ⌜ (length (now sheet) ≡ 57360)
+    requires { ⌜ (length (now sheet) ≡ formBytes)
         × Placed (bytesIn first used (now sheet) (now spare)) first used terms (now sheet) (now spare) ⌝ }
     ensures { λ _. ⌜ Lies (bytesIn first used (now (sheet .entry)) (now (spare .entry))) used terms
         (now (sheet .exit)) ⌝ }
@@ -144,7 +145,7 @@ fn settle(first: bool, used: usize, terms: u64, sheet: &mut [u8], spare: &[u8])
         return;
     }
     let n = sheet.len();
-    record::write::put_bytes(sheet, 0, &spare[..n]);
+    base::write::put_bytes(sheet, 0, &spare[..n]);
 }
 
 // The list run from the form in sheet, which is left there.
@@ -152,7 +153,7 @@ fn run_from(calls: &[u64], used: usize, terms: u64, sheet: &mut [u8], spare: &mu
     requires { ⌜ (isList (length (now sheet)) (length (now spare)) (now calls) ≡ true)
         × Lies (take used (now sheet)) used terms (now sheet) ⌝ }
     ensures { λ r. ⌜ GivesForm (bytesOutcome (inUse (callsOf (now (calls .entry))) (take used (now (sheet .entry)))))
-        57360 r (now (sheet .exit)) ⌝ }
+        formBytes r (now (sheet .exit)) ⌝ }
 {
     let start = InUse {
         first: true,

@@ -9,12 +9,12 @@ use mathlib.Core.Bool.{Bool, true, false}
 use lib.ListN.{length, take, drop, take-append-drop}
 use lib.Seq.{take-add}
 use lib.Pow.{pow-pos}
-use Rattle.record.specs.Choice.{when}
+use Rattle.base.specs.Choice.{when}
 use Rattle.record.specs.Fields.{width, literal}
 use Rattle.record.specs.Span.{body}
 use Rattle.record.specs.Tree.{sizeOf, recordBytes, encode, IsBytes}
 use Rattle.record.specs.Decode.{decode}
-use Rattle.record.proofs.SizedLaws.{and-true}
+use Rattle.base.proofs.BoolLaws.{and-true}
 use Rattle.record.proofs.SpanLaws.{split-one}
 use Rattle.record.proofs.BytesLaws.{last-record, bytes-take, bytes-drop, bytes-body}
 use Rattle.expr.proofs.AcceptLaws.{accept-encode, accept-expr, size-accepted}

@@ -7,11 +7,11 @@ use mathlib.Core.Bool.{true, false, not, _&&_, _||_}
 use borrow.Author.Tests.{ne-eqb, not-true}
 use Rattle.record.specs.Tree.{Tree, encode}
 use Rattle.record.specs.Tree.Tree.{Constant, Unary, Binary}
-use Rattle.record.proofs.SizedLaws.{and-true, or-false}
-use Rattle.record.proofs.ListsLaws.{eq-of-eq-list}
+use Rattle.base.proofs.BoolLaws.{and-true, or-false}
+use Rattle.base.proofs.ListsLaws.{eq-of-eq-list}
 use Rattle.record.proofs.EncodeLaws.{encode-injective}
-use Rattle.expr.specs.Refusal.{isExpr}
-use Rattle.expr.specs.Utils.{hasKind, hasVarDep, isArith, hasArith}
+use Rattle.expr_refusal.specs.Refusal.{isExpr}
+use Rattle.expr_utils.specs.Utils.{hasKind, hasVarDep, isArith, hasArith}
 use Rattle.expr.proofs.IsExprLaws.{unary-of-expr, binary-of-expr, expr-of-binary, expr-of-constant, expr-encodable}
 use Rattle.semilinear.specs.Form.{isAtomTree, eqTree}
 

@@ -11,7 +11,7 @@ use borrow.Author.Tests.{le-leb, lt-ltb}
 use Rattle.record.specs.Tree.{Tree, sizeOf, recordBytes, encode, IsBytes}
 use Rattle.record.proofs.BytesLaws.{record-big, kind-record, byte1-record, size-record, width-record, spare-record}
 use Rattle.record.proofs.BytesLaws.{literal-record, body-record, bytes-append, bytes-record}
-use Rattle.expr.specs.Refusal.{isExpr}
+use Rattle.expr_refusal.specs.Refusal.{isExpr}
 use Rattle.expr.specs.Hash.{structuralHash}
 use Rattle.expr.proofs.IsExprLaws.{bytes-encode}
 use Rattle.semilinear.specs.Form.{Row, Form, atomBytes, atomsBytes, termBytes, termsBytes, sumBytes, encodeForm}

@@ -8,7 +8,7 @@ use mathlib.Core.Bool.{Bool, true, false, _&&_}
 use lib.ListN.{length, length-append}
 use lib.Dec.{ltb, leb}
 use borrow.Author.Tests.{leb-true, ltb-true, eq-eqb, ne-eqb, le-ltb, lt-ltb, le-leb}
-use Rattle.record.proofs.SizedLaws.{and-true}
+use Rattle.base.proofs.BoolLaws.{and-true}
 use Rattle.record.proofs.BytesLaws.{length-record}
 use Rattle.semilinear.specs.Form.{Row, Form, termCount, atomBytes, atomsBytes, termBytes, termsBytes, sumBytes}
 use Rattle.semilinear.specs.Form.{encodeForm, isAtomTree, rowOk, rowsOk, treeRecords, fitsTable, validForm}

@@ -9,8 +9,8 @@ use mathlib.Core.Bool.{Bool, true, false, _&&_}
 use lib.ListN.{length, drop, length-take, length-drop}
 use lib.Dec.{eqb, leb}
 use borrow.Author.Tests.{leb-true, eqb-true}
-use Rattle.record.specs.Choice.{when}
-use Rattle.record.proofs.SizedLaws.{and-true}
+use Rattle.base.specs.Choice.{when}
+use Rattle.base.proofs.BoolLaws.{and-true}
 use Rattle.semilinear.specs.Items.{frontKind, frontNumber, atomLength, isAtom, treeSpan, afterAtom, atomsF}
 use Rattle.semilinear.specs.Items.{foldAtoms, isTerm}
 use Rattle.semilinear.specs.DecodeForm.{hasTerm, afterTerm, rowAt, rowsF, rowsOf}

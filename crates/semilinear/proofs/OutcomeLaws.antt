@@ -6,10 +6,10 @@ use mathlib.Core.Bool.{Bool}
 use lib.ListN.{length, take, replicate}
 use lib.Seq.{take-take}
 use native.Mathlib.Omega.{arith}
-use Rattle.record.specs.Put.{padded}
+use Rattle.base.specs.Put.{padded}
 use Rattle.semilinear.specs.declared.outcome.Answer.{Answer}
 use Rattle.semilinear.specs.Form.{Form, termCount, encodeForm}
-use Rattle.semilinear.specs.Outcome.{Outcome, accepted, refused, refusalOf, numbersOf, writtenOf, Gives}
+use Rattle.base.specs.Outcome.{Outcome, accepted, refused, refusalOf, numbersOf, writtenOf, Gives}
 use Rattle.semilinear.specs.Outcome.{formOutcome}
 use Rattle.semilinear.specs.Answers.{refusedAnswer, GivesForm}
 

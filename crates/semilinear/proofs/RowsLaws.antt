@@ -8,9 +8,9 @@ use mathlib.Core.Bool.{true, false, not, _&&_}
 use lib.ListN.{length}
 use lib.Pow.{pow-mono}
 use Rattle.record.specs.Tree.{Tree}
-use Rattle.record.proofs.SizedLaws.{and-true}
-use Rattle.expr.specs.Refusal.{isExpr}
-use Rattle.expr.specs.Utils.{hasVarDep, hasArith}
+use Rattle.base.proofs.BoolLaws.{and-true}
+use Rattle.expr_refusal.specs.Refusal.{isExpr}
+use Rattle.expr_utils.specs.Utils.{hasVarDep, hasArith}
 use Rattle.expr.proofs.HashLaws.{structural-hash-lt}
 use Rattle.expr.proofs.IsExprLaws.{decode-encode}
 use Rattle.expr.proofs.AcceptLaws.{expr-accept}

@@ -11,13 +11,13 @@ use borrow.Author.Tests.{eqb-true, eqb-false, leb-true, ltb-true, eq-eqb, ne-eqb
 use Rattle.record.specs.Fields.{kind, byte1, size, width, literal, spare}
 use Rattle.record.specs.Span.{body, sized}
 use Rattle.record.specs.Decode.{decode}
-use Rattle.record.proofs.SizedLaws.{false-true, and-true}
-use Rattle.expr.specs.Refusal.{treeRefusal}
-use Rattle.expr.specs.Utils.{hasVarDep, hasArith}
+use Rattle.base.proofs.BoolLaws.{false-true, and-true}
+use Rattle.expr_refusal.specs.Refusal.{treeRefusal}
+use Rattle.expr_utils.specs.Utils.{hasVarDep, hasArith}
 use Rattle.expr.specs.Hash.{structuralHash}
-use Rattle.expr.specs.declared.bitwise.Checked.{Checked}
-use Rattle.expr.specs.Bitwise.{bitwiseOk, passing, checked}
-use Rattle.expr.proofs.BitwiseLaws.{checked-ok, passes}
+use Rattle.bitwise.specs.declared.Checked.{Checked}
+use Rattle.bitwise.specs.Bitwise.{bitwiseOk, passing, checked}
+use Rattle.bitwise.proofs.BitwiseLaws.{checked-ok, passes}
 use Rattle.semilinear.specs.Items.{provenance, frontNumber, frontWidth, frontSpare, frontWord, treeSpan}
 use Rattle.semilinear.specs.Items.{atomCount, atomRecords, afterAtoms, isTerm}
 use Rattle.semilinear.specs.Valid.{atomTreeOk, treeOk, atomOk, atomsOk, termOk, termsOkF, termsOk, sumOk, frontOk}

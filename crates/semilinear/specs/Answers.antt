@@ -3,7 +3,7 @@ use Prim.Native.Nat.{ℕ}
 use mathlib.Core.List.{List, [], _∷_}
 use mathlib.Core.Bool.{false}
 use Rattle.semilinear.specs.declared.outcome.Answer.{Answer}
-use Rattle.semilinear.specs.Outcome.{Outcome, flagNumber, Gives}
+use Rattle.base.specs.Outcome.{Outcome, flagNumber, Gives}
 
 -- the numbers beside the refusal
 abbrev pub numbersIn : Answer → List ℕ

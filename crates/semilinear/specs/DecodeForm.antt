@@ -4,13 +4,14 @@ use mathlib.Core.List.{List, [], _∷_}
 use mathlib.Core.Bool.{Bool, _&&_}
 use lib.ListN.{length, drop}
 use lib.Dec.{eqb}
-use Rattle.record.specs.Choice.{when}
+use Rattle.base.specs.Choice.{when}
 use Rattle.record.specs.Fields.{width, literal}
 use Rattle.record.specs.Span.{body}
 use Rattle.record.specs.Decode.{decode}
 use Rattle.semilinear.specs.Form.{Row, Form}
 use Rattle.semilinear.specs.Items.{provenance, frontNumber, frontWord, isAtom, treeSpan}
 use Rattle.semilinear.specs.Items.{afterAtom, afterAtoms, isTerm}
+use Rattle.base.specs.Limits.{recordLength}
 
 -- the term at the front is that of atom i
 unfoldable pub hasTerm : ℕ → List ℕ → Bool
@@ -21,7 +22,7 @@ unfoldable pub coeffAt : ℕ → List ℕ → ℕ
 coeffAt i q = when (hasTerm i q) (λ _. frontWord q) (λ _. 0)
 
 unfoldable pub afterTerm : ℕ → List ℕ → List ℕ
-afterTerm i q = when (hasTerm i q) (λ _. drop 16 q) (λ _. q)
+afterTerm i q = when (hasTerm i q) (λ _. drop recordLength q) (λ _. q)
 
 -- the row of atom i, which stands at the front of r
 unfoldable pub rowAt : ℕ → List ℕ → List ℕ → Row

@@ -6,13 +6,14 @@ use mathlib.Core.List.{List, [], _∷_, _++_}
 use mathlib.Core.Bool.{Bool, true, not, _&&_}
 use lib.ListN.{length}
 use lib.Dec.{eqb, ltb, leb}
-use Rattle.record.specs.Choice.{when}
-use Rattle.record.specs.Lists.{eqList}
+use Rattle.base.specs.Choice.{when}
+use Rattle.base.specs.Lists.{eqList}
 use Rattle.record.specs.Tree.{Tree, sizeOf, recordBytes, encode}
-use Rattle.expr.specs.Refusal.{isExpr}
-use Rattle.expr.specs.Utils.{hasVarDep, hasArith}
+use Rattle.expr_refusal.specs.Refusal.{isExpr}
+use Rattle.expr_utils.specs.Utils.{hasVarDep, hasArith}
 use Rattle.expr.specs.Value.{value}
 use Rattle.expr.specs.Hash.{structuralHash}
+use Rattle.base.specs.Limits.{atomLimit, treeRecordLimit}
 
 -- the provenances: what an atom was made of
 abbrev pub andFamily : ℕ
@@ -107,7 +108,7 @@ treeRecords (x ∷ l) = sizeOf (x .tree) + treeRecords l
 
 -- the table's limits: 256 atoms, 3,072 tree records
 unfoldable pub fitsTable : List Row → Bool
-fitsTable l = leb (length l) 256 && leb (treeRecords l) 3072
+fitsTable l = leb (length l) atomLimit && leb (treeRecords l) treeRecordLimit
 
 unfoldable pub validForm : Form → Bool
 validForm f =

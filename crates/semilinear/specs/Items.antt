@@ -5,8 +5,9 @@ use mathlib.Core.List.{List}
 use mathlib.Core.Bool.{Bool, _&&_}
 use lib.ListN.{length, getD, take, drop}
 use lib.Dec.{leb, eqb}
-use Rattle.record.specs.Choice.{when}
+use Rattle.base.specs.Choice.{when}
 use Rattle.record.specs.Fields.{u16, u64}
+use Rattle.base.specs.Limits.{recordLength}
 
 -- the fields of the record at the front; bytes 2 and 3 are a head's tree size or a term's atom number
 unfoldable pub frontKind : List ℕ → ℕ
@@ -29,15 +30,15 @@ frontWord r = u64 r 8
 
 -- the bytes of the atom at the front, head and tree
 unfoldable pub atomLength : List ℕ → ℕ
-atomLength r = 16 + 16 * frontNumber r
+atomLength r = recordLength + recordLength * frontNumber r
 
 -- an atom's head stands at the front, and there is room for its tree
 unfoldable pub isAtom : List ℕ → Bool
-isAtom r = leb 16 (length r) && (eqb (frontKind r) 33 && leb (atomLength r) (length r))
+isAtom r = leb recordLength (length r) && (eqb (frontKind r) 33 && leb (atomLength r) (length r))
 
 -- the tree of the atom at the front, and what stands after the atom
 unfoldable pub treeSpan : List ℕ → List ℕ
-treeSpan r = take (16 * frontNumber r) (drop 16 r)
+treeSpan r = take (recordLength * frontNumber r) (drop recordLength r)
 
 unfoldable pub afterAtom : List ℕ → List ℕ
 afterAtom r = drop (atomLength r) r
@@ -63,4 +64,4 @@ afterAtoms = foldAtoms (λ r. r) (λ r x. x)
 
 -- a term stands at the front
 unfoldable pub isTerm : List ℕ → Bool
-isTerm q = leb 16 (length q) && eqb (frontKind q) 34
+isTerm q = leb recordLength (length q) && eqb (frontKind q) 34

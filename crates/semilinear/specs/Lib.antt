@@ -6,11 +6,4 @@ pub mod DecodeForm
 pub mod Outcome
 pub mod PassOutcome
 pub mod Answers
-pub mod Table
-pub mod Value
-pub mod Compact
-pub mod Terms
-pub mod Decompose
-pub mod Basis
 pub mod Scan
-pub mod Running

@@ -4,11 +4,13 @@ use Prim.Native.Nat.{ℕ}
 use mathlib.Core.List.{List, []}
 use mathlib.Core.Bool.{Bool, not}
 use lib.Dec.{eqb}
-use Rattle.record.specs.Choice.{when}
+use Rattle.base.specs.Choice.{when}
 use Rattle.semilinear.specs.Form.{Form, fitsTable}
 use Rattle.semilinear.specs.Valid.{lengthRefused, isSemilinear}
 use Rattle.semilinear.specs.DecodeForm.{readForm}
-use Rattle.semilinear.specs.Outcome.{Outcome, accepted, refused, formOutcome}
+use Rattle.base.specs.Outcome.{Outcome, accepted, refused}
+use Rattle.semilinear.specs.Outcome.{formOutcome}
+use Rattle.base.specs.Limits.{formBytes}
 
 -- what reads a form and has a result slice of len elements, which must be `whole`: refusals 1, 2 and 10 in this order,
 -- then what `given` says of the form
@@ -24,7 +26,7 @@ openOutcome whole = readOutcome whole (λ f. accepted [] [])
 
 -- a pass: the result slice has 57,360 bytes
 unfoldable pub passOutcome : (Form → Outcome) → List ℕ → ℕ → Outcome
-passOutcome = readOutcome 57360
+passOutcome = readOutcome formBytes
 
 -- a form that was made, or 9 where its table passes a limit
 unfoldable pub limitOutcome : Form → Bool → Outcome

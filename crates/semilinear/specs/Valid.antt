@@ -4,15 +4,16 @@ use mathlib.Core.List.{List}
 use mathlib.Core.Bool.{Bool, true, false, not, _&&_}
 use lib.ListN.{length, drop}
 use lib.Dec.{eqb, ltb, leb}
-use Rattle.record.specs.Choice.{when}
+use Rattle.base.specs.Choice.{when}
 use Rattle.record.specs.Fields.{kind, byte1, size, width, literal, spare}
 use Rattle.record.specs.Span.{body}
 use Rattle.record.specs.Decode.{decode}
-use Rattle.expr.specs.Refusal.{treeRefusal}
-use Rattle.expr.specs.Utils.{hasVarDep, hasArith}
+use Rattle.expr_refusal.specs.Refusal.{treeRefusal}
+use Rattle.expr_utils.specs.Utils.{hasVarDep, hasArith}
 use Rattle.expr.specs.Hash.{structuralHash}
 use Rattle.semilinear.specs.Items.{frontNumber, frontWidth, frontSpare, frontWord, provenance, treeSpan}
 use Rattle.semilinear.specs.Items.{foldAtoms, atomCount, atomRecords, afterAtoms, isTerm}
+use Rattle.base.specs.Limits.{atomLimit, formBytes, recordLength, treeRecordLimit}
 
 -- the tree of an atom is one of width w, with a variable and without Add, Mul and Neg
 unfoldable pub atomTreeOk : ℕ → List ℕ → Bool
@@ -46,7 +47,7 @@ unfoldable pub termsOkF : ℕ → ℕ → ℕ → ℕ → List ℕ → Bool
 termsOkF zero w n next q = eqb (length q) 0
 termsOkF (suc k) w n next q =
     when (eqb (length q) 0) (λ _. true)
-    (λ _. when (isTerm q) (λ _. termOk w n next q && termsOkF k w n (frontNumber q + 1) (drop 16 q)) (λ _. false))
+    (λ _. when (isTerm q) (λ _. termOk w n next q && termsOkF k w n (frontNumber q + 1) (drop recordLength q)) (λ _. false))
 
 unfoldable pub termsOk : ℕ → ℕ → ℕ → List ℕ → Bool
 termsOk w n next q = termsOkF (length q) w n next q
@@ -54,7 +55,7 @@ termsOk w n next q = termsOkF (length q) w n next q
 -- the last record is the sum record, with a width of 1 to 64 and a constant that fits
 unfoldable pub sumOk : List ℕ → Bool
 sumOk s =
-    leb 16 (length s)
+    leb recordLength (length s)
     && (eqb (kind s) 32
     && (eqb (byte1 s) 0
     && (eqb (size s) 0
@@ -65,7 +66,7 @@ sumOk s =
 unfoldable pub frontOk : ℕ → List ℕ → Bool
 frontOk w f =
     atomsOk w f
-    && (leb (atomCount f) 256 && (leb (atomRecords f) 3072 && termsOk w (atomCount f) 0 (afterAtoms f)))
+    && (leb (atomCount f) atomLimit && (leb (atomRecords f) treeRecordLimit && termsOk w (atomCount f) 0 (afterAtoms f)))
 
 unfoldable pub isSemilinear : List ℕ → Bool
 isSemilinear s = sumOk s && frontOk (width s) (body s)
@@ -73,7 +74,7 @@ isSemilinear s = sumOk s && frontOk (width s) (body s)
 -- refusal 1 of a sheet: its length
 unfoldable pub lengthRefused : List ℕ → Bool
 lengthRefused s =
-    when (eqb (length s) 0) (λ _. true) (λ _. when (ltb 57360 (length s)) (λ _. true) (λ _. not (eqb (length s % 16) 0)))
+    when (eqb (length s) 0) (λ _. true) (λ _. when (ltb formBytes (length s)) (λ _. true) (λ _. not (eqb (length s % recordLength) 0)))
 
 -- the lowest refusal of a sheet, 0 where it is accepted
 unfoldable pub semilinearRefusal : List ℕ → ℕ

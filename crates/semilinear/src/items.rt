@@ -1,10 +1,12 @@
 // Readers of a semilinear form's bytes from the front: an atom's head and tree, and a term.
+use base::limits;
 ghost use mathlib.Core.Path.{_≡_};
 ghost use mathlib.Core.Bool.{true};
 ghost use Prim.Native.Nat.{ℕ, _+_, _*_, _^_, _<_, _≤_};
 ghost use lib.ListN.{length, drop};
 ghost use Rattle.semilinear.specs.Items.{frontKind, provenance, frontNumber, frontWidth, frontSpare, frontWord, atomLength, isAtom, treeSpan, isTerm};
 ghost use Rattle.semilinear.specs.DecodeForm.{hasTerm};
+ghost use Rattle.base.specs.Limits.{recordLength};
 
 fn wide(x: u8) -> u64
     ensures { λ r. ⌜ (r ≡ x) × (r < 256) ⌝ }
@@ -22,7 +24,7 @@ pub fn rest_from(f: &[u8], at: usize) -> &[u8]
 
 // The provenance of the atom at the front; a term has 0 there.
 pub fn provenance(r: &[u8]) -> u8
-    requires { ⌜ 16 ≤ length (now r) ⌝ }
+    requires { ⌜ recordLength ≤ length (now r) ⌝ }
     ensures { λ n. ⌜ n ≡ provenance (now (r .entry)) ⌝ }
 {
     r[1]
@@ -30,7 +32,7 @@ pub fn provenance(r: &[u8]) -> u8
 
 // Bytes 2 and 3 of the record at the front.
 pub fn front_number(r: &[u8]) -> u64
-    requires { ⌜ 16 ≤ length (now r) ⌝ }
+    requires { ⌜ recordLength ≤ length (now r) ⌝ }
     ensures { λ n. ⌜ (n ≡ frontNumber (now (r .entry))) × (n < 2 ^ 16) ⌝ }
 {
     record::read_u16(r, 2)
@@ -38,7 +40,7 @@ pub fn front_number(r: &[u8]) -> u64
 
 // The width of the record at the front.
 pub fn front_width(r: &[u8]) -> u8
-    requires { ⌜ 16 ≤ length (now r) ⌝ }
+    requires { ⌜ recordLength ≤ length (now r) ⌝ }
     ensures { λ n. ⌜ n ≡ frontWidth (now (r .entry)) ⌝ }
 {
     r[4]
@@ -46,7 +48,7 @@ pub fn front_width(r: &[u8]) -> u8
 
 // The sum of bytes 5 to 7 of the record at the front.
 pub fn front_spare(r: &[u8]) -> u64
-    requires { ⌜ 16 ≤ length (now r) ⌝ }
+    requires { ⌜ recordLength ≤ length (now r) ⌝ }
     ensures { λ n. ⌜ n ≡ frontSpare (now (r .entry)) ⌝ }
 {
     wide(r[5]) + wide(r[6]) + wide(r[7])
@@ -54,7 +56,7 @@ pub fn front_spare(r: &[u8]) -> u64
 
 // Bytes 8 to 15 of the record at the front.
 pub fn front_word(r: &[u8]) -> u64
-    requires { ⌜ 16 ≤ length (now r) ⌝ }
+    requires { ⌜ recordLength ≤ length (now r) ⌝ }
     ensures { λ n. ⌜ n ≡ frontWord (now (r .entry)) ⌝ }
 {
     record::read_u64(r, 8)
@@ -65,22 +67,22 @@ pub fn is_atom(r: &[u8]) -> bool
     ensures { λ b. ⌜ b ≡ isAtom (now (r .entry)) ⌝ }
 {
     let n = r.len() as u64;
-    if n < 16 {
+    if n < limits::RECORD_LENGTH_U64 {
         return false;
     }
     if r[0] != 33 {
         return false;
     }
-    16 + 16 * front_number(r) <= n
+    limits::RECORD_LENGTH_U64 + limits::RECORD_LENGTH_U64 * front_number(r) <= n
 }
 
 // The bytes of the atom at the front, head and tree.
 pub fn atom_length(r: &[u8]) -> usize
     requires { ⌜ isAtom (now r) ≡ true ⌝ }
-    ensures { λ n. ⌜ (n ≡ atomLength (now (r .entry))) × (16 ≤ n) × (n ≤ length (now (r .entry))) ⌝ }
+    ensures { λ n. ⌜ (n ≡ atomLength (now (r .entry))) × (recordLength ≤ n) × (n ≤ length (now (r .entry))) ⌝ }
 {
     let size = front_number(r) as usize;
-    16 + 16 * size
+    limits::RECORD_LENGTH + limits::RECORD_LENGTH * size
 }
 
 // The tree of the atom at the front.
@@ -89,14 +91,15 @@ pub fn tree_span(r: &[u8]) -> &[u8]
     ensures { λ t. ⌜ now t ≡ treeSpan (now (r .entry)) ⌝ }
 {
     let end = atom_length(r);
-    &r[16..end]
+    let start = limits::RECORD_LENGTH;
+    &r[start..end]
 }
 
 // Whether a term stands at the front.
 pub fn is_term(q: &[u8]) -> bool
     ensures { λ b. ⌜ b ≡ isTerm (now (q .entry)) ⌝ }
 {
-    if q.len() < 16 {
+    if q.len() < limits::RECORD_LENGTH {
         return false;
     }
     q[0] == 34

@@ -1,7 +1,7 @@
 // What every writer of a semilinear form hands over, and the answer of a refusal.
 ghost use mathlib.Core.Path.{_≡_};
 ghost use lib.ListN.{length};
-ghost use Rattle.semilinear.specs.Outcome.{refused};
+ghost use Rattle.base.specs.Outcome.{refused};
 ghost use Rattle.semilinear.specs.Answers.{refusedAnswer, GivesForm};
 
 // The refusal, 0 where the call is accepted; the bytes used of the result slice; the count of
@@ -29,6 +29,6 @@ pub fn refusal(number: u64) -> Answer
 pub fn refuse(out: &mut [u8], number: u64) -> Answer
     ensures { λ r. ⌜ GivesForm (refused number) (length (now (out .entry))) r (now (out .exit)) ⌝ }
 {
-    record::write::clear(out);
+    base::write::clear(out);
     refusal(number)
 }

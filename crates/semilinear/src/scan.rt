@@ -1,5 +1,6 @@
 // The validator of a semilinear form: refusals 1 and 10. Each atom's tree is walked once.
 use crate::items;
+use base::limits;
 ghost use mathlib.Core.Path.{_≡_};
 ghost use mathlib.Core.Bool.{true};
 ghost use Prim.Native.Nat.{ℕ, _^_};
@@ -28,7 +29,7 @@ fn fits_width(x: u64, w: u8) -> bool
 fn tree_ok(t: &[u8], w: u8, hash: u64) -> bool
     ensures { λ b. ⌜ b ≡ treeOk w (now (t .entry)) hash ⌝ }
 {
-    let found = expr::bitwise::check_bitwise(t, w);
+    let found = bitwise::check_bitwise(t, w);
     if !found.ok {
         return false;
     }
@@ -147,7 +148,7 @@ fn terms_ok(q: &[u8], w: u8, n: u64) -> bool
             return false;
         }
         next = items::front_number(rest) + 1;
-        at += 16;
+        at += limits::RECORD_LENGTH;
     }
     true
 }
@@ -156,7 +157,7 @@ fn terms_ok(q: &[u8], w: u8, n: u64) -> bool
 fn sum_ok(s: &[u8]) -> bool
     ensures { λ b. ⌜ b ≡ sumOk (now (s .entry)) ⌝ }
 {
-    if s.len() < 16 {
+    if s.len() < limits::RECORD_LENGTH {
         return false;
     }
     if record::kind(s) != 32 {
@@ -190,10 +191,10 @@ fn front_ok(f: &[u8], w: u8) -> bool
     }
     let found = atom_table(f);
     let n = found.count;
-    if 256 < n {
+    if limits::ATOM_LIMIT_U64 < n {
         return false;
     }
-    if 3072 < found.records {
+    if limits::TREE_RECORD_LIMIT_U64 < found.records {
         return false;
     }
     let at = found.at;
@@ -219,10 +220,10 @@ pub fn length_refused(s: &[u8]) -> bool
     if n == 0 {
         return true;
     }
-    if 57360 < n {
+    if limits::FORM_BYTES < n {
         return true;
     }
-    n % 16 != 0
+    n % limits::RECORD_LENGTH != 0
 }
 
 // The lowest refusal of s, 0 where it is accepted.

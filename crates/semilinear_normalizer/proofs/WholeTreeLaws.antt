@@ -13,31 +13,31 @@ use Rattle.arith.proofs.WidthLaws.{mod-add}
 use Rattle.record.specs.Fields.{size, width}
 use Rattle.record.specs.Tree.{Tree, sizeOf, IsBytes}
 use Rattle.record.specs.Decode.{decode}
-use Rattle.record.specs.Put.{put}
-use Rattle.record.proofs.PutLaws.{take-put}
+use Rattle.base.specs.Put.{put}
+use Rattle.base.proofs.PutLaws.{take-put}
 use Rattle.record.proofs.SizedLaws.{sized-length}
-use Rattle.expr.specs.declared.utils.Traits.{Traits}
-use Rattle.expr.specs.Refusal.{treeRefusal, exprRefusal}
-use Rattle.expr.specs.Utils.{hasConstantArith, traitsOf}
-use Rattle.expr.proofs.RefusalLaws.{accepted-root, sized-accepted}
+use Rattle.expr_utils.specs.declared.Traits.{Traits}
+use Rattle.expr_refusal.specs.Refusal.{treeRefusal, exprRefusal}
+use Rattle.expr_utils.specs.Utils.{hasConstantArith, traitsOf}
+use Rattle.expr_refusal.proofs.RefusalLaws.{accepted-root, sized-accepted}
 use Rattle.expr.proofs.AcceptLaws.{accept-expr}
 use Rattle.expr.proofs.ExprValueLaws.{accepted-tree, accepted-length}
 use Rattle.semilinear.specs.declared.outcome.Answer.{Answer}
-use Rattle.semilinear.specs.Outcome.{refused}
+use Rattle.base.specs.Outcome.{refused}
 use Rattle.semilinear.specs.Answers.{GivesForm}
-use Rattle.semilinear.proofs.PassLaws.{gives-same}
-use Rattle.semilinear_normalizer.specs.declared.side.Spot.{Spot}
-use Rattle.semilinear_normalizer.specs.declared.collect.Descent.{Descent}
-use Rattle.semilinear_normalizer.specs.Collect.{Collected, nonlinear, linear, joinCollected, collectTerms}
-use Rattle.semilinear_normalizer.specs.Marks.{marksOf, Marked}
-use Rattle.semilinear_normalizer.specs.Spots.{spanOf, spotsIn, collectedIn, SpotsOk, Collects, Ready}
-use Rattle.semilinear_normalizer.specs.Sides.{treeAt, AtSpot}
-use Rattle.semilinear_normalizer.specs.Normalize.{collectedOutcome, normalizeTree, normalizeToSemilinear}
-use Rattle.semilinear_normalizer.proofs.EmittedLaws.{GoodCollected, collect-good}
-use Rattle.semilinear_normalizer.proofs.NormalizeLaws.{tree-collected, tree-seven, file-tree}
-use Rattle.semilinear_normalizer.proofs.MarksLaws.{length-marks}
-use Rattle.semilinear_normalizer.proofs.SpanOfLaws.{size-sized}
-use Rattle.semilinear_normalizer.proofs.SpotsLaws.{collected-linear, collected-nonlinear}
+use Rattle.atom_table.proofs.PassLaws.{gives-same}
+use Rattle.descent.specs.declared.side.Spot.{Spot}
+use Rattle.descent.specs.declared.collect.Descent.{Descent}
+use Rattle.normalizer_laws.specs.Collect.{Collected, nonlinear, linear, joinCollected, collectTerms}
+use Rattle.descent.specs.Marks.{marksOf, Marked}
+use Rattle.descent.specs.Spots.{spanOf, spotsIn, collectedIn, SpotsOk, Collects, Ready}
+use Rattle.descent.specs.Sides.{treeAt, AtSpot}
+use Rattle.normalizer_laws.specs.Normalize.{collectedOutcome, normalizeTree, normalizeToSemilinear}
+use Rattle.normalizer_laws.proofs.EmittedLaws.{GoodCollected, collect-good}
+use Rattle.normalizer_laws.proofs.NormalizeLaws.{tree-collected, tree-seven, file-tree}
+use Rattle.descent.proofs.MarksLaws.{length-marks}
+use Rattle.descent.proofs.SpanOfLaws.{size-sized}
+use Rattle.descent.proofs.SpotsLaws.{collected-linear, collected-nonlinear}
 
 -- refusal 7 as the walk over the marks finds it
 pub refused-is : {t : Tree} {at : ℕ} {before after : List ℕ} {r : Traits} → Marked t at before after r

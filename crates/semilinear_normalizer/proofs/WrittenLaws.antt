@@ -6,17 +6,17 @@ use mathlib.Core.List.{List, []}
 use mathlib.Core.Bool.{false}
 use lib.ListN.{length}
 use Rattle.semilinear.specs.declared.outcome.Answer.{Answer}
-use Rattle.semilinear.specs.declared.table.Table.{Table}
+use Rattle.atom_table.specs.declared.table.Table.{Table}
 use Rattle.semilinear.specs.Form.{Row}
 use Rattle.semilinear.specs.Answers.{GivesForm}
-use Rattle.semilinear.specs.Table.{Placed}
-use Rattle.semilinear.specs.Terms.{coeffsOf, coeffsIn, Ends, Finished}
-use Rattle.semilinear.proofs.TermsLaws.{coeffs-append}
-use Rattle.semilinear_normalizer.specs.Collect.{Emitted, linear}
-use Rattle.semilinear_normalizer.specs.Register.{registerAll}
-use Rattle.semilinear_normalizer.specs.Index.{rowAt, rowsIn, Registers}
-use Rattle.semilinear_normalizer.specs.Normalize.{collectedForm, collectedOutcome}
-use Rattle.semilinear_normalizer.proofs.IndexLaws.{length-rows-in}
+use Rattle.atom_table.specs.Table.{Placed}
+use Rattle.atom_table.specs.Terms.{coeffsOf, coeffsIn, Ends, Finished}
+use Rattle.atom_table.proofs.TermsLaws.{coeffs-append}
+use Rattle.normalizer_laws.specs.Collect.{Emitted, linear}
+use Rattle.normalizer_laws.specs.Register.{registerAll}
+use Rattle.register.specs.Index.{rowAt, rowsIn, Registers}
+use Rattle.normalizer_laws.specs.Normalize.{collectedForm, collectedOutcome}
+use Rattle.register.proofs.IndexLaws.{length-rows-in}
 
 -- the index has the coefficients of its rows, eleven words apart
 coeffs-rows-in : (index out : List ℕ) (n : ℕ) → coeffsOf (rowsIn index out n) ≡ coeffsIn 11 index n

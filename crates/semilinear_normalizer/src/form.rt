@@ -1,17 +1,17 @@
 // The form of what was collected: the atom table, its terms, and the sum record.
-use crate::collect::Descent;
-use crate::index;
-use crate::register;
+use atom_table::pass;
+use descent::collect::Descent;
+use register::index;
 use semilinear::outcome::Answer;
-use semilinear::pass;
 ghost use mathlib.Core.Path.{_≡_};
 ghost use Prim.Native.Nat.{_+_, _*_, _<_, _≤_, min};
 ghost use lib.ListN.{length};
 ghost use Rattle.semilinear.specs.Answers.{GivesForm};
-ghost use Rattle.semilinear_normalizer.specs.Collect.{linear};
-ghost use Rattle.semilinear_normalizer.specs.Spots.{SpotsOk, spotsIn};
-ghost use Rattle.semilinear_normalizer.specs.Index.{rowsIn};
-ghost use Rattle.semilinear_normalizer.specs.Normalize.{collectedOutcome};
+ghost use Rattle.normalizer_laws.specs.Collect.{linear};
+ghost use Rattle.descent.specs.Spots.{SpotsOk, spotsIn};
+ghost use Rattle.register.specs.Index.{entryWords, rowsIn};
+ghost use Rattle.normalizer_laws.specs.Normalize.{collectedOutcome};
+ghost use Rattle.base.specs.Limits.{atomLimit, formBytes};
 
 // The form of a descent that was linear, written to a slice of 57,360 bytes; or 9. The descent's
 // atoms stand in `spots`; `tree` and `index` are room to work in.
@@ -27,12 +27,12 @@ pub fn write_form(
     requires { ⌜ SpotsOk w (now file) (now spots) (found .count)
         × (5 * found .count ≤ length (now spots))
         × (length (now file) + 32 ≤ length (now tree)) × (length (now file) ≤ 1048000)
-        × (min 2816 (11 * found .count) ≤ length (now index)) × (length (now out) ≡ 57360) ⌝ }
+        × (min (entryWords * atomLimit) (entryWords * found .count) ≤ length (now index)) × (length (now out) ≡ formBytes) ⌝ }
     ensures { λ r. ⌜ GivesForm (collectedOutcome w (linear (found .constant)
         (spotsIn (now (file .entry)) (now (spots .entry)) (found .count))))
-        57360 r (now (out .exit)) ⌝ }
+        formBytes r (now (out .exit)) ⌝ }
 {
-    record::write::clear(out);
+    base::write::clear(out);
     let table = register::register_all(found.count, spots, file, w, tree, index, out);
     pass::finish(
         table,

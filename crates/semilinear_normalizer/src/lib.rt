@@ -1,24 +1,45 @@
 // Normalising an expression to its semilinear form: the descent collects a constant and weighted
 // atoms, and the atoms make the table.
-pub mod collect;
 pub mod form;
-pub mod index;
-pub mod marks;
-pub mod register;
-pub mod side;
 
-use crate::collect::Descent;
-use crate::side::Spot;
+use base::limits;
+use descent::collect;
+use descent::collect::Descent;
+use descent::marks;
+use descent::side::Spot;
+use register::index;
+use semilinear::outcome;
 use semilinear::outcome::Answer;
-use semilinear::outcome::{self};
 ghost use mathlib.Core.Path.{_≡_};
 ghost use Prim.Native.Nat.{_+_, _*_, _≤_, min};
 ghost use lib.ListN.{length};
 ghost use Rattle.record.specs.Fields.{size};
 ghost use Rattle.record.specs.Decode.{decode};
-ghost use Rattle.expr.specs.Refusal.{treeRefusal};
+ghost use Rattle.expr_refusal.specs.Refusal.{treeRefusal};
 ghost use Rattle.semilinear.specs.Answers.{GivesForm};
-ghost use Rattle.semilinear_normalizer.specs.Normalize.{normalizeTree, normalizeToSemilinear};
+ghost use Rattle.normalizer_laws.specs.Normalize.{normalizeTree, normalizeToSemilinear};
+ghost use Rattle.base.specs.Limits.{atomLimit, exprBytes, formBytes, recordLength};
+ghost use Rattle.register.specs.Index.{entryWords};
+
+// A file of at most so many records is worked on in short arrays.
+const SHORT_RECORDS: usize = 64;
+
+const SHORT_BYTES: usize = SHORT_RECORDS * limits::RECORD_LENGTH;
+
+// The words of what is collected, for a short and for a long file.
+const SHORT_SPOTS: usize = collect::SPOT_WORDS * SHORT_RECORDS;
+
+const LONG_SPOTS: usize = collect::SPOT_WORDS * limits::EXPR_RECORDS;
+
+// The bytes of a tree: those of a subtree, a literal and an And.
+const SHORT_TREE: usize = (SHORT_RECORDS + 2) * limits::RECORD_LENGTH;
+
+const LONG_TREE: usize = (limits::EXPR_RECORDS + 2) * limits::RECORD_LENGTH;
+
+// The words of the index.
+const SHORT_INDEX: usize = index::ENTRY_WORDS * SHORT_RECORDS;
+
+const LONG_INDEX: usize = index::ENTRY_WORDS * limits::ATOM_LIMIT;
 
 // The form of the accepted expression t, written to a slice of 57,360 bytes; or 7, 8 or 9. All
 // room to work in is lent: a mark and five words for each record, a tree's bytes, and eleven words
@@ -34,9 +55,9 @@ pub fn normalize_tree(
 ) -> Answer
     requires { ⌜ (treeRefusal w (now t) ≡ 0) × (size (now t) ≤ length (now marks))
         × (5 * size (now t) ≤ length (now spots)) × (length (now t) + 32 ≤ length (now tree))
-        × (length (now t) ≤ 1048000) × (min 2816 (11 * size (now t)) ≤ length (now index))
-        × (length (now out) ≡ 57360) ⌝ }
-    ensures { λ r. ⌜ GivesForm (normalizeTree w (decode (now (t .entry)))) 57360 r
+        × (length (now t) ≤ 1048000) × (min (entryWords * atomLimit) (entryWords * size (now t)) ≤ length (now index))
+        × (length (now out) ≡ formBytes) ⌝ }
+    ensures { λ r. ⌜ GivesForm (normalizeTree w (decode (now (t .entry)))) formBytes r
         (now (out .exit)) ⌝ }
 {
     let traits = marks::mark_traits(t, marks, 0);
@@ -59,29 +80,29 @@ pub fn normalize_tree(
 // The same for a file of at most 64 records. A short file pays for short arrays: clearing the long
 // ones would add about as much again.
 fn normalize_short(t: &[u8], w: u8, out: &mut [u8]) -> Answer
-    requires { ⌜ (treeRefusal w (now t) ≡ 0) × (length (now t) ≤ 1024)
-        × (length (now out) ≡ 57360) ⌝ }
-    ensures { λ r. ⌜ GivesForm (normalizeTree w (decode (now (t .entry)))) 57360 r
+    requires { ⌜ (treeRefusal w (now t) ≡ 0) × (length (now t) ≤ 64 * recordLength)
+        × (length (now out) ≡ formBytes) ⌝ }
+    ensures { λ r. ⌜ GivesForm (normalizeTree w (decode (now (t .entry)))) formBytes r
         (now (out .exit)) ⌝ }
 {
-    let mut marks = [0u8; 64];
-    let mut spots = [0u64; 320];
-    let mut tree = [0u8; 1056];
-    let mut index = [0u64; 704];
+    let mut marks = [0u8; SHORT_RECORDS];
+    let mut spots = [0u64; SHORT_SPOTS];
+    let mut tree = [0u8; SHORT_TREE];
+    let mut index = [0u64; SHORT_INDEX];
     normalize_tree(t, w, &mut marks, &mut spots, &mut tree, &mut index, out)
 }
 
 // The same for a file of at most 1,024 records.
 fn normalize_long(t: &[u8], w: u8, out: &mut [u8]) -> Answer
-    requires { ⌜ (treeRefusal w (now t) ≡ 0) × (length (now t) ≤ 16384)
-        × (length (now out) ≡ 57360) ⌝ }
-    ensures { λ r. ⌜ GivesForm (normalizeTree w (decode (now (t .entry)))) 57360 r
+    requires { ⌜ (treeRefusal w (now t) ≡ 0) × (length (now t) ≤ exprBytes)
+        × (length (now out) ≡ formBytes) ⌝ }
+    ensures { λ r. ⌜ GivesForm (normalizeTree w (decode (now (t .entry)))) formBytes r
         (now (out .exit)) ⌝ }
 {
-    let mut marks = [0u8; 1024];
-    let mut spots = [0u64; 5120];
-    let mut tree = [0u8; 16416];
-    let mut index = [0u64; 2816];
+    let mut marks = [0u8; limits::EXPR_RECORDS];
+    let mut spots = [0u64; LONG_SPOTS];
+    let mut tree = [0u8; LONG_TREE];
+    let mut index = [0u64; LONG_INDEX];
     normalize_tree(t, w, &mut marks, &mut spots, &mut tree, &mut index, out)
 }
 
@@ -91,18 +112,18 @@ pub fn normalize_to_semilinear(t: &[u8], out: &mut [u8]) -> Answer
     ensures { λ r. ⌜ GivesForm (normalizeToSemilinear (now (t .entry)) (length (now (out .entry))))
         (length (now (out .entry))) r (now (out .exit)) ⌝ }
 {
-    let number = expr::refusal::expr_refusal(t);
+    let number = expr_refusal::expr_refusal(t);
     if number == 1 {
         return outcome::refuse(out, 1);
     }
-    if out.len() != 57360 {
+    if out.len() != limits::FORM_BYTES {
         return outcome::refuse(out, 2);
     }
     if number != 0 {
         return outcome::refuse(out, number);
     }
     let w = record::width(t);
-    if t.len() <= 1024 {
+    if t.len() <= SHORT_BYTES {
         return normalize_short(t, w, out);
     }
     normalize_long(t, w, out)

@@ -6,24 +6,25 @@ use native.Mathlib.Omega.{arith}
 use mathlib.Core.List.{List, [], _∷_}
 use mathlib.Core.Bool.{true, false}
 use lib.ListN.{length, getD, drop}
-use Rattle.record.specs.Put.{padded}
+use Rattle.base.specs.Put.{padded}
 use Rattle.record.specs.Tree.{Tree}
-use Rattle.record.proofs.SizedLaws.{false-true}
+use Rattle.base.proofs.BoolLaws.{false-true}
 use Rattle.semilinear.specs.Form.{Row, Form, fitsTable}
 use Rattle.semilinear.specs.Items.{atomCount, afterAtoms}
 use Rattle.semilinear.specs.DecodeForm.{rowsOf}
 use Rattle.group.specs.declared.Group.{Group}
-use Rattle.group.specs.Group.{emptyGroup, anyBasis, basesOf, groupOf, ungrouped, settle}
-use Rattle.group.specs.Made.{tableOf, Room}
-use Rattle.group.specs.Shown.{Shown}
-use Rattle.group.specs.Views.{onlyOf, Views, ViewsRead}
+use Rattle.group.specs.Group.{emptyGroup, groupOf, settle}
+use Rattle.views.specs.Grouping.{anyBasis, basesOf, ungrouped}
+use Rattle.made.specs.Made.{tableOf, Room}
+use Rattle.made.specs.Shown.{Shown}
+use Rattle.views.specs.Views.{onlyOf, Views, ViewsRead}
 use Rattle.group.proofs.PassLaws.{read-wide, read-shown}
 use Rattle.group.proofs.ShownLaws.{settle-fits}
-use Rattle.group.proofs.SplitLaws.{only-any}
-use Rattle.structure_recovery.specs.RecoverStructure.{Recovery, recoverAll}
-use Rattle.structure_recovery.specs.Recovering.{recovery, settledForm, ShowsForm, GroupRecovered, oneRecovered}
-use Rattle.structure_recovery.specs.Recovering.{AllFair, AllRecovered, RowsRecovered}
-use Rattle.structure_recovery.proofs.RecoveredLaws.{past-group}
+use Rattle.views.proofs.SplitLaws.{only-any}
+use Rattle.structure_laws.specs.RecoverStructure.{Recovery, recoverAll}
+use Rattle.recover_pair.specs.Recovering.{recovery, settledForm, ShowsForm, GroupRecovered, oneRecovered}
+use Rattle.recover_pair.specs.Recovering.{AllFair, AllRecovered, RowsRecovered}
+use Rattle.recover_pair.proofs.RecoveredLaws.{past-group}
 
 settled-constant : (w : ℕ) {k : ℕ} (x : Recovery) → k ≡ settledForm w x .constant → k ≡ x .constant
 unfolding settledForm

@@ -7,24 +7,24 @@ use mathlib.Core.List.{List}
 use mathlib.Core.Bool.{true, false}
 use lib.ListN.{length, getD}
 use Rattle.record.specs.Tree.{Tree}
-use Rattle.record.proofs.SizedLaws.{false-true}
-use Rattle.record.proofs.LoopLaws.{first-from}
+use Rattle.base.proofs.BoolLaws.{false-true}
+use Rattle.base.proofs.LoopLaws.{first-from}
 use Rattle.semilinear.specs.Form.{Row}
 use Rattle.group.specs.declared.Group.{Group}
-use Rattle.group.specs.Made.{tableOf, Room}
-use Rattle.group.specs.declared.views.View.{View}
+use Rattle.made.specs.Made.{tableOf, Room}
+use Rattle.views.specs.declared.View.{View}
 use Rattle.group.specs.Gathered.{addWord, settleWords}
-use Rattle.group.specs.Lone.{loneGroup}
-use Rattle.group.specs.Shown.{Shown}
+use Rattle.lone.specs.Lone.{loneGroup}
+use Rattle.made.specs.Shown.{Shown}
 use Rattle.group.proofs.SettleWordsLaws.{length-settle}
 use Rattle.group.proofs.ShownLaws.{settle-fits, shown-settle}
-use Rattle.group.proofs.LoneLaws.{lone-len, settle-lone}
-use Rattle.structure_recovery.specs.RecoverStructure.{Recovery, recoverGroup}
-use Rattle.structure_recovery.specs.Recovering.{partnerFits, NoPartner, Stands, Recovers, Recovered}
-use Rattle.structure_recovery.specs.Recovering.{recovery, FairRecovery}
-use Rattle.structure_recovery.specs.Recovering.{settledForm, ShowsForm, GroupRecovered}
-use Rattle.structure_recovery.proofs.PairingLaws.{group-alone}
-use Rattle.structure_recovery.proofs.RecoveredLaws.{recovers-of}
+use Rattle.lone.proofs.LoneLaws.{lone-len, settle-lone}
+use Rattle.structure_laws.specs.RecoverStructure.{Recovery, recoverGroup}
+use Rattle.recover_pair.specs.Recovering.{partnerFits, NoPartner, Stands, Recovers, Recovered}
+use Rattle.recover_pair.specs.Recovering.{recovery, FairRecovery}
+use Rattle.recover_pair.specs.Recovering.{settledForm, ShowsForm, GroupRecovered}
+use Rattle.recover_pair.proofs.PairingLaws.{group-alone}
+use Rattle.recover_pair.proofs.RecoveredLaws.{recovers-of}
 
 -- ---- the group
 

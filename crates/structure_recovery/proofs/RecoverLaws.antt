@@ -11,26 +11,27 @@ use borrow.Author.Tests.{leb-true}
 use Rattle.arith.specs.Congruence.{Eqm}
 use Rattle.arith.proofs.CongruenceLaws.{eqm-of-eq, eqm-refl, eqm-trans, eqm-add}
 use Rattle.record.specs.Tree.{Tree}
-use Rattle.record.proofs.SizedLaws.{and-true}
+use Rattle.base.proofs.BoolLaws.{and-true}
 use Rattle.expr.specs.Hash.{structuralHash}
 use Rattle.group.specs.declared.Group.{Group}
 use Rattle.semilinear.specs.Form.{Row, Form, sumRows, formValue, rowsOk, treeRecords, fitsTable, validForm}
-use Rattle.group.specs.Group.{at, emptyGroup, anyBasis, basesOf, groupOf, ungrouped, settle}
+use Rattle.group.specs.Group.{at, emptyGroup, groupOf, settle}
+use Rattle.views.specs.Grouping.{anyBasis, basesOf, ungrouped}
 use Rattle.semilinear.proofs.FormLaws.{form-parts, parts-form}
 use Rattle.semilinear.proofs.AtomLaws.{Atom}
-use Rattle.group.proofs.CoeffsLaws.{fits-length}
+use Rattle.made.proofs.CoeffsLaws.{fits-length}
 use Rattle.group.proofs.SettleLaws.{settled}
-use Rattle.group.proofs.BasesLaws.{risingFrom, risen}
-use Rattle.group.proofs.GroupsLaws.{basisSum, basesSum, termValue, groups-value, bases-rising}
+use Rattle.views.proofs.BasesLaws.{risingFrom, risen}
+use Rattle.views.proofs.GroupsLaws.{basisSum, basesSum, termValue, groups-value, bases-rising}
 use Rattle.group.proofs.GroupOfLaws.{group-of}
 use Rattle.group.proofs.WorkLaws.{Extends, extends-trans}
 use Rattle.group.proofs.ExtendsLaws.{ungrouped-extends}
 use Rattle.group.proofs.FitsLaws.{fits-fresh}
-use Rattle.structure_recovery.specs.RecoverStructure.{Recovery, recoverAll, recoverForm}
-use Rattle.structure_recovery.specs.Recovering.{FairRecovery, settledForm, oneRecovered, AllFair}
-use Rattle.structure_recovery.proofs.HeldLaws.{notRewritten, KeptRecovery, owedSum, kept-start}
-use Rattle.structure_recovery.proofs.RecoverGroupLaws.{recover-group-keeps}
-use Rattle.structure_recovery.proofs.FreshLaws.{owed-total}
+use Rattle.structure_laws.specs.RecoverStructure.{Recovery, recoverAll, recoverForm}
+use Rattle.recover_pair.specs.Recovering.{FairRecovery, settledForm, oneRecovered, AllFair}
+use Rattle.structure_laws.proofs.HeldLaws.{notRewritten, KeptRecovery, owedSum, kept-start}
+use Rattle.structure_laws.proofs.RecoverGroupLaws.{recover-group-keeps}
+use Rattle.structure_laws.proofs.FreshLaws.{owed-total}
 
 -- ---- a group and all groups
 

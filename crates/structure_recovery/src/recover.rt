@@ -1,21 +1,19 @@
 // Recovering the structure of a semilinear form: the groups in turn.
-use crate::pair;
+use atom_table::pass;
+use atom_table::read;
+use base::limits;
 use group::Group;
-use group::bases;
-use group::lone;
-use group::made;
 use group::settle;
-use group::views;
+use recover_pair::pair;
+use semilinear::outcome;
 use semilinear::outcome::Answer;
-use semilinear::outcome::{self};
-use semilinear::pass;
-use semilinear::read;
+use views::bases;
 ghost use mathlib.Core.Path.{_≡_};
 ghost use mathlib.Core.Bool.{true, false};
 ghost use mathlib.Core.List.{[]};
 ghost use Prim.Native.Nat.{ℕ, _+_, _*_, _^_, _<_, _≤_};
 ghost use lib.ListN.{length, getD};
-ghost use Rattle.record.specs.Put.{padded};
+ghost use Rattle.base.specs.Put.{padded};
 ghost use Rattle.record.specs.Decode.{decode};
 ghost use Rattle.semilinear.specs.Items.{atomCount, afterAtoms};
 ghost use Rattle.semilinear.specs.Valid.{atomsOk, isSemilinear};
@@ -23,13 +21,14 @@ ghost use Rattle.semilinear.specs.DecodeForm.{rowsOf, readForm};
 ghost use Rattle.semilinear.specs.Answers.{GivesForm};
 ghost use Rattle.semilinear.specs.PassOutcome.{limitOutcome};
 ghost use Rattle.semilinear.specs.Scan.{AtomsEnd};
-ghost use Rattle.group.specs.Made.{Room, Basis};
-ghost use Rattle.group.specs.Group.{anyBasis, basesOf};
-ghost use Rattle.group.specs.Views.{viewAt, basisBytes, InGroup, Views, Readable};
-ghost use Rattle.group.specs.Bases.{firstRows, FirstAre};
+ghost use Rattle.made.specs.Made.{Room, Basis};
+ghost use Rattle.views.specs.Grouping.{anyBasis, basesOf};
+ghost use Rattle.views.specs.Views.{viewAt, basisBytes, InGroup, Views, Readable};
+ghost use Rattle.views.specs.Bases.{firstRows, FirstAre};
 ghost use Rattle.group.specs.Gathered.{gathered};
-ghost use Rattle.structure_recovery.specs.RecoverStructure.{recoverForm, recoverStructure};
-ghost use Rattle.structure_recovery.specs.Recovering.{GroupRecovered, AllRecovered, RowsRecovered};
+ghost use Rattle.structure_laws.specs.RecoverStructure.{recoverForm, recoverStructure};
+ghost use Rattle.recover_pair.specs.Recovering.{GroupRecovered, AllRecovered, RowsRecovered};
+ghost use Rattle.base.specs.Limits.{atomLimit, formBytes, shortAtoms};
 
 // One group: the rows, of n, that have the basis b with this hash are gathered, the pairs of entries
 // with complement masks are recovered, and what is left is added to the rows. Where no entry has a
@@ -45,9 +44,9 @@ fn recover_group(
     coeffs: &mut [u64],
     out: &mut [u8],
 )
-    requires { ⌜ Room (now made) (now out) × Readable (now f) (now views) n × (n ≤ 256)
-        × Basis w hash (now b) × (getD (now made) 4 0 + 256 < 2 ^ 64) × (w ≤ 64) ⌝ }
-    ensures { λ _. ⌜ GroupRecovered w 256 (decode (now (b .entry)))
+    requires { ⌜ Room (now made) (now out) × Readable (now f) (now views) n × (n ≤ atomLimit)
+        × Basis w hash (now b) × (getD (now made) 4 0 + atomLimit < 2 ^ 64) × (w ≤ 64) ⌝ }
+    ensures { λ _. ⌜ GroupRecovered w atomLimit (decode (now (b .entry)))
         (gathered (now (f .entry)) (now (views .entry)) hash (now (b .entry)) n)
         (now (made .entry)) (now (out .entry)) (now (coeffs .entry))
         (now (made .exit)) (now (out .exit)) (now (coeffs .exit)) ⌝ }
@@ -75,10 +74,10 @@ fn recover_at(
     coeffs: &mut [u64],
     out: &mut [u8],
 )
-    requires { ⌜ Room (now made) (now out) × Readable (now f) (now views) n × (first < n) × (n ≤ 256)
+    requires { ⌜ Room (now made) (now out) × Readable (now f) (now views) n × (first < n) × (n ≤ atomLimit)
         × InGroup w (now f) (viewAt (now views) first)
-        × (getD (now made) 4 0 + 256 < 2 ^ 64) × (w ≤ 64) ⌝ }
-    ensures { λ _. ⌜ GroupRecovered w 256
+        × (getD (now made) 4 0 + atomLimit < 2 ^ 64) × (w ≤ 64) ⌝ }
+    ensures { λ _. ⌜ GroupRecovered w atomLimit
         (decode (basisBytes (now (f .entry)) (viewAt (now (views .entry)) first)))
         (gathered (now (f .entry)) (now (views .entry)) (viewAt (now (views .entry)) first .hash)
         (basisBytes (now (f .entry)) (viewAt (now (views .entry)) first)) n)
@@ -109,7 +108,7 @@ fn recover_all(
     coeffs: &mut [u64],
     out: &mut [u8],
 )
-    requires { ⌜ Room (now made) (now out) × (getD (now made) 4 0 ≤ 256) × (w ≤ 64) × (n ≤ 256)
+    requires { ⌜ Room (now made) (now out) × (getD (now made) 4 0 ≤ atomLimit) × (w ≤ 64) × (n ≤ atomLimit)
         × (n ≡ length (rowsOf 0 (now f) (afterAtoms (now f))))
         × Views anyBasis w (now f) (now views) (rowsOf 0 (now f) (afterAtoms (now f)))
         × FirstAre (firstRows (now f) (now views) n) (now bases) (now bases) count ⌝ }
@@ -142,8 +141,8 @@ fn recover_rows(
 )
     requires { ⌜ (w ≤ 64) × (atomsOk w (now f) ≡ true) × AtomsEnd (now f) terms
         × (5 * atomCount (now f) ≤ length (now views)) × (atomCount (now f) ≤ length (now bases))
-        × (atomCount (now f) ≤ 256) × (now coeffs ≡ padded 256 [])
-        × Room (now made) (now out) × (getD (now made) 4 0 ≤ 256) ⌝ }
+        × (atomCount (now f) ≤ atomLimit) × (now coeffs ≡ padded atomLimit [])
+        × Room (now made) (now out) × (getD (now made) 4 0 ≤ atomLimit) ⌝ }
     ensures { λ _. ⌜ RowsRecovered w (rowsOf 0 (now (f .entry)) (afterAtoms (now (f .entry))))
         (now (made .entry)) (now (out .entry)) (now (made .exit)) (now (out .exit)) (now (coeffs .exit)) ⌝ }
 {
@@ -162,26 +161,26 @@ fn recover_short(
     out: &mut [u8],
 )
     requires { ⌜ (w ≤ 64) × (atomsOk w (now f) ≡ true) × AtomsEnd (now f) terms
-        × (atomCount (now f) ≤ 16) × (now coeffs ≡ padded 256 [])
-        × Room (now made) (now out) × (getD (now made) 4 0 ≤ 256) ⌝ }
+        × (atomCount (now f) ≤ shortAtoms) × (now coeffs ≡ padded atomLimit [])
+        × Room (now made) (now out) × (getD (now made) 4 0 ≤ atomLimit) ⌝ }
     ensures { λ _. ⌜ RowsRecovered w (rowsOf 0 (now (f .entry)) (afterAtoms (now (f .entry))))
         (now (made .entry)) (now (out .entry)) (now (made .exit)) (now (out .exit)) (now (coeffs .exit)) ⌝ }
 {
-    let mut views = [0u64; 80];
-    let mut bases = [0u64; 16];
+    let mut views = [0u64; views::SHORT_VIEWS];
+    let mut bases = [0u64; limits::SHORT_ATOMS];
     recover_rows(f, terms, w, &mut views, &mut bases, made, coeffs, out);
 }
 
 // The same for at most 256 atoms.
 fn recover_long(f: &[u8], terms: usize, w: u8, made: &mut [u64], coeffs: &mut [u64], out: &mut [u8])
     requires { ⌜ (w ≤ 64) × (atomsOk w (now f) ≡ true) × AtomsEnd (now f) terms
-        × (atomCount (now f) ≤ 256) × (now coeffs ≡ padded 256 [])
-        × Room (now made) (now out) × (getD (now made) 4 0 ≤ 256) ⌝ }
+        × (atomCount (now f) ≤ atomLimit) × (now coeffs ≡ padded atomLimit [])
+        × Room (now made) (now out) × (getD (now made) 4 0 ≤ atomLimit) ⌝ }
     ensures { λ _. ⌜ RowsRecovered w (rowsOf 0 (now (f .entry)) (afterAtoms (now (f .entry))))
         (now (made .entry)) (now (out .entry)) (now (made .exit)) (now (out .exit)) (now (coeffs .exit)) ⌝ }
 {
-    let mut views = [0u64; 1280];
-    let mut bases = [0u64; 256];
+    let mut views = [0u64; views::LONG_VIEWS];
+    let mut bases = [0u64; limits::ATOM_LIMIT];
     recover_rows(f, terms, w, &mut views, &mut bases, made, coeffs, out);
 }
 
@@ -196,12 +195,12 @@ fn recover_table(
     out: &mut [u8],
 )
     requires { ⌜ (w ≤ 64) × (atomsOk w (now f) ≡ true) × AtomsEnd (now f) terms
-        × (atomCount (now f) ≡ count) × (count ≤ 256) × (now coeffs ≡ padded 256 [])
-        × Room (now made) (now out) × (getD (now made) 4 0 ≤ 256) ⌝ }
+        × (atomCount (now f) ≡ count) × (count ≤ atomLimit) × (now coeffs ≡ padded atomLimit [])
+        × Room (now made) (now out) × (getD (now made) 4 0 ≤ atomLimit) ⌝ }
     ensures { λ _. ⌜ RowsRecovered w (rowsOf 0 (now (f .entry)) (afterAtoms (now (f .entry))))
         (now (made .entry)) (now (out .entry)) (now (made .exit)) (now (out .exit)) (now (coeffs .exit)) ⌝ }
 {
-    if count <= 16 {
+    if count <= limits::SHORT_ATOMS_U64 {
         recover_short(f, terms, w, made, coeffs, out);
         return;
     }
@@ -210,8 +209,8 @@ fn recover_table(
 
 // Recovers the structure of a form into a slice of 57,360 bytes, which is all zeros.
 fn recover_form(s: &[u8], out: &mut [u8]) -> Answer
-    requires { ⌜ (isSemilinear (now s) ≡ true) × (now out ≡ padded 57360 []) ⌝ }
-    ensures { λ r. ⌜ GivesForm (limitOutcome (recoverForm (readForm (now (s .entry)))) false) 57360 r (now (out .exit)) ⌝ }
+    requires { ⌜ (isSemilinear (now s) ≡ true) × (now out ≡ padded formBytes []) ⌝ }
+    ensures { λ r. ⌜ GivesForm (limitOutcome (recoverForm (readForm (now (s .entry)))) false) formBytes r (now (out .exit)) ⌝ }
 {
     let w = record::width(s);
     let constant = record::literal(s);
@@ -219,7 +218,7 @@ fn recover_form(s: &[u8], out: &mut [u8]) -> Answer
     let terms = tab.at;
     let count = tab.count;
     let mut made = [terms as u64, count, tab.records, 0, count, constant];
-    let mut coeffs = [0u64; 256];
+    let mut coeffs = [0u64; limits::ATOM_LIMIT];
     recover_table(
         record::body(s),
         terms,

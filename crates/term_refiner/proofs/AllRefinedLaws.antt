@@ -8,9 +8,10 @@ use lib.ListN.{length, getD, drop}
 use Rattle.record.specs.Tree.{Tree}
 use Rattle.semilinear.specs.Form.{Row}
 use Rattle.group.specs.declared.Group.{Group}
-use Rattle.group.specs.Group.{emptyGroup, anyBasis, groupOf}
-use Rattle.group.specs.Made.{Room}
-use Rattle.group.specs.Shown.{Shown}
+use Rattle.group.specs.Group.{emptyGroup, groupOf}
+use Rattle.views.specs.Grouping.{anyBasis}
+use Rattle.made.specs.Made.{Room}
+use Rattle.made.specs.Shown.{Shown}
 use Rattle.term_refiner.specs.RefineTerms.{refineAll}
 use Rattle.term_refiner.specs.Refining.{settledRows, GroupRefined, oneRefined, AllFair, AllRefined}
 

@@ -18,11 +18,12 @@ use Rattle.record.specs.Tree.{Tree}
 use Rattle.expr.specs.Value.{value}
 use Rattle.group.specs.declared.Group.{Group}
 use Rattle.semilinear.specs.Form.{Row, isAtomTree}
-use Rattle.group.specs.Group.{Entry, at, isLive, consumed, Work, createMasked}
+use Rattle.group.specs.Group.{Entry, at, isLive, consumed, Work}
+use Rattle.made.specs.Rows.{createMasked}
 use Rattle.group.proofs.TotalLaws.{worth, worth-live, worth-consumed, live-mark}
 use Rattle.group.proofs.CollapseLaws.{Collapsible, found-collapsible}
 use Rattle.group.proofs.WorkLaws.{grown-trans, length-masked}
-use Rattle.record.proofs.LoopLaws.{when-both}
+use Rattle.base.proofs.LoopLaws.{when-both}
 use Rattle.group.specs.Steps.{remasked}
 use Rattle.group.specs.Collapse.{findFirst}
 use Rattle.group.specs.Collapse.{collapseAt, threeTermCollapse}

@@ -15,14 +15,14 @@ use Rattle.arith.specs.Effective.{canChangeCoefficientTo}
 use Rattle.arith.proofs.CongruenceLaws.{eqm-of-eq, eqm-refl}
 use Rattle.arith.proofs.EffectiveLaws.{coefficient-sound}
 use Rattle.record.specs.Tree.{Tree}
-use Rattle.record.proofs.SizedLaws.{false-true, and-true}
+use Rattle.base.proofs.BoolLaws.{false-true, and-true}
 use Rattle.expr.specs.Value.{value}
 use Rattle.group.specs.declared.Group.{Group}
 use Rattle.semilinear.specs.Form.{Row, isAtomTree}
-use Rattle.record.specs.Loop.{forIn, firstIn}
+use Rattle.base.specs.Loop.{forIn, firstIn}
 use Rattle.group.specs.Group.{Entry, at, isLive, Work}
-use Rattle.record.proofs.LoopLaws.{first-true, for-keeps}
-use Rattle.record.proofs.LoopLaws.{when-both}
+use Rattle.base.proofs.LoopLaws.{first-true, for-keeps}
+use Rattle.base.proofs.LoopLaws.{when-both}
 use Rattle.group.specs.Steps.{joinAt, slotFits, placeAt, placeBucket, bucketKeys, placeBuckets, bucketMerge}
 use Rattle.group.specs.Steps.{pairAt, pairMerge}
 use Rattle.term_refiner.proofs.KeptLaws.{KeptWork}

@@ -13,16 +13,17 @@ use Rattle.expr.specs.Hash.{structuralHash}
 use Rattle.expr.specs.Value.{value}
 use Rattle.group.specs.declared.Group.{Group}
 use Rattle.semilinear.specs.Form.{Row, Form, isAtomTree, sumRows, formValue, rowsOk, fitsTable, validForm}
-use Rattle.group.specs.Group.{Work, work, at, isLive, emptyGroup, anyBasis, basesOf, groupOf, ungrouped}
+use Rattle.group.specs.Group.{Work, work, at, isLive, emptyGroup, groupOf}
+use Rattle.views.specs.Grouping.{anyBasis, basesOf, ungrouped}
 use Rattle.group.specs.Group.{settle}
 use Rattle.semilinear.proofs.FormLaws.{form-parts}
 use Rattle.semilinear.proofs.AtomLaws.{atom-tree, tree-atom}
 use Rattle.group.proofs.TotalLaws.{sumTo, sum-ext, worth, worth-live, worth-dead, total}
-use Rattle.group.proofs.BasesLaws.{risingFrom, risen}
-use Rattle.group.proofs.GroupsLaws.{basisSum, basesSum, termValue, groups-value, bases-rising}
+use Rattle.views.proofs.BasesLaws.{risingFrom, risen}
+use Rattle.views.proofs.GroupsLaws.{basisSum, basesSum, termValue, groups-value, bases-rising}
 use Rattle.group.proofs.GroupOfLaws.{group-of}
 use Rattle.group.proofs.SettleLaws.{owed, owed-live, owed-consumed, settled}
-use Rattle.group.proofs.CoeffsLaws.{fits-length}
+use Rattle.made.proofs.CoeffsLaws.{fits-length}
 use Rattle.group.proofs.WorkLaws.{Extends, extends-trans, Added, added-refl, added-trans, added-eqm, grown-added}
 use Rattle.group.proofs.ExtendsLaws.{ungrouped-extends}
 use Rattle.group.proofs.FitsLaws.{AllFit, fits-fresh}

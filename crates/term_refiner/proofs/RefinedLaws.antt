@@ -9,17 +9,17 @@ use Rattle.record.specs.Fields.{width, literal}
 use Rattle.record.specs.Span.{body}
 use Rattle.record.specs.Tree.{IsBytes}
 use Rattle.semilinear.specs.declared.outcome.Answer.{Answer}
-use Rattle.semilinear.specs.declared.table.Table.{Table}
+use Rattle.atom_table.specs.declared.table.Table.{Table}
 use Rattle.semilinear.specs.Form.{Row}
 use Rattle.semilinear.specs.Items.{afterAtoms}
 use Rattle.semilinear.specs.Valid.{isSemilinear}
 use Rattle.semilinear.specs.DecodeForm.{rowsOf, decodeForm, readForm}
 use Rattle.semilinear.specs.Answers.{GivesForm}
 use Rattle.semilinear.specs.PassOutcome.{limitOutcome}
-use Rattle.semilinear.specs.Table.{Placed}
-use Rattle.semilinear.specs.Terms.{Copied, Finished}
+use Rattle.atom_table.specs.Table.{Placed}
+use Rattle.atom_table.specs.Terms.{Copied, Finished}
 use Rattle.semilinear.proofs.AcceptLaws.{form-valid}
-use Rattle.group.specs.Made.{tableOf}
+use Rattle.made.specs.Made.{tableOf}
 use Rattle.group.proofs.PassLaws.{held-form, pass-room}
 use Rattle.group.proofs.ShownLaws.{begun, shown-ends}
 use Rattle.term_refiner.specs.RefineTerms.{refineForm}

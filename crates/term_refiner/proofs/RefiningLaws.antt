@@ -9,23 +9,25 @@ use lib.ListN.{length}
 use Rattle.record.specs.Tree.{Tree}
 use Rattle.semilinear.specs.Form.{Row, fitsTable}
 use Rattle.group.specs.declared.Group.{Group}
-use Rattle.group.specs.declared.collapse.Three.{Three}
+use Rattle.collapse_search.specs.declared.find.Three.{Three}
 use Rattle.group.specs.Group.{Work, work, onGroup}
 use Rattle.group.specs.Collapse.{collapseAt, threeTermCollapse}
-use Rattle.group.specs.Made.{Room, Stepped}
-use Rattle.group.specs.Stages.{cutAndDrop, mergeAll, NoMerge}
-use Rattle.group.specs.Links.{lent, FoundThree}
-use Rattle.group.specs.declared.views.View.{View}
+use Rattle.made.specs.Made.{Room}
+use Rattle.group.specs.Made.{Stepped}
+use Rattle.group.specs.Stages.{cutAndDrop, mergeAll}
+use Rattle.entries.specs.Tests.{NoMerge}
+use Rattle.collapse_search.specs.Links.{lent, FoundThree}
+use Rattle.views.specs.declared.View.{View}
 use Rattle.group.specs.Gathered.{addWord, settleWords}
-use Rattle.group.specs.Lone.{loneGroup, Stays}
-use Rattle.group.specs.Shown.{Shown}
+use Rattle.lone.specs.Lone.{loneGroup, Stays}
+use Rattle.made.specs.Shown.{Shown}
 use Rattle.group.proofs.SteppedLaws.{stepped-as, stepped-then, stepped-met}
 use Rattle.group.proofs.StagesLaws.{merge-none}
-use Rattle.group.proofs.FindLaws.{found-lent}
-use Rattle.group.proofs.CollapseLaws.{collapse-same, collapse-met}
+use Rattle.collapse_search.proofs.FindLaws.{found-lent}
+use Rattle.collapse_search.proofs.CollapseMetLaws.{collapse-same, collapse-met}
 use Rattle.group.proofs.SettleWordsLaws.{length-settle}
 use Rattle.group.proofs.ShownLaws.{shown-settle}
-use Rattle.group.proofs.LoneLaws.{lone-len, settle-lone, refined-lone}
+use Rattle.lone.proofs.LoneLaws.{lone-len, settle-lone, refined-lone}
 use Rattle.term_refiner.specs.RefineTerms.{refineGroup}
 use Rattle.term_refiner.specs.Refining.{FairWork, settledRows, GroupRefined}
 

@@ -4,13 +4,13 @@ use mathlib.Core.Path.{_≡_, _∙_}
 use Prim.Native.Nat.{ℕ, _≤_}
 use mathlib.Core.List.{List, []}
 use mathlib.Core.Bool.{false}
-use Rattle.record.specs.Put.{padded}
+use Rattle.base.specs.Put.{padded}
 use Rattle.semilinear.specs.Items.{atomCount, afterAtoms}
 use Rattle.semilinear.specs.DecodeForm.{rowsOf}
-use Rattle.group.specs.Group.{anyBasis, basesOf, ungrouped}
-use Rattle.group.specs.Views.{onlyOf, Views, ViewsRead}
+use Rattle.views.specs.Grouping.{anyBasis, basesOf, ungrouped}
+use Rattle.views.specs.Views.{onlyOf, Views, ViewsRead}
 use Rattle.group.proofs.PassLaws.{read-wide, read-shown}
-use Rattle.group.proofs.SplitLaws.{only-any}
+use Rattle.views.proofs.SplitLaws.{only-any}
 use Rattle.term_refiner.specs.Refining.{AllRefined, RowsRefined}
 
 module _ {w : ℕ} {f coeffs views coeffs′ : List ℕ} {n : ℕ}

@@ -16,14 +16,15 @@ use Rattle.arith.proofs.CongruenceLaws.{eqm-of-eq, eqm-sym, eqm-trans, eqm-add}
 use Rattle.arith.proofs.MaskLaws.{terms-merge}
 use Rattle.arith.proofs.EffectiveLaws.{reduce-eqm, coefficient-sound}
 use Rattle.record.specs.Tree.{Tree}
-use Rattle.record.proofs.SizedLaws.{false-true, and-true}
+use Rattle.base.proofs.BoolLaws.{false-true, and-true}
 use Rattle.expr.specs.Value.{value}
 use Rattle.group.specs.declared.Group.{Group}
 use Rattle.semilinear.specs.Form.{Row, isAtomTree}
-use Rattle.group.specs.Group.{Entry, at, isLive, consumed, Work, work, createMasked}
+use Rattle.group.specs.Group.{Entry, at, isLive, consumed, Work, work}
+use Rattle.made.specs.Rows.{createMasked}
 use Rattle.group.proofs.TotalLaws.{worth, worth-live, worth-consumed, live-mark, live-consumed}
 use Rattle.group.proofs.WorkLaws.{Grown, grown-refl, grown-masked}
-use Rattle.record.proofs.LoopLaws.{when-both, for-keeps}
+use Rattle.base.proofs.LoopLaws.{when-both, for-keeps}
 use Rattle.group.specs.Steps.{remasked, cutAt, cutMasks, dropAt, dropZero, joinAt, minusOneAt, toMinusOne}
 use Rattle.term_refiner.proofs.KeptLaws.{anyEntry, KeptWork, kept-one, kept-two}
 use Rattle.group.proofs.FitsLaws.{Fits, fits-made}

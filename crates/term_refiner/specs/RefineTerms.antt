@@ -4,8 +4,9 @@ use mathlib.Core.List.{List, [], _∷_}
 use mathlib.Core.Bool.{false}
 use Rattle.record.specs.Tree.{Tree}
 use Rattle.semilinear.specs.Form.{Row, Form}
-use Rattle.group.specs.Group.{Work, work, onGroup, emptyGroup, anyBasis, basesOf, groupOf, ungrouped, settle}
-use Rattle.semilinear.specs.Outcome.{Outcome}
+use Rattle.group.specs.Group.{Work, work, onGroup, emptyGroup, groupOf, settle}
+use Rattle.views.specs.Grouping.{anyBasis, basesOf, ungrouped}
+use Rattle.base.specs.Outcome.{Outcome}
 use Rattle.semilinear.specs.PassOutcome.{passOutcome, limitOutcome}
 use Rattle.group.specs.Steps.{cutMasks, dropZero, bucketMerge, pairMerge, toMinusOne}
 use Rattle.group.specs.Collapse.{threeTermCollapse}

@@ -7,10 +7,13 @@ use lib.ListN.{length}
 use Rattle.record.specs.Tree.{Tree}
 use Rattle.semilinear.specs.Form.{Row}
 use Rattle.group.specs.declared.Group.{Group}
-use Rattle.group.specs.Group.{Work, work, emptyGroup, anyBasis, basesOf, groupOf, ungrouped, settle}
-use Rattle.group.specs.Made.{Room, Later, Held}
-use Rattle.group.specs.Shown.{Shown, Fair}
+use Rattle.group.specs.Group.{Work, work, emptyGroup, groupOf, settle}
+use Rattle.views.specs.Grouping.{anyBasis, basesOf, ungrouped}
+use Rattle.made.specs.Made.{Room, Later, Held}
+use Rattle.made.specs.Shown.{Shown}
+use Rattle.group.specs.Fair.{Fair}
 use Rattle.term_refiner.specs.RefineTerms.{refineGroup, refineAll}
+use Rattle.base.specs.Limits.{atomLimit}
 
 -- what refining a group makes of the rows l is fair
 abbrev pub FairWork : List Row → Work → Type 0
@@ -51,6 +54,6 @@ pub record AllRefined (w : ℕ) (before : List Row) (bases : List Tree) (made ou
 pub record RowsRefined (w : ℕ) (rows : List Row) (made out made′ out′ coeffs′ : List ℕ) : Type 0 where
   pub room : Room made′ out′
   pub long : length out′ ≡ length out
-  pub wide : length coeffs′ ≡ 256
+  pub wide : length coeffs′ ≡ atomLimit
   pub shown : AllFair w rows (basesOf anyBasis w rows []) (ungrouped anyBasis w rows) → Held w made out rows
       → Shown w made′ out′ coeffs′ (refineAll w rows (basesOf anyBasis w rows []) (ungrouped anyBasis w rows))

@@ -1,22 +1,20 @@
 // Refining the terms of a semilinear form.
+use atom_table::pass;
+use atom_table::read;
+use base::limits;
+use collapse_search::find;
+use entries::stages;
 use group::Group;
-use group::bases;
-use group::collapse;
-use group::lone;
-use group::made;
 use group::settle;
-use group::stages;
-use group::views;
+use semilinear::outcome;
 use semilinear::outcome::Answer;
-use semilinear::outcome::{self};
-use semilinear::pass;
-use semilinear::read;
+use views::bases;
 ghost use mathlib.Core.Path.{_≡_};
 ghost use mathlib.Core.Bool.{true, false};
 ghost use mathlib.Core.List.{[]};
 ghost use Prim.Native.Nat.{ℕ, _+_, _*_, _^_, _<_, _≤_};
 ghost use lib.ListN.{length, getD};
-ghost use Rattle.record.specs.Put.{padded};
+ghost use Rattle.base.specs.Put.{padded};
 ghost use Rattle.record.specs.Decode.{decode};
 ghost use Rattle.semilinear.specs.Items.{atomCount, afterAtoms};
 ghost use Rattle.semilinear.specs.Valid.{atomsOk, isSemilinear};
@@ -24,13 +22,14 @@ ghost use Rattle.semilinear.specs.DecodeForm.{rowsOf, readForm};
 ghost use Rattle.semilinear.specs.Answers.{GivesForm};
 ghost use Rattle.semilinear.specs.PassOutcome.{limitOutcome};
 ghost use Rattle.semilinear.specs.Scan.{AtomsEnd};
-ghost use Rattle.group.specs.Made.{Room, Basis};
-ghost use Rattle.group.specs.Group.{anyBasis, basesOf};
-ghost use Rattle.group.specs.Views.{viewAt, basisBytes, InGroup, Views, Readable};
-ghost use Rattle.group.specs.Bases.{firstRows, FirstAre};
+ghost use Rattle.made.specs.Made.{Room, Basis};
+ghost use Rattle.views.specs.Grouping.{anyBasis, basesOf};
+ghost use Rattle.views.specs.Views.{viewAt, basisBytes, InGroup, Views, Readable};
+ghost use Rattle.views.specs.Bases.{firstRows, FirstAre};
 ghost use Rattle.group.specs.Gathered.{gathered};
 ghost use Rattle.term_refiner.specs.RefineTerms.{refineForm, refineTerms};
 ghost use Rattle.term_refiner.specs.Refining.{GroupRefined, AllRefined, RowsRefined};
+ghost use Rattle.base.specs.Limits.{atomLimit, formBytes, shortAtoms};
 
 // One group: the rows, of n, that have the basis b with this hash are gathered, the steps are taken
 // in the Rust's order, and what is left is added to the rows. A stage that would leave the group as it
@@ -46,7 +45,7 @@ fn refine_group(
     coeffs: &mut [u64],
     out: &mut [u8],
 )
-    requires { ⌜ Room (now made) (now out) × Readable (now f) (now views) n × (n ≤ 256)
+    requires { ⌜ Room (now made) (now out) × Readable (now f) (now views) n × (n ≤ atomLimit)
         × Basis w hash (now b) × (getD (now made) 4 0 + 262144 < 2 ^ 64) × (w ≤ 64) ⌝ }
     ensures { λ _. ⌜ GroupRefined w 262144 (decode (now (b .entry)))
         (gathered (now (f .entry)) (now (views .entry)) hash (now (b .entry)) n)
@@ -61,10 +60,10 @@ fn refine_group(
     if stages::any_merge(&g.coeffs, &g.masks, &g.marks, len, w as u32) {
         g = g.merge_all(b, hash, w, made, out);
     }
-    let found = collapse::find_three(&g.coeffs, &g.masks, &g.marks, len, w as u32);
+    let found = find::find_three(&g.coeffs, &g.masks, &g.marks, len, w as u32);
     let i = found.first;
     if i < len {
-        g = g.collapse_at(i, found.second, found.third, b, hash, w, made, out);
+        g = g.collapse(i, found.second, found.third, b, hash, w, made, out);
     }
     settle::settle(&g.coeffs, &g.atoms, &g.marks, len, coeffs, w as u32);
 }
@@ -80,7 +79,7 @@ fn refine_at(
     coeffs: &mut [u64],
     out: &mut [u8],
 )
-    requires { ⌜ Room (now made) (now out) × Readable (now f) (now views) n × (first < n) × (n ≤ 256)
+    requires { ⌜ Room (now made) (now out) × Readable (now f) (now views) n × (first < n) × (n ≤ atomLimit)
         × InGroup w (now f) (viewAt (now views) first)
         × (getD (now made) 4 0 + 262144 < 2 ^ 64) × (w ≤ 64) ⌝ }
     ensures { λ _. ⌜ GroupRefined w 262144
@@ -113,7 +112,7 @@ fn refine_all(
     coeffs: &mut [u64],
     out: &mut [u8],
 )
-    requires { ⌜ Room (now made) (now out) × (getD (now made) 4 0 ≤ 256) × (w ≤ 64) × (n ≤ 256)
+    requires { ⌜ Room (now made) (now out) × (getD (now made) 4 0 ≤ atomLimit) × (w ≤ 64) × (n ≤ atomLimit)
         × (n ≡ length (rowsOf 0 (now f) (afterAtoms (now f))))
         × Views anyBasis w (now f) (now views) (rowsOf 0 (now f) (afterAtoms (now f)))
         × FirstAre (firstRows (now f) (now views) n) (now bases) (now bases) count ⌝ }
@@ -143,8 +142,8 @@ fn refine_rows(
 )
     requires { ⌜ (w ≤ 64) × (atomsOk w (now f) ≡ true) × AtomsEnd (now f) terms
         × (5 * atomCount (now f) ≤ length (now views)) × (atomCount (now f) ≤ length (now bases))
-        × (atomCount (now f) ≤ 256) × (now coeffs ≡ padded 256 [])
-        × Room (now made) (now out) × (getD (now made) 4 0 ≤ 256) ⌝ }
+        × (atomCount (now f) ≤ atomLimit) × (now coeffs ≡ padded atomLimit [])
+        × Room (now made) (now out) × (getD (now made) 4 0 ≤ atomLimit) ⌝ }
     ensures { λ _. ⌜ RowsRefined w (rowsOf 0 (now (f .entry)) (afterAtoms (now (f .entry))))
         (now (made .entry)) (now (out .entry)) (now (made .exit)) (now (out .exit)) (now (coeffs .exit)) ⌝ }
 {
@@ -156,26 +155,26 @@ fn refine_rows(
 // The same for at most 16 atoms. Most forms are so short, and clearing long arrays costs.
 fn refine_short(f: &[u8], terms: usize, w: u8, made: &mut [u64], coeffs: &mut [u64], out: &mut [u8])
     requires { ⌜ (w ≤ 64) × (atomsOk w (now f) ≡ true) × AtomsEnd (now f) terms
-        × (atomCount (now f) ≤ 16) × (now coeffs ≡ padded 256 [])
-        × Room (now made) (now out) × (getD (now made) 4 0 ≤ 256) ⌝ }
+        × (atomCount (now f) ≤ shortAtoms) × (now coeffs ≡ padded atomLimit [])
+        × Room (now made) (now out) × (getD (now made) 4 0 ≤ atomLimit) ⌝ }
     ensures { λ _. ⌜ RowsRefined w (rowsOf 0 (now (f .entry)) (afterAtoms (now (f .entry))))
         (now (made .entry)) (now (out .entry)) (now (made .exit)) (now (out .exit)) (now (coeffs .exit)) ⌝ }
 {
-    let mut views = [0u64; 80];
-    let mut bases = [0u64; 16];
+    let mut views = [0u64; views::SHORT_VIEWS];
+    let mut bases = [0u64; limits::SHORT_ATOMS];
     refine_rows(f, terms, w, &mut views, &mut bases, made, coeffs, out);
 }
 
 // The same for at most 256 atoms.
 fn refine_long(f: &[u8], terms: usize, w: u8, made: &mut [u64], coeffs: &mut [u64], out: &mut [u8])
     requires { ⌜ (w ≤ 64) × (atomsOk w (now f) ≡ true) × AtomsEnd (now f) terms
-        × (atomCount (now f) ≤ 256) × (now coeffs ≡ padded 256 [])
-        × Room (now made) (now out) × (getD (now made) 4 0 ≤ 256) ⌝ }
+        × (atomCount (now f) ≤ atomLimit) × (now coeffs ≡ padded atomLimit [])
+        × Room (now made) (now out) × (getD (now made) 4 0 ≤ atomLimit) ⌝ }
     ensures { λ _. ⌜ RowsRefined w (rowsOf 0 (now (f .entry)) (afterAtoms (now (f .entry))))
         (now (made .entry)) (now (out .entry)) (now (made .exit)) (now (out .exit)) (now (coeffs .exit)) ⌝ }
 {
-    let mut views = [0u64; 1280];
-    let mut bases = [0u64; 256];
+    let mut views = [0u64; views::LONG_VIEWS];
+    let mut bases = [0u64; limits::ATOM_LIMIT];
     refine_rows(f, terms, w, &mut views, &mut bases, made, coeffs, out);
 }
 
@@ -190,12 +189,12 @@ fn refine_table(
     out: &mut [u8],
 )
     requires { ⌜ (w ≤ 64) × (atomsOk w (now f) ≡ true) × AtomsEnd (now f) terms
-        × (atomCount (now f) ≡ count) × (count ≤ 256) × (now coeffs ≡ padded 256 [])
-        × Room (now made) (now out) × (getD (now made) 4 0 ≤ 256) ⌝ }
+        × (atomCount (now f) ≡ count) × (count ≤ atomLimit) × (now coeffs ≡ padded atomLimit [])
+        × Room (now made) (now out) × (getD (now made) 4 0 ≤ atomLimit) ⌝ }
     ensures { λ _. ⌜ RowsRefined w (rowsOf 0 (now (f .entry)) (afterAtoms (now (f .entry))))
         (now (made .entry)) (now (out .entry)) (now (made .exit)) (now (out .exit)) (now (coeffs .exit)) ⌝ }
 {
-    if count <= 16 {
+    if count <= limits::SHORT_ATOMS_U64 {
         refine_short(f, terms, w, made, coeffs, out);
         return;
     }
@@ -204,8 +203,8 @@ fn refine_table(
 
 // Refines a form into a slice of 57,360 bytes, which is all zeros.
 fn refine_form(s: &[u8], out: &mut [u8]) -> Answer
-    requires { ⌜ (isSemilinear (now s) ≡ true) × (now out ≡ padded 57360 []) ⌝ }
-    ensures { λ r. ⌜ GivesForm (limitOutcome (refineForm (readForm (now (s .entry)))) false) 57360 r (now (out .exit)) ⌝ }
+    requires { ⌜ (isSemilinear (now s) ≡ true) × (now out ≡ padded formBytes []) ⌝ }
+    ensures { λ r. ⌜ GivesForm (limitOutcome (refineForm (readForm (now (s .entry)))) false) formBytes r (now (out .exit)) ⌝ }
 {
     let w = record::width(s);
     let constant = record::literal(s);
@@ -213,7 +212,7 @@ fn refine_form(s: &[u8], out: &mut [u8]) -> Answer
     let terms = tab.at;
     let count = tab.count;
     let mut made = [terms as u64, count, tab.records, 0, count, constant];
-    let mut coeffs = [0u64; 256];
+    let mut coeffs = [0u64; limits::ATOM_LIMIT];
     refine_table(
         record::body(s),
         terms,

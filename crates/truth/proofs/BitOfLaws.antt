@@ -14,11 +14,11 @@ use lib.Bits.{differ}
 use borrow.Author.Tests.{eq-eqb, ne-eqb, lt-ltb, le-ltb}
 use Rattle.arith.specs.Bit.{bitAt}
 use Rattle.arith.proofs.BitLaws.{bit-lt, bit-past, bit-shr, bit-and, bit-or, bit-xor, bit-not, bit-mod, differ-lt}
-use Rattle.record.specs.Choice.{when}
+use Rattle.base.specs.Choice.{when}
 use Rattle.record.specs.Tree.{Tree}
 use Rattle.record.specs.Tree.Tree.{Constant, Variable, Unary, Binary}
-use Rattle.record.proofs.SizedLaws.{false-true, or-of-l, or-of-r, or-false}
-use Rattle.expr.specs.Utils.{hasKind, hasVarDep, hasLiteral}
+use Rattle.base.proofs.BoolLaws.{false-true, or-of-l, or-of-r, or-false}
+use Rattle.expr_utils.specs.Utils.{hasKind, hasVarDep, hasLiteral}
 use Rattle.expr.specs.Value.{unary, binary, value}
 use Rattle.expr.specs.Vars.{occurs}
 use Rattle.expr.proofs.ValueLaws.{value-lt}

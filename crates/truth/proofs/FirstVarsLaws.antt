@@ -11,7 +11,7 @@ use lib.ListN.{length, take, replicate}
 use lib.Dec.{eqb}
 use borrow.Author.Tests.{eq-eqb, ne-eqb}
 use Rattle.arith.specs.Bit.{bitAt}
-use Rattle.record.specs.Choice.{when}
+use Rattle.base.specs.Choice.{when}
 use Rattle.record.specs.Tree.{Tree}
 use Rattle.expr.specs.Vars.{noVar, nextVar, firstVars, support}
 use Rattle.expr.proofs.VarsLaws.{next-var-le, supportFrom, support-from-zero, support-from-next, support-from-end}

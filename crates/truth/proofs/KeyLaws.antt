@@ -11,13 +11,13 @@ use lib.Bits.{bitAnd, and-mask}
 use lib.Pow.{pow-mono}
 use borrow.Author.Tests.{ne-eqb, le-leb, lt-leb}
 use Rattle.arith.specs.Width.{bitmask}
-use Rattle.record.specs.Choice.{when}
-use Rattle.record.specs.Lists.{eqList}
+use Rattle.base.specs.Choice.{when}
+use Rattle.base.specs.Lists.{eqList}
 use Rattle.record.specs.Tree.{Tree}
-use Rattle.record.proofs.SizedLaws.{false-true}
-use Rattle.record.proofs.ListsLaws.{eq-of-eq-list, eq-list-self}
-use Rattle.expr.specs.declared.utils.Traits.{Traits}
-use Rattle.expr.specs.Utils.{hasLiteral, hasShr, traitsOf}
+use Rattle.base.proofs.BoolLaws.{false-true}
+use Rattle.base.proofs.ListsLaws.{eq-of-eq-list, eq-list-self}
+use Rattle.expr_utils.specs.declared.Traits.{Traits}
+use Rattle.expr_utils.specs.Utils.{hasLiteral, hasShr, traitsOf}
 use Rattle.expr.specs.Vars.{noVar, firstVars, support, sameVars}
 use Rattle.truth.specs.Truth.{placeOf, tableF, table}
 use Rattle.truth.specs.Key.{sharedVars, isPure, sameTable, notPure, keyOf}

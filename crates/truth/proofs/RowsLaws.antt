@@ -17,10 +17,10 @@ use borrow.Author.Tests.{eqb-true, eq-eqb, ne-eqb}
 use Rattle.arith.specs.Bit.{bitAt}
 use Rattle.arith.proofs.BitLaws.{bits-below, bit-lt, bit-past, bit-of-zero, bit-and, bit-or, bit-xor, bit-not, bit-ones}
 use Rattle.arith.proofs.BitLaws.{bit-mod}
-use Rattle.record.specs.Choice.{when}
+use Rattle.base.specs.Choice.{when}
 use Rattle.record.specs.Tree.{Tree}
 use Rattle.record.specs.Tree.Tree.{Constant, Variable, Unary, Binary}
-use Rattle.record.proofs.SizedLaws.{and-true}
+use Rattle.base.proofs.BoolLaws.{and-true}
 use Rattle.truth.specs.Truth.{bitBinary, bitOf, placeOf, rowBits, tableF}
 use Rattle.truth.proofs.BitOfLaws.{bit-of-not, bit-of-shift, bit-of-past, bit-of-agree}
 use Rattle.truth.proofs.TruthLaws.{tableF-lt, tableF-bit}

@@ -12,14 +12,14 @@ use lib.Dec.{eqb, leb}
 use borrow.Author.Tests.{eqb-true, leb-true, not-true}
 use Rattle.arith.specs.Bit.{bitAt}
 use Rattle.arith.proofs.BitLaws.{bit-lt, bit-zero, bit-suc, bit-under, bit-top, bits-below}
-use Rattle.record.specs.Choice.{when}
-use Rattle.record.specs.Lists.{elem, eqList}
+use Rattle.base.specs.Choice.{when}
+use Rattle.base.specs.Lists.{elem, eqList}
 use Rattle.record.specs.Tree.{Tree}
 use Rattle.record.specs.Tree.Tree.{Constant, Variable, Unary, Binary}
-use Rattle.record.proofs.SizedLaws.{false-true, and-true, or-false}
-use Rattle.record.proofs.ListsLaws.{eq-of-eq-list}
-use Rattle.expr.specs.Refusal.{isExpr}
-use Rattle.expr.specs.Utils.{hasKind, hasLiteral, hasShr, hasArith}
+use Rattle.base.proofs.BoolLaws.{false-true, and-true, or-false}
+use Rattle.base.proofs.ListsLaws.{eq-of-eq-list}
+use Rattle.expr_refusal.specs.Refusal.{isExpr}
+use Rattle.expr_utils.specs.Utils.{hasKind, hasLiteral, hasShr, hasArith}
 use Rattle.expr.specs.Value.{value}
 use Rattle.expr.specs.Vars.{occurs, support, sameVars}
 use Rattle.expr.proofs.ValueLaws.{value-lt}

@@ -11,9 +11,9 @@ use lib.ListN.{length, getD}
 use Rattle.arith.specs.Bit.{bitAt}
 use Rattle.arith.proofs.BitLaws.{bit-zero, bits-below}
 use Rattle.record.specs.Tree.{Tree}
-use Rattle.record.proofs.ListsLaws.{eq-of-eq-list}
-use Rattle.expr.specs.Refusal.{isExpr}
-use Rattle.expr.specs.Utils.{hasArith}
+use Rattle.base.proofs.ListsLaws.{eq-of-eq-list}
+use Rattle.expr_refusal.specs.Refusal.{isExpr}
+use Rattle.expr_utils.specs.Utils.{hasArith}
 use Rattle.expr.specs.Value.{value}
 use Rattle.expr.specs.Vars.{occurs, support, sameVars}
 use Rattle.expr.proofs.IsExprLaws.{occurs-lt}

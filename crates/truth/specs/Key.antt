@@ -5,9 +5,9 @@ use mathlib.Core.List.{List, _∷_}
 use mathlib.Core.Bool.{Bool, not, _&&_}
 use lib.ListN.{length, replicate}
 use lib.Dec.{eqb, leb}
-use Rattle.record.specs.Choice.{when}
+use Rattle.base.specs.Choice.{when}
 use Rattle.record.specs.Tree.{Tree}
-use Rattle.expr.specs.Utils.{hasLiteral, hasShr}
+use Rattle.expr_utils.specs.Utils.{hasLiteral, hasShr}
 use Rattle.expr.specs.Vars.{support, sameVars, firstVars}
 use Rattle.truth.specs.Truth.{table}
 

@@ -8,10 +8,10 @@ use mathlib.Core.Bool.{Bool, false, not, _&&_, _||_}
 use lib.Dec.{eqb, ltb}
 use lib.Bits.{differ}
 use Rattle.arith.specs.Bit.{bitAt}
-use Rattle.record.specs.Choice.{when}
+use Rattle.base.specs.Choice.{when}
 use Rattle.record.specs.Tree.{Tree}
 use Rattle.record.specs.Tree.Tree.{Constant, Variable, Unary, Binary}
-use Rattle.expr.specs.Utils.{hasVarDep}
+use Rattle.expr_utils.specs.Utils.{hasVarDep}
 
 -- a shift by an amount other than 0 occurs
 unfoldable pub hasShift : Tree → Bool

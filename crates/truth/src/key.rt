@@ -15,7 +15,7 @@ pub fn key_of(t: &[u8]) -> [u64; 7]
     ensures { λ r. ⌜ r ≡ keyOf (decode (now (t .entry))) ⌝ }
 {
     let none = [NOT_PURE, 0, 0, 0, 0, 0, 0];
-    let found = expr::utils::traits_of(t);
+    let found = expr_utils::traits_of(t);
     if found.literal {
         return none;
     }

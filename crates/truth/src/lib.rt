@@ -2,16 +2,18 @@
 // which the j-th variable of a list has bit j of i. One walk gives all 64 rows.
 pub mod key;
 
+use base::limits;
 ghost use mathlib.Core.Path.{_≡_};
 ghost use mathlib.Core.Bool.{true};
 ghost use Prim.Native.Nat.{ℕ, _-_, _^_, _/_, _%_, _<_, _≤_};
 ghost use lib.ListN.{length};
 ghost use Rattle.arith.specs.Bit.{bitAt};
-ghost use Rattle.record.specs.Choice.{when};
+ghost use Rattle.base.specs.Choice.{when};
 ghost use Rattle.record.specs.Span.{sized};
 ghost use Rattle.record.specs.Tree.Tree.{Variable};
 ghost use Rattle.record.specs.Decode.{leaf, decode};
 ghost use Rattle.truth.specs.Truth.{placeOf, bitBinary, tableF};
+ghost use Rattle.base.specs.Limits.{recordLength};
 
 // Bit i is bit j of i.
 fn column(j: usize) -> u64
@@ -55,7 +57,7 @@ fn variable_rows(vars: &[u64], v: u64) -> u64
 
 // The rows of a root without children, the same at every width.
 fn leaf_rows(t: &[u8], vars: &[u64], place: u32) -> u64
-    requires { ⌜ 16 ≤ length (now t) ⌝ }
+    requires { ⌜ recordLength ≤ length (now t) ⌝ }
     ensures { λ r. ⌜ ((w : ℕ) → r ≡ tableF 64 w place (now (vars .entry))
         (leaf (now (t .entry)))) ⌝ }
 {
@@ -122,7 +124,7 @@ fn rows_in(t: &[u8], vars: &[u64], at: u64) -> u64
             }
             here += a;
         }
-        let end = s.len() - 16;
+        let end = s.len() - limits::RECORD_LENGTH;
         s = &s[..end];
     }
 }

@@ -34,7 +34,7 @@ fn expr_value(expr: &[u8], words: &[u64]) -> Answer {
 
 // Type 2.
 fn hash(expr: &[u8]) -> Answer {
-    let refusal = expr::refusal::expr_refusal(expr);
+    let refusal = expr_refusal::expr_refusal(expr);
     if refusal != 0 {
         return Answer { refusal, value: 0 };
     }

@@ -1,8 +1,8 @@
 // Type 11: the classes and columns of a form, run on an entry's words and bytes.
-ghost use Prim.Native.Nat.{_*_, _≤_};
-ghost use lib.ListN.{length};
 use crate::answer;
 use crate::answer::Answer;
+ghost use Prim.Native.Nat.{_*_, _≤_};
+ghost use lib.ListN.{length};
 
 fn fill(out: &mut [u64]) {
     let mut i = 0;

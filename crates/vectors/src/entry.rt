@@ -1,10 +1,10 @@
 // One entry: read, run and compared.
-ghost use mathlib.Core.Path.{_≡_};
-ghost use Prim.Native.Nat.{_+_, _*_, _<_, _≤_};
-ghost use lib.ListN.{length};
 use crate::answer;
 use crate::answer::Answer;
 use crate::report;
+ghost use mathlib.Core.Path.{_≡_};
+ghost use Prim.Native.Nat.{_+_, _*_, _<_, _≤_};
+ghost use lib.ListN.{length};
 
 // The head of an entry: its type, how many words and bytes follow, what is expected.
 pub struct Head {

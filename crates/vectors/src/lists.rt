@@ -1,8 +1,8 @@
 // Type 14: a list of passes from an expression, run on an entry's words and bytes.
-ghost use mathlib.Core.Path.{_≡_};
-ghost use lib.ListN.{length};
 use crate::answer;
 use crate::answer::Answer;
+ghost use mathlib.Core.Path.{_≡_};
+ghost use lib.ListN.{length};
 
 // Room for the second slice.
 fn spare_room() -> [u8; 57376]

@@ -1,6 +1,6 @@
 -- `expr_value` meets its contract: the value of an accepted tree, and 0 beside a refusal.
 use Rattle.expr.proofs.ExprValueLaws.{accepted-tree, expr-value-accepted, expr-value-refused}
-use Rattle.expr.proofs.RefusalLaws.{accepted-big, accepted-root, sized-accepted}
+use Rattle.expr_refusal.proofs.RefusalLaws.{accepted-big, accepted-root, sized-accepted}
 use native.Mathlib.Omega.{arith}
 use mathlib.Core.Path.{sym, _∙_}
 use denote.Ref.{now}

@@ -9,7 +9,7 @@ use Rattle.hogzelt.proofs.hogzelt_run_passes.Tie as tie
 use Rattle.hogzelt.proofs.hogzelt_run_passes.Reads as reads
 use Rattle.hogzelt.proofs.hogzelt_run_passes.Lts as lts
 use Rattle.runner.proofs.run_passes.Reads as run-passes-reads
-use Rattle.record.proofs.write.clear.Reads as clear-reads
+use Rattle.base.proofs.write.clear.Reads as clear-reads
 
 run-passes-requires : tie.Need-run-passes-requires
 run-passes-requires c κs = search needs

@@ -1,6 +1,6 @@
 -- `io_form::normalize_or_print` gives what is used of the result slice, by the normaliser's contract.
 use borrow.Author.Needs.{needs}
-use Rattle.semilinear_normalizer.proofs.UsedLaws.{used-normalize}
+use Rattle.normalizer_laws.proofs.UsedLaws.{used-normalize}
 use Rattle.io_form.proofs.AnswerLaws.{answer-used}
 use Rattle.io_form.proofs.normalize_or_print.Statement.{statement}
 use Rattle.io_form.proofs.normalize_or_print.Tie as tie

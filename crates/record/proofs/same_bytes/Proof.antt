@@ -4,8 +4,8 @@ use mathlib.Core.Path.{_≡_, refl, sym, _∙_}
 use native.Mathlib.Omega.{arith}
 use lib.ListN.{length, drop}
 use denote.Ref.{now}
-use Rattle.record.specs.Lists.{eqList}
-use Rattle.record.proofs.ListsLaws.{eq-list-lengths, eq-list-differ, eq-list-next, eq-list-end}
+use Rattle.base.specs.Lists.{eqList}
+use Rattle.base.proofs.ListsLaws.{eq-list-lengths, eq-list-differ, eq-list-next, eq-list-end}
 use Rattle.record.proofs.same_bytes.Statement.{statement}
 use Rattle.record.proofs.same_bytes.Tie as tie
 

@@ -6,8 +6,8 @@ use Rattle.runner.proofs.make_call.Statement.{statement}
 use Rattle.runner.proofs.make_call.Tie as tie
 use Rattle.runner.proofs.make_call.Reads as reads
 use Rattle.runner.proofs.make_call.Lts as lts
-use Rattle.semilinear.proofs.compact.compact_atom_table.Reads as compact-atom-table-reads
-use Rattle.structure_recovery.proofs.flatten.flatten_complex_atoms.Reads as flatten-complex-atoms-reads
+use Rattle.atom_table.proofs.compact.compact_atom_table.Reads as compact-atom-table-reads
+use Rattle.flatten.proofs.flatten_complex_atoms.Reads as flatten-complex-atoms-reads
 use Rattle.term_refiner.proofs.refine_terms.Reads as refine-terms-reads
 
 refine-terms-requires : tie.Need-refine-terms-requires

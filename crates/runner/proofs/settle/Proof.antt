@@ -10,7 +10,7 @@ use Rattle.runner.proofs.settle.Statement.{statement}
 use Rattle.runner.proofs.settle.Tie as tie
 use Rattle.runner.proofs.settle.Reads as reads
 use Rattle.runner.proofs.settle.Lts as lts
-use Rattle.record.proofs.write.put_bytes.Reads as put-bytes-reads
+use Rattle.base.proofs.write.put_bytes.Reads as put-bytes-reads
 
 returns : tie.Need-returns
 returns c = settled-first (c .if1 .taken) (c .before .before .before .pre .0) (c .before .before .before .pre .1)

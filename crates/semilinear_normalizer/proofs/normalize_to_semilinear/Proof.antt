@@ -1,10 +1,10 @@
 -- `normalize_to_semilinear` meets its contract: the refusals in order, then the whole tree.
 use mathlib.Core.Path.{ap, sym, _∙_}
-use Rattle.expr.proofs.RefusalLaws.{accepted-big}
+use Rattle.expr_refusal.proofs.RefusalLaws.{accepted-big}
 use Rattle.expr.proofs.ExprValueLaws.{accepted-tree, accepted-length}
-use Rattle.semilinear.specs.Outcome.{refused}
-use Rattle.semilinear.proofs.PassLaws.{gives-same}
-use Rattle.semilinear_normalizer.proofs.NormalizeLaws.{file-one, file-two, file-refused}
+use Rattle.base.specs.Outcome.{refused}
+use Rattle.atom_table.proofs.PassLaws.{gives-same}
+use Rattle.normalizer_laws.proofs.NormalizeLaws.{file-one, file-two, file-refused}
 use Rattle.semilinear_normalizer.proofs.WholeTreeLaws.{gives-tree}
 use borrow.Author.Needs.{needs}
 use Rattle.semilinear_normalizer.proofs.normalize_to_semilinear.Statement.{statement}

@@ -3,7 +3,7 @@ use mathlib.Core.Path.{refl, sym, _∙_}
 use native.Mathlib.Omega.{arith}
 use borrow.Author.Tests.{not-true, not-false}
 use lib.Seq.{length-take-le}
-use Rattle.expr.proofs.RefusalLaws.{accepted-big, sized-accepted}
+use Rattle.expr_refusal.proofs.RefusalLaws.{accepted-big, sized-accepted}
 use Rattle.semilinear_normalizer.proofs.WholeTreeLaws.{refused-is, whole-at, whole-ready, gives-seven}
 use Rattle.semilinear_normalizer.proofs.WholeTreeLaws.{gives-eight, gives-collected, spots-whole, count-whole}
 use Rattle.semilinear_normalizer.proofs.WholeTreeLaws.{index-whole}

@@ -5,7 +5,7 @@ use Prim.Native.Nat.{_-_, _≤_}
 use native.Mathlib.Omega.{arith}
 use Rattle.semilinear.specs.Items.{afterAtoms}
 use Rattle.semilinear.specs.DecodeForm.{rowsOf}
-use Rattle.group.specs.Group.{anyBasis, basesOf}
+use Rattle.views.specs.Grouping.{anyBasis, basesOf}
 use Rattle.term_refiner.proofs.AllRefinedLaws.{Going, going-start, going-next, going-done}
 use Rattle.group.proofs.PassLaws.{readable-at, count-few, count-room, next-at, end-at, group-at}
 use Rattle.term_refiner.proofs.refine_all.Statement.{statement}

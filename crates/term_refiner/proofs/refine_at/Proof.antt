@@ -1,14 +1,14 @@
 -- `refine_at` meets its contract: the words of the row name the basis.
 use denote.Ref.{now}
 use borrow.Author.Needs.{needs}
-use Rattle.group.specs.Views.{viewAt, basisBytes}
-use Rattle.group.proofs.LoneLaws.{own-basis}
+use Rattle.views.specs.Views.{viewAt, basisBytes}
+use Rattle.lone.proofs.LoneLaws.{own-basis}
 use Rattle.term_refiner.proofs.RefiningLaws.{lone-refined}
 use Rattle.term_refiner.proofs.refine_at.Statement.{statement}
 use Rattle.term_refiner.proofs.refine_at.Tie as tie
 use Rattle.term_refiner.proofs.refine_at.Reads as reads
 use Rattle.term_refiner.proofs.refine_at.Lts as lts
-use Rattle.group.proofs.lone.stays_alone.Reads as stays-alone-reads
+use Rattle.lone.proofs.stays_alone.Reads as stays-alone-reads
 use Rattle.group.proofs.settle.add_word.Reads as add-word-reads
 use Rattle.term_refiner.proofs.refine_group.Reads as refine-group-reads
 

@@ -1,7 +1,7 @@
 -- `refine_form` meets its contract: the copied table, its rows refined, and the end of a pass.
 use denote.Ref.{now}
 use native.Mathlib.Omega.{arith}
-use Rattle.record.proofs.PutLaws.{padded-nil}
+use Rattle.base.proofs.PutLaws.{padded-nil}
 use Rattle.semilinear.proofs.ValidLaws.{semilinear-parts}
 use Rattle.group.proofs.PassLaws.{pass-begin}
 use Rattle.term_refiner.proofs.RefinedLaws.{refine-room, refine-end}

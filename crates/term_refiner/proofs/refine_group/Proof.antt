@@ -10,21 +10,21 @@ use Rattle.group.specs.Made.{Stepped}
 use Rattle.group.specs.Stages.{cutAndDrop, mergeAll}
 use Rattle.group.proofs.SteppedLaws.{stepped-then, stepped-met}
 use Rattle.group.proofs.StagesLaws.{single-none, merge-none}
-use Rattle.group.proofs.CollapseLaws.{three-collapsible, collapse-same, collapse-met}
+use Rattle.collapse_search.proofs.CollapseMetLaws.{three-collapsible, collapse-same, collapse-met}
 use Rattle.term_refiner.proofs.RefiningLaws.{no-merge-at, found-at, merged, collapsed, group-refined}
 use Rattle.group.proofs.PassLaws.{few-entries}
 use Rattle.term_refiner.proofs.refine_group.Statement.{statement}
 use Rattle.term_refiner.proofs.refine_group.Tie as tie
 use Rattle.term_refiner.proofs.refine_group.Reads as reads
 use Rattle.term_refiner.proofs.refine_group.Lts as lts
-use Rattle.group.proofs.Group.collapse_at.Reads as collapse-at-reads
+use Rattle.group.proofs.Group.collapse.Reads as collapse-reads
 use Rattle.group.proofs.Group.cut_and_drop.Reads as cut-and-drop-reads
 use Rattle.group.proofs.Group.gather.Reads as gather-reads
 use Rattle.group.proofs.Group.merge_all.Reads as merge-all-reads
-use Rattle.group.proofs.collapse.find_three.Reads as find-three-reads
+use Rattle.collapse_search.proofs.find.find_three.Reads as find-three-reads
 use Rattle.group.proofs.settle.settle.Reads as settle-reads
-use Rattle.group.proofs.stages.any_merge.Reads as any-merge-reads
-use Rattle.group.proofs.stages.any_single.Reads as any-single-reads
+use Rattle.entries.proofs.stages.any_merge.Reads as any-merge-reads
+use Rattle.entries.proofs.stages.any_single.Reads as any-single-reads
 
 abbrev claims : lts.Claims
 claims = (
@@ -40,8 +40,8 @@ claims = (
   merge-all-reads.Learnt,
   find-three-reads.Asked,
   find-three-reads.Learnt,
-  collapse-at-reads.Asked,
-  collapse-at-reads.Learnt,
+  collapse-reads.Asked,
+  collapse-reads.Learnt,
   settle-reads.Asked,
   settle-reads.Learnt,
 )
@@ -148,8 +148,8 @@ find-three-requires c κs =
     let met = c .before .before .before .before in
     few-entries _ _ _ _ _ (gather2 met .gather .ensures) (begin2 met .pre .2)
 
-collapse-at-requires : tie.Need-collapse-at-requires
-collapse-at-requires c κs =
+collapse-requires : tie.Need-collapse-requires
+collapse-requires c κs =
     let met = c .before .before .before .before .before .before .before .before in
     let pre = begin2 met .pre in
     let two = joined2 met in
@@ -199,7 +199,7 @@ refine-group-spec =
     any-merge-requires
     merge-all-requires
     find-three-requires
-    collapse-at-requires
+    collapse-requires
     settle-requires
     same-length
     same-length-2

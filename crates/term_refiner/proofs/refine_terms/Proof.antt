@@ -1,5 +1,5 @@
 -- `refine_terms` meets its contract: the front door, and then the form.
-use Rattle.semilinear.proofs.ReadLaws.{pass-shut, pass-open, pass-zeros, pass-given}
+use Rattle.atom_table.proofs.ReadLaws.{pass-shut, pass-open, pass-zeros, pass-given}
 use Rattle.term_refiner.specs.RefineTerms.{refineTerms}
 use borrow.Author.Needs.{needs}
 use Rattle.term_refiner.proofs.refine_terms.Statement.{statement}

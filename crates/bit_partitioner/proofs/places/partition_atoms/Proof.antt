@@ -2,7 +2,7 @@
 use mathlib.Core.Path.{sym, _∙_}
 use native.Mathlib.Omega.{arith}
 use denote.Ref.{now}
-use Rattle.bit_partitioner.proofs.IndexLaws.{trees-count}
+use Rattle.profile.proofs.IndexLaws.{trees-count}
 use borrow.Author.Needs.{needs}
 use Rattle.bit_partitioner.proofs.places.partition_atoms.Statement.{statement}
 use Rattle.bit_partitioner.proofs.places.partition_atoms.Tie as tie

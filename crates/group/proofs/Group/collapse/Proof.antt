@@ -2,36 +2,82 @@ use mathlib.Core.Path.{refl}
 use native.Mathlib.Omega.{arith}
 use denote.Ref.{now}
 use Rattle.record.specs.Decode.{decode}
-use Rattle.group.proofs.FindLaws.{found-lent}
-use Rattle.group.proofs.CollapseLaws.{three-collapsible, collapse-same, collapse-met}
+use Rattle.group.proofs.CollapseLaws.{collapsed-stepped}
 use borrow.Author.Needs.{needs}
 use Rattle.group.proofs.Group.collapse.Statement.{statement}
 use Rattle.group.proofs.Group.collapse.Tie as tie
 use Rattle.group.proofs.Group.collapse.Reads as reads
 use Rattle.group.proofs.Group.collapse.Lts as lts
-use Rattle.group.proofs.Group.collapse_at.Reads as collapse-at-reads
-use Rattle.group.proofs.collapse.find_three.Reads as find-three-reads
+use Rattle.made.proofs.create_masked.Reads as create-masked-reads
 
-find-three-requires : tie.Need-find-three-requires
-find-three-requires c κs = search needs
+slice-read-rows : tie.Need-slice-read-rows
+slice-read-rows c = search needs
 
-collapse-at-requires : tie.Need-collapse-at-requires
-collapse-at-requires c κs =
-    let test = c .before .before in
-    let start = test .before .before .before .before .before .before .before .before .before in
-    let pre = start .pre in
-    let found = found-lent (start .args .t1) (test .before .find-three .ensures) in
-    let three = three-collapsible found (test .if1 .taken) in (
-      pre .0,
-      pre .1,
-      pre .2,
-      pre .3,
-      omega (arith, three .i-lt, pre .4),
-      omega (arith, three .j-lt, pre .4),
-      omega (arith, three .k-lt, pre .4),
-      three .k-not-i,
-      three .k-not-j,
-    )
+mul-one : tie.Need-mul-one
+mul-one c = search needs
+
+element-copy-out-one : tie.Need-element-copy-out-one
+element-copy-out-one c = search needs
+
+mul-one-2 : tie.Need-mul-one-2
+mul-one-2 c = search needs
+
+element-copy-out-one-2 : tie.Need-element-copy-out-one-2
+element-copy-out-one-2 c = search needs
+
+mul-two : tie.Need-mul-two
+mul-two c = search needs
+
+element-copy-out-two : tie.Need-element-copy-out-two
+element-copy-out-two c = search needs
+
+mul-two-2 : tie.Need-mul-two-2
+mul-two-2 c = search needs
+
+element-copy-out-two-2 : tie.Need-element-copy-out-two-2
+element-copy-out-two-2 c = search needs
+
+mul-self : tie.Need-mul-self
+mul-self c = search needs
+
+element-write-self : tie.Need-element-write-self
+element-write-self c = search needs
+
+mul-self-2 : tie.Need-mul-self-2
+mul-self-2 c = search needs
+
+element-write-self-2 : tie.Need-element-write-self-2
+element-write-self-2 c = search needs
+
+mul-self-3 : tie.Need-mul-self-3
+mul-self-3 c = search needs
+
+element-write-self-3 : tie.Need-element-write-self-3
+element-write-self-3 c = search needs
+
+add-self : tie.Need-add-self
+add-self c = search needs
+
+mul-self-4 : tie.Need-mul-self-4
+mul-self-4 c = search needs
+
+element-write-self-4 : tie.Need-element-write-self-4
+element-write-self-4 c = search needs
+
+element-write-self-5 : tie.Need-element-write-self-5
+element-write-self-5 c = search needs
+
+create-masked-requires : tie.Need-create-masked-requires
+create-masked-requires c κs =
+    let pre = c .before .before .before .before .before .before .before .before .before .before .pre in
+    (pre .0, pre .1, omega (arith, pre .2), pre .3)
+
+create-masked-requires-2 : tie.Need-create-masked-requires-2
+create-masked-requires-2 c κs =
+    let grown = c .before .before .before .before .before .before in
+    let pre = grown .before .before .before .before .before .before .before .before .before .before .before .pre in
+    let one = grown .create-masked .ensures in
+    (one .room, pre .1, omega (arith, one .later .rows-le, pre .2), pre .3)
 
 same-length : tie.Need-same-length
 same-length c = search needs
@@ -41,19 +87,37 @@ same-length-2 c = search needs
 
 returns : tie.Need-returns
 returns c =
-    let test = c .before .before .before .before .before .before .before in
-    let a = test .before .before .before .before .before .before .before .before .before .args in
-    collapse-met (decode (now (a .b))) (found-lent (a .t1) (test .before .find-three .ensures)) (test .if1 .taken)
-    (c .before .before .before .before .collapse-at .ensures) refl refl refl
-
-returns-2 : tie.Need-returns-2
-returns-2 c =
-    let start = c .before .before .before .before .before .before .before .before .before in
+    let grown = c .before .before .before .before .before .before .before .before .before .before .before in
+    let start = grown .before .before .before .before .before .before .before .before .before .before .before in
     let a = start .args in
-    collapse-same (decode (now (a .b))) (found-lent (a .t1) (c .before .find-three .ensures)) (c .if1 .left)
-    (start .pre .0) refl refl refl
+    collapsed-stepped (a .w) (decode (now (a .b))) (a .i) (a .j) (a .k) (start .pre .7) (start .pre .8)
+    (grown .create-masked .ensures) (c .before .before .before .before .create-masked2 .ensures) refl
 
 pub collapse-spec : {M : Type 1} → statement M
 collapse-spec =
     tie.close
-    (tie.spec find-three-requires collapse-at-requires same-length same-length-2 returns returns-2)
+    (tie.spec
+    slice-read-rows
+    mul-one
+    element-copy-out-one
+    mul-one-2
+    element-copy-out-one-2
+    mul-two
+    element-copy-out-two
+    mul-two-2
+    element-copy-out-two-2
+    mul-self
+    element-write-self
+    mul-self-2
+    element-write-self-2
+    mul-self-3
+    element-write-self-3
+    add-self
+    mul-self-4
+    element-write-self-4
+    element-write-self-5
+    create-masked-requires
+    create-masked-requires-2
+    same-length
+    same-length-2
+    returns)

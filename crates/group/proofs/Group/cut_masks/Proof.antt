@@ -5,7 +5,7 @@ use native.Mathlib.Omega.{arith}
 use lib.ListN.{length}
 use denote.Ref.{now}
 use Rattle.record.specs.Decode.{decode}
-use Rattle.record.specs.Loop.{forIn}
+use Rattle.base.specs.Loop.{forIn}
 use Rattle.group.specs.Steps.{cutAt}
 use Rattle.group.specs.Made.{Stepped}
 use Rattle.group.proofs.SteppedLaws.{loop-none, loop-turn, loop-done}
@@ -14,8 +14,8 @@ use Rattle.group.proofs.Group.cut_masks.Statement.{statement}
 use Rattle.group.proofs.Group.cut_masks.Tie as tie
 use Rattle.group.proofs.Group.cut_masks.Reads as reads
 use Rattle.group.proofs.Group.cut_masks.Lts as lts
-use Rattle.group.proofs.steps.cut_of.Reads as cut-of-reads
-use Rattle.group.proofs.made.create_masked.Reads as create-masked-reads
+use Rattle.entries.proofs.single.cut_of.Reads as cut-of-reads
+use Rattle.made.proofs.create_masked.Reads as create-masked-reads
 
 abbrev Inv-loop : tie.InvT-loop
 Inv-loop b hash w made₀ out₀ self₀ n i₀ made out self i =

@@ -2,15 +2,15 @@ use mathlib.Core.Path.{_≡_, sym, _∙_}
 use mathlib.Core.Logic.{⊎-elim}
 use Prim.Native.Nat.{ℕ, _+_, _-_, _≤_, _<_}
 use native.Mathlib.Omega.{arith}
-use Rattle.record.specs.Loop.{forIn}
-use Rattle.record.proofs.LoopLaws.{for-none, for-turn, for-done}
+use Rattle.base.specs.Loop.{forIn}
+use Rattle.base.proofs.LoopLaws.{for-none, for-turn, for-done}
 use Rattle.group.specs.Steps.{dropAt, dropZero}
 use Rattle.group.proofs.DropLaws.{drop-at-same, drop-at-drop}
 use Rattle.group.proofs.Group.drop_zero.Statement.{statement}
 use Rattle.group.proofs.Group.drop_zero.Tie as tie
 use Rattle.group.proofs.Group.drop_zero.Reads as reads
 use Rattle.group.proofs.Group.drop_zero.Lts as lts
-use Rattle.group.proofs.steps.drops.Reads as drops-reads
+use Rattle.entries.proofs.single.drops.Reads as drops-reads
 
 abbrev Inv-loop : tie.InvT-loop
 Inv-loop w self₀ n i₀ self i = (i ≤ n) × (self ≡ forIn (dropAt w) 0 i self₀)

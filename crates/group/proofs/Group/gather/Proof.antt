@@ -4,12 +4,12 @@ use mathlib.Core.Logic.{⊎-elim}
 use Prim.Native.Nat.{_-_, _≤_}
 use native.Mathlib.Omega.{arith}
 use denote.Ref.{now}
-use Rattle.record.specs.Loop.{forIn}
-use Rattle.record.proofs.LoopLaws.{for-none, for-turn, for-done}
+use Rattle.base.specs.Loop.{forIn}
+use Rattle.base.proofs.LoopLaws.{for-none, for-turn, for-done}
 use Rattle.group.specs.Group.{emptyGroup, pushEntry}
-use Rattle.group.specs.Views.{viewAt}
+use Rattle.views.specs.Views.{viewAt}
 use Rattle.group.specs.Gathered.{gatherAt, gathered}
-use Rattle.group.proofs.HasBasisLaws.{readable-fewer}
+use Rattle.views.proofs.HasBasisLaws.{readable-fewer}
 use Rattle.group.proofs.GatherLaws.{gather-same, gather-push, few-entries}
 use Rattle.group.proofs.Group.gather.Statement.{statement}
 use Rattle.group.proofs.Group.gather.Tie as tie

@@ -2,8 +2,8 @@ use mathlib.Core.Path.{_≡_, sym, _∙_}
 use mathlib.Core.Logic.{⊎-elim}
 use Prim.Native.Nat.{_-_, _≤_}
 use native.Mathlib.Omega.{arith}
-use Rattle.record.specs.Loop.{forIn}
-use Rattle.record.proofs.LoopLaws.{for-none, for-turn, for-done}
+use Rattle.base.specs.Loop.{forIn}
+use Rattle.base.proofs.LoopLaws.{for-none, for-turn, for-done}
 use Rattle.group.specs.Steps.{minusOneAt, toMinusOne}
 use Rattle.group.proofs.NegateLaws.{negate-at-same, negate-at-negate}
 use Rattle.group.proofs.Group.to_minus_one.Statement.{statement}
@@ -11,7 +11,7 @@ use Rattle.group.proofs.Group.to_minus_one.Tie as tie
 use Rattle.group.proofs.Group.to_minus_one.Reads as reads
 use Rattle.group.proofs.Group.to_minus_one.Lts as lts
 use Rattle.arith.proofs.bitmask.Reads as bitmask-reads
-use Rattle.group.proofs.steps.negates.Reads as negates-reads
+use Rattle.entries.proofs.single.negates.Reads as negates-reads
 
 abbrev Inv-loop : tie.InvT-loop
 Inv-loop w self₀ n minus i₀ self i = (i ≤ n) × (self ≡ forIn (minusOneAt w) 0 i self₀)

@@ -5,8 +5,8 @@ use Prim.Native.Nat.{_-_, _≤_}
 use native.Mathlib.Omega.{arith}
 use denote.Ref.{now}
 use lib.ListN.{length}
-use Rattle.record.specs.Loop.{forIn}
-use Rattle.record.proofs.LoopLaws.{for-none, for-turn, for-done}
+use Rattle.base.specs.Loop.{forIn}
+use Rattle.base.proofs.LoopLaws.{for-none, for-turn, for-done}
 use Rattle.group.specs.Gathered.{settleWordAt, settleWords}
 use Rattle.group.proofs.SettleWordsLaws.{word-consumed, word-live, length-settle}
 use Rattle.group.proofs.settle.settle.Statement.{statement}

@@ -3,7 +3,7 @@ use mathlib.Core.Path.{ap, _∙_}
 use Prim.Native.Nat.{ℕ}
 use native.Mathlib.Omega.{arith}
 use lib.ListN.{replicate}
-use Rattle.record.proofs.PutLaws.{padded-nil}
+use Rattle.base.proofs.PutLaws.{padded-nil}
 use Rattle.semilinear_normalizer.proofs.WrittenLaws.{table-placed, index-room, gives-collected}
 use borrow.Author.Needs.{needs}
 use Rattle.semilinear_normalizer.proofs.form.write_form.Statement.{statement}

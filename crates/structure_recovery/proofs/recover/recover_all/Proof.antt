@@ -5,9 +5,9 @@ use Prim.Native.Nat.{_-_, _≤_}
 use native.Mathlib.Omega.{arith}
 use Rattle.semilinear.specs.Items.{afterAtoms}
 use Rattle.semilinear.specs.DecodeForm.{rowsOf}
-use Rattle.group.specs.Group.{anyBasis, basesOf}
+use Rattle.views.specs.Grouping.{anyBasis, basesOf}
 use Rattle.group.proofs.PassLaws.{readable-at, count-few, count-room, next-at, end-at, group-at}
-use Rattle.group.proofs.WordsLaws.{is-full, not-full}
+use Rattle.made.proofs.WordsLaws.{is-full, not-full}
 use Rattle.structure_recovery.proofs.AllRecoveredLaws.{Going, going-start, going-next, going-stop, going-done}
 use Rattle.structure_recovery.proofs.recover.recover_all.Statement.{statement}
 use Rattle.structure_recovery.proofs.recover.recover_all.Tie as tie

@@ -1,8 +1,8 @@
 -- `recover_at` meets its contract: the words of the row name the basis.
 use denote.Ref.{now}
 use borrow.Author.Needs.{needs}
-use Rattle.group.specs.Views.{viewAt, basisBytes}
-use Rattle.group.proofs.LoneLaws.{own-basis}
+use Rattle.views.specs.Views.{viewAt, basisBytes}
+use Rattle.lone.proofs.LoneLaws.{own-basis}
 use Rattle.structure_recovery.proofs.GroupRecoveredLaws.{lone-recovered}
 use Rattle.structure_recovery.proofs.recover.recover_at.Statement.{statement}
 use Rattle.structure_recovery.proofs.recover.recover_at.Tie as tie

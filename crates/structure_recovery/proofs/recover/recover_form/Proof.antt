@@ -2,7 +2,7 @@
 use mathlib.Core.Path.{refl}
 use denote.Ref.{now}
 use native.Mathlib.Omega.{arith}
-use Rattle.record.proofs.PutLaws.{padded-nil}
+use Rattle.base.proofs.PutLaws.{padded-nil}
 use Rattle.semilinear.proofs.ValidLaws.{semilinear-parts}
 use Rattle.group.proofs.PassLaws.{pass-begin}
 use Rattle.structure_recovery.proofs.RecoverEndLaws.{recover-room, recover-end}

@@ -6,9 +6,9 @@ use denote.Ref.{now}
 use Rattle.arith.proofs.WidthLaws.{bitmask-ones}
 use Rattle.record.specs.Decode.{decode}
 use Rattle.group.proofs.PassLaws.{few-entries}
-use Rattle.structure_recovery.specs.RecoverStructure.{recoverGroup}
-use Rattle.structure_recovery.specs.Recovering.{Recovered}
-use Rattle.group.proofs.WordsLaws.{is-full}
+use Rattle.structure_laws.specs.RecoverStructure.{recoverGroup}
+use Rattle.recover_pair.specs.Recovering.{Recovered}
+use Rattle.made.proofs.WordsLaws.{is-full}
 use Rattle.structure_recovery.proofs.GroupRecoveredLaws.{recovered-none, recovered-met, group-past, group-settled}
 use borrow.Author.Needs.{needs}
 use Rattle.structure_recovery.proofs.recover.recover_group.Statement.{statement}
@@ -18,8 +18,8 @@ use Rattle.structure_recovery.proofs.recover.recover_group.Lts as lts
 use Rattle.arith.proofs.bitmask.Reads as bitmask-reads
 use Rattle.group.proofs.Group.gather.Reads as gather-reads
 use Rattle.group.proofs.settle.settle.Reads as settle-reads
-use Rattle.structure_recovery.proofs.pair.any_partner.Reads as any-partner-reads
-use Rattle.structure_recovery.proofs.pair.recover_entries.Reads as recover-entries-reads
+use Rattle.recover_pair.proofs.pair.any_partner.Reads as any-partner-reads
+use Rattle.recover_pair.proofs.pair.recover_entries.Reads as recover-entries-reads
 
 abbrev claims : lts.Claims
 claims = (

@@ -3,7 +3,7 @@ use mathlib.Core.Path.{ap, _∙_}
 use mathlib.Core.List.{[]}
 use native.Mathlib.Omega.{arith}
 use lib.ListN.{length}
-use Rattle.record.proofs.PutLaws.{length-padded}
+use Rattle.base.proofs.PutLaws.{length-padded}
 use Rattle.group.proofs.PassLaws.{read-count, read-readable, first-same}
 use Rattle.structure_recovery.proofs.AllRecoveredLaws.{read-any, rows-recovered}
 use borrow.Author.Needs.{needs}

@@ -1,6 +1,6 @@
 -- `recover_structure` meets its contract: the front door, and then the form.
-use Rattle.semilinear.proofs.ReadLaws.{pass-shut, pass-open, pass-zeros, pass-given}
-use Rattle.structure_recovery.specs.RecoverStructure.{recoverStructure}
+use Rattle.atom_table.proofs.ReadLaws.{pass-shut, pass-open, pass-zeros, pass-given}
+use Rattle.structure_laws.specs.RecoverStructure.{recoverStructure}
 use borrow.Author.Needs.{needs}
 use Rattle.structure_recovery.proofs.recover.recover_structure.Statement.{statement}
 use Rattle.structure_recovery.proofs.recover.recover_structure.Tie as tie

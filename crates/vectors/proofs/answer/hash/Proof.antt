@@ -1,7 +1,7 @@
 -- `vectors::answer::hash` is safe: what `structural_hash` requires follows from the refusal being 0.
 use mathlib.Core.Path.{sym, _∙_}
 use borrow.Author.Needs.{needs}
-use Rattle.expr.proofs.RefusalLaws.{sized-accepted}
+use Rattle.expr_refusal.proofs.RefusalLaws.{sized-accepted}
 use Rattle.expr.proofs.ExprValueLaws.{accepted-tree}
 use Rattle.vectors.proofs.answer.hash.Statement.{statement}
 use Rattle.vectors.proofs.answer.hash.Tie as tie

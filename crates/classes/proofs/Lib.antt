@@ -1,0 +1,3 @@
+-- The laws of the definitions, for the crates above.
+pub mod ClassWordsLaws
+pub mod JoinLaws

@@ -1,0 +1,92 @@
+-- `coalesce_form` meets its contract: the copied table, its rows coalesced, and the end of a pass.
+use denote.Ref.{now}
+use native.Mathlib.Omega.{arith}
+use Rattle.base.proofs.PutLaws.{padded-nil}
+use Rattle.semilinear.proofs.ValidLaws.{semilinear-parts}
+use Rattle.group.proofs.PassLaws.{pass-begin}
+use Rattle.coalesce.proofs.CoalescedLaws.{coalesce-room, coalesce-end}
+use borrow.Author.Needs.{needs}
+use Rattle.coalesce.proofs.coalesce_form.Statement.{statement}
+use Rattle.coalesce.proofs.coalesce_form.Tie as tie
+
+width-requires : tie.Need-width-requires
+width-requires c κs = semilinear-parts _ (c .before .before .pre .0) .0 .big
+
+literal-requires : tie.Need-literal-requires
+literal-requires c κs = semilinear-parts _ (c .before .before .before .pre .0) .0 .big
+
+copy-atoms-requires : tie.Need-copy-atoms-requires
+copy-atoms-requires c κs = search needs
+
+body-requires : tie.Need-body-requires
+body-requires c κs = search needs
+
+slice-aggregate-coalesce-table : tie.Need-slice-aggregate-coalesce-table
+slice-aggregate-coalesce-table c = search needs
+
+slice-aggregate-coalesce-table-2 : tie.Need-slice-aggregate-coalesce-table-2
+slice-aggregate-coalesce-table-2 c = search needs
+
+coalesce-table-requires : tie.Need-coalesce-table-requires
+coalesce-table-requires c κs =
+    let at-body = c .before .before .before in
+    let at-copy = at-body .before .before .before in
+    let at-width = at-copy .before .before .before in
+    let at-known = at-width .before .before in
+    let at-start = at-known .before in
+    let p =
+    pass-begin (now (at-start .args .s)) (λ i. at-known .shared-slice-known .given i .fits) (at-start .pre .0)
+    (at-width .width .ensures) (at-body .body .ensures) (at-copy .copy-atoms .ensures) in
+    (p .0, p .1, p .2, p .3, p .4, padded-nil 256, p .5, p .6)
+
+slice-aggregate-load : tie.Need-slice-aggregate-load
+slice-aggregate-load c = search needs
+
+load-requires : tie.Need-load-requires
+load-requires c κs = search needs
+
+slice-aggregate-finish : tie.Need-slice-aggregate-finish
+slice-aggregate-finish c = search needs
+
+finish-requires : tie.Need-finish-requires
+finish-requires c κs =
+    let at-table = c .before .before .before .before .before .before .before .before in
+    let at-copy = at-table .before .before .before .before .before .before .before in
+    let p =
+    coalesce-room (at-table .coalesce-table .ensures) (c .before .before .load .ensures) (at-copy .copy-atoms .ensures .long) in
+    (p .0, p .1, p .2, omega arith, omega arith)
+
+same-length : tie.Need-same-length
+same-length c = search needs
+
+returns : tie.Need-returns
+returns c =
+    let at-table = c .before .before .before .before .before .before .before .before .before .before .before in
+    let at-body = at-table .before .before .before .before in
+    let at-copy = at-body .before .before .before in
+    let at-literal = at-copy .before .before in
+    let at-width = at-literal .before in
+    let at-known = at-width .before .before in
+    let at-start = at-known .before in
+    coalesce-end (now (at-start .args .s)) (λ i. at-known .shared-slice-known .given i .fits) (at-start .pre .0)
+    (at-width .width .ensures) (at-literal .literal .ensures) (at-body .body .ensures) (at-copy .copy-atoms .ensures)
+    (at-table .coalesce-table .ensures) (c .before .before .before .before .before .load .ensures)
+    (c .before .before .finish .result) (c .before .before .finish .ensures)
+
+pub coalesce-form-spec : {M : Type 1} → statement M
+coalesce-form-spec =
+    tie.close
+    (tie.spec
+    width-requires
+    literal-requires
+    copy-atoms-requires
+    body-requires
+    slice-aggregate-coalesce-table
+    slice-aggregate-coalesce-table-2
+    coalesce-table-requires
+    slice-aggregate-load
+    load-requires
+    slice-aggregate-finish
+    finish-requires
+    same-length
+    returns)

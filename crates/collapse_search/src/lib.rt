@@ -1,0 +1,3 @@
+// The three entries of a collapse: the third is found along links.
+pub mod find;
+pub mod links;

@@ -1,0 +1,3 @@
+-- The definitions of this crate.
+pub mod Basis
+pub mod Decompose

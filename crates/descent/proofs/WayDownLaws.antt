@@ -1,0 +1,188 @@
+-- The descent from a spot of the file (specs/Sides.antt, WayDown): where it ends, the smaller spots to which it goes,
+-- and that what is collected there makes up what is collected here. `Going` is what the loop of `collect_terms` keeps.
+use mathlib.Core.Path.{_≡_, refl, ap, sym, _∙_}
+use Prim.Native.Nat.{ℕ, _^_, _≤_, _<_}
+use native.Mathlib.Omega.{arith}
+use mathlib.Core.List.{List}
+use mathlib.Core.Bool.{true, false}
+use lib.ListN.{length}
+use lib.Dec.{eqb}
+use borrow.Author.Tests.{eqb-false}
+use Rattle.record.specs.Fields.{kind, size}
+use Rattle.record.specs.Tree.{sizeOf}
+use Rattle.base.proofs.BoolLaws.{false-true}
+use Rattle.expr_utils.specs.Utils.{hasVarDep}
+use Rattle.descent.specs.declared.side.Spot.{Spot}
+use Rattle.descent.specs.declared.side.Side.{Side}
+use Rattle.descent.specs.declared.side.Way.{Way}
+use Rattle.descent.specs.declared.collect.Descent.{Descent}
+use Rattle.normalizer_laws.specs.Collect.{collectTerms}
+use Rattle.descent.specs.Spots.{spanOf, Accepted, Collects, Ready}
+use Rattle.descent.specs.Sides.{treeAt, sideTree, AtSpot, leftSide, rightSide, WayOf, Ends, WayDown}
+use Rattle.descent.specs.Sides.{none, sum, other, collectLiteral}
+use Rattle.descent.proofs.DescentLaws.{Down, down-spot, down-falls, down-ready}
+use Rattle.descent.proofs.AddLaws.{down-left, down-right, ready-right, sum-then, sum-stop}
+use Rattle.descent.proofs.WayOnLaws.{down-way, way-whole, way-goes, way-literal, ready-masked}
+use Rattle.descent.proofs.WayOnLaws.{way-masked-stop, way-masked-then}
+
+-- all that is collected at the spot x
+abbrev pub AllOf : ℕ → List ℕ → Spot → List ℕ → Descent → List ℕ → Descent → Type 0
+AllOf w file x a d b e =
+    Collects w file (sizeOf (treeAt file x)) (collectTerms w (x .coeff) (treeAt file x)) a d b e
+
+-- the spot of a side b under a coefficient c
+abbrev pub SpotOf : ℕ → Side → Spot → Type 0
+SpotOf c b y = y ≡ record { coeff = c; start = b .start; end = b .end }
+
+module _ {w : ℕ} {file marks : List ℕ} {x : Spot} (at : AtSpot w file marks x) {b : Way}
+    (way : WayDown w file marks x b) where
+  abbrev Here : Type 0
+  Here = WayDown w file marks x b
+
+  abbrev k : ℕ
+  k = kind (spanOf file (x .start) (x .end))
+
+  pub down-ends : b .found ≡ false → Ends w (x .coeff) (treeAt file x)
+  down-ends e = go way
+    where
+      go : Here → Ends w (x .coeff) (treeAt file x)
+      go (none f q) = q
+      go (sum two hc hv s) = false-true (sym e ∙ ap (λ (z : Way). z .found) s)
+      go (other n hc hv o) = λ _ _. way-whole at o e
+
+  pub down-child : b .found ≡ true → Down w file marks x (b .child)
+  down-child e = go way
+    where
+      go : Here → Down w file marks x (b .child)
+      go (none f q) = false-true (sym f ∙ e)
+      go (sum two hc hv s) = down-left at two (ap (λ (z : Way). z .child) s)
+      go (other n hc hv o) = down-way at o e
+
+  -- what is collected at the child y
+  module _ (found : b .found ≡ true) (hw : w ≤ 64) {y : Spot} (ey : SpotOf (b .coeff) (b .child) y)
+      {a : List ℕ} {d : Descent} {f : List ℕ} {e : Descent} (first : AllOf w file y a d f e) where
+    pub down-goes : b .more ≡ false → AllOf w file x a d f e
+    down-goes last = go way
+      where
+        go : Here → AllOf w file x a d f e
+        go (none f q) = false-true (sym f ∙ found)
+        go (sum two hc hv s) = false-true (sym last ∙ ap (λ (z : Way). z .more) s)
+        go (other n hc hv o) = way-goes at o found hw ey first last
+
+    module _ (more : b .more ≡ true) where
+      -- y is the left side of a sum
+      left-spot : b ≡ record { found = true; more = true; coeff = x .coeff; child = leftSide file x }
+          → SpotOf (x .coeff) (b .child) y
+      left-spot s =
+          ey ∙ ap (λ (c : ℕ). record { coeff = c; start = b .child .start; end = b .child .end })
+          (ap (λ (z : Way). z .coeff) s)
+
+      pub down-stop : e .linear ≡ false → AllOf w file x a d f e
+      down-stop lin = go way
+        where
+          go : Here → AllOf w file x a d f e
+          go (none f q) = false-true (sym f ∙ found)
+          go (sum two hc hv s) = sum-stop at two hw (ap (λ (z : Way). z .child) s) (left-spot s) first hc hv lin
+          go (other n hc hv o) = way-masked-stop at o found hw ey first more lin
+
+      -- the And of the child and a literal
+      module _ (not-sum : k ≡ 2 → ⊥) where
+        literal-way : WayOf w file marks k (x .coeff) (treeAt file x) b
+        literal-way = go way
+          where
+            go : Here → WayOf w file marks k (x .coeff) (treeAt file x) b
+            go (none f q) = false-true (sym f ∙ found)
+            go (sum two hc hv s) = absurd (not-sum two)
+            go (other n hc hv o) = o
+
+        pub record Literal : Type 0 where
+          pub side : Accepted w file (b .child .start) (b .child .end)
+          pub value-lt : b .child .value < 2 ^ w
+          pub variable : hasVarDep (sideTree file (b .child)) ≡ true
+
+        pub down-literal : Literal
+        down-literal =
+            let l = way-literal at literal-way found hw ey first more in
+            record { side = l .side; value-lt = l .value-lt; variable = l .variable }
+
+        pub down-ready-literal : Ready w (sizeOf (treeAt file x)) a d → e .linear ≡ true → Ready w 1 f e
+        down-ready-literal ready lin = ready-masked at literal-way found hw ey first more ready lin
+
+        pub down-masked : {j : ℕ} → j ≡ k → {g : List ℕ} {r : Descent}
+            → Collects w file 1 (collectLiteral w j (x .coeff) (sideTree file (b .child)) (b .child .value)) f e g r
+            → AllOf w file x a d g r
+        down-masked ek second = way-masked-then at literal-way found hw ey first more (rw ek at second)
+
+      -- the right side of a sum
+      module _ (two : k ≡ 2) {r : Side} (er : r ≡ rightSide file marks x) {z : Spot} (ez : SpotOf (x .coeff) r z) where
+        left-way : (eqb (x .coeff) 0 ≡ false) × (hasVarDep (treeAt file x) ≡ true)
+            × (b ≡ record { found = true; more = true; coeff = x .coeff; child = leftSide file x })
+        left-way = go way
+          where
+            go : Here → (eqb (x .coeff) 0 ≡ false) × (hasVarDep (treeAt file x) ≡ true)
+                × (b ≡ record { found = true; more = true; coeff = x .coeff; child = leftSide file x })
+            go (none f q) = false-true (sym f ∙ found)
+            go (sum t hc hv s) = (hc, hv, s)
+            go (other n hc hv o) = absurd (eqb-false k 2 n two)
+
+        pub down-ready-right : Ready w (sizeOf (treeAt file x)) a d → e .linear ≡ true
+            → Ready w (sizeOf (treeAt file z)) f e
+        down-ready-right ready lin =
+            let s = left-way .2 in
+            ready-right at two hw (ap (λ (z : Way). z .child) s) (left-spot s) first er ez ready lin
+
+        pub down-sum : {g : List ℕ} {h : Descent} → AllOf w file z f e g h → AllOf w file x a d g h
+        down-sum second =
+            let s = left-way .2 in
+            sum-then at two hw (ap (λ (z : Way). z .child) s) (left-spot s) first er ez (left-way .0) (left-way .1)
+            second
+
+-- ---- the loop
+
+-- from the spot x, over the words a and the descent d, to the spot y, over the words b and the descent e: what is
+-- collected at y makes up all that is collected at x
+pub record Going (w : ℕ) (file : List ℕ) (x : Spot) (a : List ℕ) (d : Descent) (marks : List ℕ) (y : Spot) (b : List ℕ)
+    (e : Descent) : Type 0 where
+  pub at : AtSpot w file marks y
+  pub ready : Ready w (sizeOf (treeAt file y)) b e
+  pub falls : size (spanOf file (y .start) (y .end)) ≤ size (spanOf file (x .start) (x .end))
+  pub same-length : length b ≡ length a
+  pub rest : {c : List ℕ} {r : Descent} → AllOf w file y b e c r → AllOf w file x a d c r
+
+pub going-start : {w : ℕ} {file marks : List ℕ} {x : Spot} {a : List ℕ} {d : Descent} → AtSpot w file marks x
+    → Ready w (sizeOf (treeAt file x)) a d → Going w file x a d marks x a d
+going-start at ready =
+    record { at = at; ready = ready; falls = omega arith; same-length = refl; rest = λ h. h }
+
+module _ {w : ℕ} {file : List ℕ} {x : Spot} {a : List ℕ} {d : Descent} {marks : List ℕ} {y : Spot} {b : List ℕ}
+    {e : Descent} (going : Going w file x a d marks y b e) {way : Way} (down : WayDown w file marks y way)
+    (found : way .found ≡ true) {z : Spot} (ez : SpotOf (way .coeff) (way .child) z) where
+  abbrev inner : Down w file marks y (way .child)
+  inner = down-child (going .at) down found
+
+  -- to the child
+  pub going-child : way .more ≡ false → {m : List ℕ} → m ≡ spanOf marks (way .child .from) (way .child .to)
+      → Going w file x a d m z b e
+  going-child last em =
+      record {
+        at = down-spot (going .at) inner ez em;
+        ready = down-ready (going .at) inner ez (going .ready);
+        falls = omega (arith, down-falls (going .at) inner ez, going .falls);
+        same-length = going .same-length;
+        rest = λ h. going .rest (down-goes (going .at) down found (going .ready .width) ez h last);
+      }
+
+  -- to the right side of a sum
+  pub going-right : way .more ≡ true → kind (spanOf file (y .start) (y .end)) ≡ 2 → {f : List ℕ} {g : Descent}
+      → AllOf w file z b e f g → g .linear ≡ true → {r : Side} → r ≡ rightSide file marks y → {v : Spot}
+      → SpotOf (y .coeff) r v → {m : List ℕ} → m ≡ spanOf marks (r .from) (r .to) → Going w file x a d m v f g
+  going-right more two first lin er ev em =
+      let side = down-right (going .at) two er in
+      let hw = going .ready .width in
+      record {
+        at = down-spot (going .at) side ev em;
+        ready = down-ready-right (going .at) down found hw ez first more two er ev (going .ready) lin;
+        falls = omega (arith, down-falls (going .at) side ev, going .falls);
+        same-length = first .same-length ∙ going .same-length;
+        rest = λ h. going .rest (down-sum (going .at) down found hw ez first more two er ev h);
+      }

@@ -1,0 +1,4 @@
+-- The definitions of this crate.
+pub mod Marks
+pub mod Sides
+pub mod Spots

@@ -1,0 +1,41 @@
+-- What the descent asks of every subtree, as one number for each record, the subtree's root, in the order of the
+-- records.
+use Prim.Native.Nat.{ℕ, _+_, _%_}
+use mathlib.Core.Path.{_≡_}
+use mathlib.Core.List.{List, [], _∷_, _++_}
+use mathlib.Core.Bool.{Bool}
+use lib.Dec.{eqb, ltb}
+use Rattle.base.specs.Choice.{when}
+use Rattle.record.specs.Tree.{Tree}
+use Rattle.record.specs.Tree.Tree.{Constant, Variable, Unary, Binary}
+use Rattle.base.specs.Put.{put}
+use Rattle.expr_utils.specs.declared.Traits.{Traits}
+use Rattle.expr_utils.specs.Utils.{hasVarDep, hasArith, traitsOf}
+
+-- 1 for a variable, and 2 more for an Add, a Mul or a Neg
+unfoldable pub markNumber : Bool → Bool → ℕ
+markNumber variable arith = when variable (λ _. 1) (λ _. 0) + when arith (λ _. 2) (λ _. 0)
+
+-- the mark of a tree's root
+unfoldable pub markOf : Tree → ℕ
+markOf t = markNumber (hasVarDep t) (hasArith t)
+
+-- the mark says that there is a variable
+unfoldable pub markVariable : ℕ → Bool
+markVariable m = eqb (m % 2) 1
+
+-- the mark says that there is an Add, a Mul or a Neg
+unfoldable pub markArith : ℕ → Bool
+markArith m = ltb 1 m
+
+-- the marks of a tree's records
+unfoldable pub marksOf : Tree → List ℕ
+marksOf (Constant v) = markOf (Constant v) ∷ []
+marksOf (Variable i) = markOf (Variable i) ∷ []
+marksOf (Unary k a t) = marksOf t ++ (markOf (Unary k a t) ∷ [])
+marksOf (Binary k l r) = (marksOf l ++ marksOf r) ++ (markOf (Binary k l r) ∷ [])
+
+-- the marks of the tree t are put from `at` on, and r is what it holds
+pub record Marked (t : Tree) (at : ℕ) (before after : List ℕ) (r : Traits) : Type 0 where
+  pub traits : r ≡ traitsOf t
+  pub written : after ≡ put before at (marksOf t)

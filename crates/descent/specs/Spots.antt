@@ -1,0 +1,86 @@
+-- The descent as the code runs it: atoms are named by the bytes of the file that hold their trees, in lent words, five
+-- to an atom; a view gives what they stand for.
+use mathlib.Core.Path.{_≡_}
+use Prim.Native.Nat.{ℕ, zero, suc, _+_, _-_, _*_, _^_, _≤_, _<_}
+use mathlib.Core.List.{List, [], _∷_, _++_}
+use mathlib.Core.Bool.{true}
+use lib.ListN.{length, getD, take, drop}
+use lib.Dec.{eqb}
+use Rattle.base.specs.Choice.{when}
+use Rattle.record.specs.Tree.{Tree}
+use Rattle.record.specs.Tree.Tree.{Constant, Binary}
+use Rattle.record.specs.Decode.{decode}
+use Rattle.base.specs.Put.{put}
+use Rattle.expr_refusal.specs.Refusal.{treeRefusal}
+use Rattle.descent.specs.declared.collect.Descent.{Descent}
+use Rattle.normalizer_laws.specs.Collect.{Emitted, Collected, nonlinear, linear, joinCollected}
+
+-- ---- the words
+
+-- the bytes from start to end
+unfoldable pub spanOf : List ℕ → ℕ → ℕ → List ℕ
+spanOf file start end = take (end - start) (drop start file)
+
+-- the words of an atom: the coefficient, where a subtree stands in the file, and whether a literal belongs to it
+unfoldable pub spotWords : ℕ → ℕ → ℕ → ℕ → ℕ → List ℕ
+spotWords c start end masked literal = c ∷ start ∷ end ∷ masked ∷ literal ∷ []
+
+-- the tree that they stand for: the subtree, or the And of it and the literal
+unfoldable pub spotTree : Tree → ℕ → ℕ → Tree
+spotTree t masked literal = when (eqb masked 0) (λ _. t) (λ _. Binary 4 t (Constant literal))
+
+-- the atom of number i
+unfoldable pub spotAt : List ℕ → List ℕ → ℕ → Emitted
+spotAt file words i =
+    record {
+      coeff = getD words (5 * i) 0;
+      tree =
+          spotTree (decode (spanOf file (getD words (5 * i + 1) 0) (getD words (5 * i + 2) 0)))
+          (getD words (5 * i + 3) 0) (getD words (5 * i + 4) 0);
+    }
+
+-- the first n atoms
+unfoldable pub spotsIn : List ℕ → List ℕ → ℕ → List Emitted
+spotsIn file words zero = []
+spotsIn file words (suc n) = spotsIn file words n ++ (spotAt file words n ∷ [])
+
+-- what a descent has collected so far
+unfoldable pub collectedIn : List ℕ → List ℕ → Descent → Collected
+collectedIn file words d =
+    when (d .linear) (λ _. linear (d .constant) (spotsIn file words (d .count))) (λ _. nonlinear)
+
+-- a part of the file that holds an accepted tree of width w
+pub record Accepted (w : ℕ) (file : List ℕ) (start end : ℕ) : Type 0 where
+  pub rising : start ≤ end
+  pub inside : end ≤ length file
+  pub tree : treeRefusal w (spanOf file start end) ≡ 0
+
+-- each of the first n atoms names such a part, and its literal has w bits
+abbrev pub SpotsOk : ℕ → List ℕ → List ℕ → ℕ → Type 0
+SpotsOk w file words n =
+    (i : ℕ) → i < n
+    → Accepted w file (getD words (5 * i + 1) 0) (getD words (5 * i + 2) 0) × (getD words (5 * i + 4) 0 < 2 ^ w)
+
+-- ---- the steps
+
+-- a step from d to r, over words before and after, collects x of a tree of n records
+pub record Collects (w : ℕ) (file : List ℕ) (n : ℕ) (x : Collected) (before : List ℕ) (d : Descent) (after : List ℕ)
+    (r : Descent) : Type 0 where
+  pub collected : collectedIn file after r ≡ joinCollected w (collectedIn file before d) x
+  pub few : r .count ≤ d .count + n
+  pub fits : r .constant < 2 ^ w
+  pub spots : SpotsOk w file before (d .count) → SpotsOk w file after (r .count)
+  pub same-length : length after ≡ length before
+
+-- one atom more, and the constant is now n
+pub record Pushed (n c start end masked literal : ℕ) (before : List ℕ) (d : Descent) (after : List ℕ) (r : Descent)
+    : Type 0 where
+  pub state : r ≡ record { linear = d .linear; constant = n; count = d .count + 1 }
+  pub written : after ≡ put before (5 * d .count) (spotWords c start end masked literal)
+
+-- what a step asks of where it is: all linear so far, and room for n atoms more
+pub record Ready (w : ℕ) (n : ℕ) (words : List ℕ) (d : Descent) : Type 0 where
+  pub width : w ≤ 64
+  pub linear : d .linear ≡ true
+  pub fits : d .constant < 2 ^ w
+  pub room : 5 * (d .count + n) ≤ length words

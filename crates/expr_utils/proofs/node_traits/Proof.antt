@@ -1,0 +1,35 @@
+-- `node_traits` meets its contract: each trait is the root's or the children's.
+use Rattle.expr_utils.specs.Utils.{nodeTraits}
+use borrow.Author.Needs.{needs}
+use Rattle.expr_utils.proofs.node_traits.Statement.{statement}
+use Rattle.expr_utils.proofs.node_traits.Tie as tie
+
+either-requires : tie.Need-either-requires
+either-requires c κs = search needs
+
+is-arith-requires : tie.Need-is-arith-requires
+is-arith-requires c κs = search needs
+
+either-requires-2 : tie.Need-either-requires-2
+either-requires-2 c κs = search needs
+
+constant-arith-at-requires : tie.Need-constant-arith-at-requires
+constant-arith-at-requires c κs = search needs
+
+either-requires-3 : tie.Need-either-requires-3
+either-requires-3 c κs = search needs
+
+returns : tie.Need-returns
+unfolding nodeTraits
+returns c = cc
+
+pub node-traits-spec : {M : Type 1} → statement M
+node-traits-spec =
+    tie.close
+    (tie.spec
+    either-requires
+    is-arith-requires
+    either-requires-2
+    constant-arith-at-requires
+    either-requires-3
+    returns)

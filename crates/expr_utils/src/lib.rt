@@ -1,0 +1,164 @@
+// Tests of a tree, found together in one walk.
+ghost use mathlib.Core.Path.{_≡_};
+ghost use mathlib.Core.Bool.{true, not, _&&_, _||_};
+ghost use Prim.Native.Nat.{ℕ, _<_, _≤_};
+ghost use lib.ListN.{length};
+ghost use Rattle.record.specs.Span.{sized};
+ghost use Rattle.record.specs.Decode.{leaf, decode};
+ghost use Rattle.expr_utils.specs.Utils.{isArith, isBitwise, isConstantSubtree, hasVarDep, hasConstantArith, traitsOf, joinTraits, nodeTraits};
+ghost use Rattle.base.specs.Limits.{recordLength};
+
+// What a tree holds: a variable, a literal, a Shr, an Add, Mul or Neg, and one of these three
+// below a variable-free And, Or, Xor or Not (refusal 7).
+pub struct Traits {
+    pub variable: bool,
+    pub literal: bool,
+    pub shr: bool,
+    pub arith: bool,
+    pub refused: bool,
+}
+
+pub fn either(a: bool, b: bool) -> bool
+    ensures { λ r. ⌜ r ≡ a || b ⌝ }
+{
+    if a {
+        return true;
+    }
+    b
+}
+
+pub fn is_arith(k: u8) -> bool
+    ensures { λ r. ⌜ r ≡ isArith k ⌝ }
+{
+    match k {
+        2 => true,
+        3 => true,
+        8 => true,
+        _ => false,
+    }
+}
+
+fn is_bitwise(k: u8) -> bool
+    ensures { λ r. ⌜ r ≡ isBitwise k ⌝ }
+{
+    if 3 < k {
+        return k < 8;
+    }
+    false
+}
+
+// Refusal 7 at a root of kind k.
+fn constant_arith_at(k: u8, variable: bool, arith: bool) -> bool
+    ensures { λ r. ⌜ r ≡ isBitwise k && (not variable && arith) ⌝ }
+{
+    if !is_bitwise(k) {
+        return false;
+    }
+    if variable {
+        return false;
+    }
+    arith
+}
+
+// What two children hold together.
+pub fn join_traits(x: Traits, y: Traits) -> Traits
+    ensures { λ r. ⌜ r ≡ joinTraits x y ⌝ }
+{
+    let variable = either(x.variable, y.variable);
+    let literal = either(x.literal, y.literal);
+    let shr = either(x.shr, y.shr);
+    let arith = either(x.arith, y.arith);
+    let refused = either(x.refused, y.refused);
+    Traits {
+        variable: variable,
+        literal: literal,
+        shr: shr,
+        arith: arith,
+        refused: refused,
+    }
+}
+
+// What a root of kind k adds to what its children hold.
+pub fn node_traits(k: u8, x: Traits) -> Traits
+    ensures { λ r. ⌜ r ≡ nodeTraits k x ⌝ }
+{
+    let shr = either(k == 9, x.shr);
+    let arith = either(is_arith(k), x.arith);
+    let here = constant_arith_at(k, x.variable, x.arith);
+    let refused = either(here, x.refused);
+    Traits {
+        variable: x.variable,
+        literal: x.literal,
+        shr: shr,
+        arith: arith,
+        refused: refused,
+    }
+}
+
+// What a root without children holds.
+pub fn leaf_traits(t: &[u8]) -> Traits
+    requires { ⌜ recordLength ≤ length (now t) ⌝ }
+    ensures { λ r. ⌜ r ≡ traitsOf (leaf (now (t .entry))) ⌝ }
+{
+    if record::kind(t) == 0 {
+        return Traits {
+            variable: false,
+            literal: true,
+            shr: false,
+            arith: false,
+            refused: false,
+        };
+    }
+    Traits {
+        variable: true,
+        literal: false,
+        shr: false,
+        arith: false,
+        refused: false,
+    }
+}
+
+// What the tree of t holds.
+pub fn traits_of(t: &[u8]) -> Traits
+    requires { ⌜ sized (now t) ≡ true ⌝ }
+    ensures { λ r. ⌜ r ≡ traitsOf (decode (now (t .entry))) ⌝ }
+{
+    let children = record::root_arity(t);
+    if children == 0 {
+        return leaf_traits(t);
+    }
+    let k = record::kind(t);
+    if children == 1 {
+        return node_traits(k, traits_of(record::body(t)));
+    }
+    let first = traits_of(record::left(t));
+    let second = traits_of(record::right(t));
+    node_traits(k, join_traits(first, second))
+}
+
+// Whether the tree of t has no variable.
+pub fn is_constant_subtree(t: &[u8]) -> bool
+    requires { ⌜ sized (now t) ≡ true ⌝ }
+    ensures { λ r. ⌜ r ≡ isConstantSubtree (decode (now (t .entry))) ⌝ }
+{
+    let found = traits_of(t);
+    !found.variable
+}
+
+// Whether the tree of t has a variable.
+pub fn has_var_dep(t: &[u8]) -> bool
+    requires { ⌜ sized (now t) ≡ true ⌝ }
+    ensures { λ r. ⌜ r ≡ hasVarDep (decode (now (t .entry))) ⌝ }
+{
+    let found = traits_of(t);
+    found.variable
+}
+
+// Whether refusal 7 applies to the tree of t.
+pub fn has_constant_arith(t: &[u8]) -> bool
+    requires { ⌜ sized (now t) ≡ true ⌝ }
+    ensures { λ r. ⌜ r ≡ hasConstantArith (decode (now (t .entry))) ⌝ }
+{
+    let found = traits_of(t);
+    found.refused
+}

@@ -1,0 +1,106 @@
+-- How flattening goes over the rows (src/flatten.rt): the words of the table, the bytes of its atoms and the
+-- coefficients beside them show the rows of the form that is being made; a step is said for all rows that they show.
+use mathlib.Core.Path.{_≡_}
+use Prim.Native.Nat.{ℕ, _+_, _-_, _^_, _≤_}
+use mathlib.Core.List.{List, [], _∷_, _++_}
+use mathlib.Core.Bool.{Bool, true, false, not, _&&_}
+use lib.ListN.{length, getD, drop}
+use lib.Bits.{bitAnd}
+use lib.Dec.{eqb}
+use Rattle.arith.specs.Width.{modAdd, modMul, modNeg}
+use Rattle.base.specs.Choice.{when}
+use Rattle.record.specs.Tree.{Tree}
+use Rattle.expr_utils.specs.Utils.{hasShr}
+use Rattle.expr.specs.Vars.{nextVar, support}
+use Rattle.semilinear.specs.Form.{Row}
+use Rattle.semilinear.specs.DecodeForm.{rowAt}
+use Rattle.semilinear_value.specs.Running.{RowPassed}
+use Rattle.made.specs.Made.{Room}
+use Rattle.made.specs.Shown.{Shown}
+use Rattle.flatten.specs.declared.Flattening.{Flattening}
+use Rattle.structure_laws.specs.FlattenComplexAtoms.{isPlain, isComplex, atZero, atOnes, Flat, flatRow}
+use Rattle.structure_laws.specs.FlattenComplexAtoms.{flattenRow, flattenRows, keptRows}
+use Rattle.base.specs.Limits.{atomLimit}
+
+-- the test of a row to flatten, without that of its coefficient
+unfoldable pub complexTree : ℕ → Tree → Bool
+complexTree w t = not (isPlain w t) && (eqb (length (support t)) 1 && not (hasShr t))
+
+-- the rows and the constant with the tree t times c in place of its row
+unfoldable pub flatTree : ℕ → Tree → ℕ → List Row → List Row
+flatTree w t c l =
+    flatRow w v (bitAnd zeroed (2 ^ w - 1 - raised)) (modNeg c w)
+    (flatRow w v (bitAnd raised (2 ^ w - 1 - zeroed)) c l)
+  where
+    v : ℕ
+    v = nextVar 0 t
+
+    zeroed : ℕ
+    zeroed = atZero w t
+
+    raised : ℕ
+    raised = atOnes w (nextVar 0 t) t
+
+unfoldable pub flatConstant : ℕ → Tree → ℕ → ℕ → ℕ
+flatConstant w t c k = modAdd k (modMul c (atZero w t) w) w
+
+-- ---- the table with its coefficients
+
+-- a step: F on the rows, at most n more, and k on the constant
+pub record Extended (w n : ℕ) (F : List Row → List Row) (k : ℕ → ℕ) (made out coeffs made′ out′ coeffs′ : List ℕ)
+    : Type 0 where
+  pub room : Room made′ out′
+  pub rows-le : getD made′ 4 0 ≤ getD made 4 0 + n
+  pub constant : getD made′ 5 0 ≡ k (getD made 5 0)
+  pub long : length out′ ≡ length out
+  pub wide : length coeffs′ ≡ length coeffs
+  pub shown : (l : List Row) → Shown w made out coeffs l → Shown w made′ out′ coeffs′ (F l)
+
+-- ---- the walk over the rows
+
+-- a form that is being made, with all its rows
+abbrev pub flat : List Row → ℕ → Bool → Flat
+flat l k g = record { added = l; constant = k; flag = g }
+
+pub record Works (w : ℕ) (g : Bool) (made out coeffs : List ℕ) (s : Flat) : Type 0 where
+  pub flag : g ≡ s .flag
+  pub constant : getD made 5 0 ≡ s .constant
+  pub shown : Shown w made out coeffs (s .added)
+
+-- a row without its term, and as flattening leaves it
+unfoldable pub bareRow : Row → Row
+bareRow x = record { provenance = x .provenance; tree = x .tree; coeff = 0 }
+
+unfoldable pub keptRow : ℕ → Row → Row
+keptRow w x = when (isComplex w x) (λ _. bareRow x) (λ _. x)
+
+-- the row whose atom stands at the place of x
+abbrev pub rowOf : List ℕ → Flattening → Row
+rowOf f x = rowAt (x .number) (drop (x .at) f) (drop (x .next) f)
+
+-- y is x after one row: of all rows a before it and b behind it
+pub record RowFlattened (w : ℕ) (f : List ℕ) (x y : Flattening) (made out coeffs made′ out′ coeffs′ : List ℕ)
+    : Type 0 where
+  pub passed : RowPassed f (x .at) (x .next) (x .number) (y .at) (y .next) (y .number)
+  pub room : Room made′ out′
+  pub rows-le : getD made′ 4 0 ≤ getD made 4 0 + 2
+  pub long : length out′ ≡ length out
+  pub wide : length coeffs′ ≡ length coeffs
+  pub turn : (a b : List Row) (k : ℕ) (g : Bool) → length a ≡ x .number
+      → Works w (x .flag) made out coeffs (flat (a ++ (bareRow (rowOf f x) ∷ b)) k g)
+      → Works w (y .flag) made′ out′ coeffs′
+      (flattenRow w (rowOf f x) (flat (a ++ (keptRow w (rowOf f x) ∷ b)) k g))
+
+-- the rows l flattened, from the constant k on: those kept, and those added behind
+unfoldable pub flatRows : ℕ → List Row → ℕ → Flat
+flatRows w l k = flat (keptRows w l ++ made .added) (made .constant) (made .flag)
+  where
+    made : Flat
+    made = flattenRows w l (flat [] k false)
+
+-- all rows flattened, and the words and bytes as safe to go on with as before
+pub record RowsFlattened (w : ℕ) (l : List Row) (k len : ℕ) (r : Bool) (made out coeffs : List ℕ) : Type 0 where
+  pub room : Room made out
+  pub long : length out ≡ len
+  pub wide : length coeffs ≡ atomLimit
+  pub works : Works w r made out coeffs (flatRows w l k)

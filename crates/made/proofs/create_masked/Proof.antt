@@ -1,0 +1,91 @@
+use mathlib.Core.Path.{ap, sym, _∙_}
+use mathlib.Core.List.{List}
+use native.Mathlib.Omega.{arith}
+use Prim.Native.Nat.{ℕ}
+use lib.ListN.{length}
+use denote.Ref.{now}
+use Rattle.arith.proofs.WidthLaws.{bitmask-ones}
+use Rattle.record.specs.Tree.{encode}
+use Rattle.record.specs.Decode.{decode}
+use Rattle.atom_table.specs.declared.table.Table.{Table}
+use Rattle.atom_table.specs.Table.{Placed, storeOf, createAtom}
+use Rattle.made.proofs.WordsLaws.{basis-sized, grew-as, grew-create, grew-masked, masked-full, maskedBytes}
+use borrow.Author.Needs.{needs}
+use Rattle.made.proofs.create_masked.Statement.{statement}
+use Rattle.made.proofs.create_masked.Tie as tie
+use Rattle.made.proofs.create_masked.Reads as reads
+use Rattle.made.proofs.create_masked.Lts as lts
+use Rattle.arith.proofs.bitmask.Reads as bitmask-reads
+use Rattle.made.proofs.create_joined.Reads as create-joined-reads
+use Rattle.made.proofs.load.Reads as load-reads
+use Rattle.made.proofs.store.Reads as store-reads
+use Rattle.atom_table.proofs.table.Table.create_atom.Reads as create-atom-reads
+
+load-requires : tie.Need-load-requires
+load-requires c κs = search needs
+
+bitmask-requires : tie.Need-bitmask-requires
+bitmask-requires c κs = search needs
+
+create-atom-requires : tie.Need-create-atom-requires
+create-atom-requires c κs =
+    let pre = c .before .before .before .before .before .before .before .before .pre in
+    (rw (c .before .before .before .load .ensures) (pre .0 .placed), basis-sized _ _ _ (pre .1), pre .1 .hashed)
+
+store-requires : tie.Need-store-requires
+store-requires c κs = search needs
+
+same-length : tie.Need-same-length
+same-length c = search needs
+
+same-length-2 : tie.Need-same-length-2
+same-length-2 c = search needs
+
+returns : tie.Need-returns
+returns c =
+    let a = c .before .before .before .before .before .before .before .before .before .before .before .before .before .before .before .args in
+    let pre = c .before .before .before .before .before .before .before .before .before .before .before .before .before .before .before .pre in
+    grew-as (λ l. masked-full (a .w) (a .mask) (decode (now (a .b))) l (c .before .before .before .before .before .before .before .before .if1 .taken ∙ c .before .before .before .before .before .before .before .before .before .bitmask .ensures ∙ bitmask-ones (a .w) (pre .3)))
+    (grew-create (a .w) 0 (now (a .b)) (basis-sized _ _ _ (pre .1)) (pre .1 .same) (now (a .made)) (now (a .out)) (pre .0)
+    (c .before .before .before .before .before .before .create-atom .ensures ∙ ap (λ (t : Table). createAtom (a .w) 0 (now (a .b)) (storeOf t (now (a .out)))) (c .before .before .before .before .before .before .before .before .before .before .load .ensures))
+    (c .before .before .store .ensures))
+
+create-joined-requires : tie.Need-create-joined-requires
+create-joined-requires c κs =
+    let pre = c .before .before .before .before .before .before .before .before .pre in
+    (rw (c .before .before .before .load .ensures) (pre .0 .placed), pre .1)
+
+store-requires-2 : tie.Need-store-requires-2
+store-requires-2 c κs = search needs
+
+same-length-3 : tie.Need-same-length-3
+same-length-3 c = search needs
+
+same-length-4 : tie.Need-same-length-4
+same-length-4 c = search needs
+
+returns-2 : tie.Need-returns-2
+returns-2 c =
+    let a = c .before .before .before .before .before .before .before .before .before .before .before .before .before .before .before .args in
+    let pre = c .before .before .before .before .before .before .before .before .before .before .before .before .before .before .before .pre in
+    grew-masked (a .w) (a .hash) (now (a .b)) (pre .1) (a .mask) (omega arith) (now (a .made)) (now (a .out)) (pre .0)
+    (λ e. c .before .before .before .before .before .before .before .before .if1 .left (e ∙ sym (bitmask-ones (a .w) (pre .3)) ∙ sym (c .before .before .before .before .before .before .before .before .before .bitmask .ensures)))
+    (c .before .before .before .before .before .before .create-joined .ensures ∙ ap (λ (t : Table). createAtom (a .w) 0 (maskedBytes (a .w) (now (a .b)) (a .mask)) (storeOf t (now (a .out)))) (c .before .before .before .before .before .before .before .before .before .before .load .ensures))
+    (c .before .before .store2 .ensures)
+
+pub create-masked-spec : {M : Type 1} → statement M
+create-masked-spec =
+    tie.close
+    (tie.spec
+    load-requires
+    bitmask-requires
+    create-atom-requires
+    store-requires
+    same-length
+    same-length-2
+    returns
+    create-joined-requires
+    store-requires-2
+    same-length-3
+    same-length-4
+    returns-2)

@@ -1,0 +1,239 @@
+-- The refusals of normalising, both ways: which number is given exactly when (document 01, "Refusals", 1 to 9).
+use mathlib.Core.Path.{_≡_, refl, ap, sym, subst, _∙_}
+use Prim.Native.Nat.{ℕ, _%_, _^_, _≤_, _<_}
+use native.Mathlib.Omega.{arith}
+use mathlib.Core.Logic.{_↔_, _⊎_, inl, inr}
+use mathlib.Core.List.{List}
+use mathlib.Core.Bool.{Bool, true, false, not, _&&_}
+use lib.ListN.{length}
+use lib.Dec.{eqb, ltb}
+use borrow.Author.Tests.{eq-eqb, ne-eqb}
+use Rattle.base.specs.Choice.{when}
+use Rattle.record.specs.Fields.{kind, width, amount, arity}
+use Rattle.record.specs.Span.{body, left, right}
+use Rattle.record.specs.Tree.{Tree}
+use Rattle.record.specs.Decode.{decode}
+use Rattle.record.proofs.SpanLaws.{fold-none, fold-leaf, fold-one, fold-two, span-ind}
+use Rattle.expr_refusal.specs.Refusal.{lowest, formOk, widthOk, rootRefusal, treeRefusal, exprRefusal}
+use Rattle.expr_utils.specs.Utils.{hasConstantArith}
+use Rattle.semilinear.specs.Form.{fitsTable}
+use Rattle.base.specs.Outcome.{Outcome, refused, refusalOf}
+use Rattle.semilinear.specs.Outcome.{formOutcome}
+use Rattle.normalizer_laws.specs.Collect.{Emitted, nonlinear, linear, collectTerms}
+use Rattle.normalizer_laws.specs.Normalize.{collectedForm, normalizeTree, normalizeToSemilinear}
+use Rattle.normalizer_laws.proofs.NormalizeLaws.{TreeCase, arithmetic, not-linear, too-large, written}
+use Rattle.normalizer_laws.proofs.NormalizeLaws.{tree-seven, tree-eight, tree-nine, tree-case, FileCase}
+use Rattle.normalizer_laws.proofs.NormalizeLaws.{wrong-length, wrong-slice, no-expression, expression}
+use Rattle.normalizer_laws.proofs.NormalizeLaws.{file-one, file-two, file-refused, file-tree, file-case}
+
+-- ---- the refusals of an expression
+
+-- none, or 3 to 6
+abbrev Range : ℕ → Type 0
+Range n = (n ≡ 0) ⊎ ((3 ≤ n) × (n ≤ 6))
+
+lowest-range : (a b : ℕ) → Range a → Range b → Range (lowest a b)
+unfolding lowest
+lowest-range a b (inl z) h = simp (eq-eqb a 0 z) h
+lowest-range a b (inr p) (inl z) = simp (ne-eqb a 0 (omega (arith, p .0)), eq-eqb b 0 z) (inr p)
+lowest-range a b (inr p) (inr q) =
+    simp (ne-eqb a 0 (omega (arith, p .0)), ne-eqb b 0 (omega (arith, q .0)))
+    (inr (omega (arith, p .0, q .0), omega (arith, p .1)))
+
+module _ (w : ℕ) where
+  root-range : (s : List ℕ) → Range (rootRefusal w s)
+  unfolding rootRefusal
+  root-range s =
+      go (not (formOk s)) (not (widthOk w (width s))) (ltb 9 (kind s)) (eqb (kind s) 9 && ltb 63 (amount s))
+    where
+      go : (a b c d : Bool)
+          → Range
+          (when a (λ _. 3) (λ _. when b (λ _. 4) (λ _. when c (λ _. 5) (λ _. when d (λ _. 6) (λ _. 0)))))
+      go true b c d = inr (omega arith, omega arith)
+      go false true c d = inr (omega arith, omega arith)
+      go false false true d = inr (omega arith, omega arith)
+      go false false false true = inr (omega arith, omega arith)
+      go false false false false = inl refl
+
+  InRange : List ℕ → Type 0
+  InRange s = Range (treeRefusal w s)
+
+  tree-range : (s : List ℕ) → InRange s
+  unfolding InRange
+  tree-range = span-ind InRange none leaf one two
+    where
+      none : (s : List ℕ) → length s < 16 → InRange s
+      none s h = subst Range (sym (fold-none _ _ _ _ s h)) (inr (omega arith, omega arith))
+
+      leaf : (s : List ℕ) → 16 ≤ length s → arity (kind s) ≡ 0 → InRange s
+      leaf s big a = subst Range (sym (fold-leaf _ _ _ _ s big a)) (root-range s)
+
+      one : (s : List ℕ) → 16 ≤ length s → arity (kind s) ≡ 1 → InRange (body s) → InRange s
+      one s big a h = subst Range (sym (fold-one _ _ _ _ s big a)) (lowest-range _ _ (root-range s) h)
+
+      two : (s : List ℕ) → 16 ≤ length s → (arity (kind s) ≡ 0 → ⊥) → (arity (kind s) ≡ 1 → ⊥)
+          → InRange (left s) → InRange (right s) → InRange s
+      two s big p q h k =
+          subst Range (sym (fold-two _ _ _ _ s big p q))
+          (lowest-range _ _ (root-range s) (lowest-range _ _ h k))
+
+-- the refusal of an expression file is none, 1, or 3 to 6
+pub expr-range : (s : List ℕ) → (exprRefusal s ≡ 1) ⊎ Range (exprRefusal s)
+unfolding exprRefusal InRange
+expr-range s =
+    go (eqb (length s) 0) (ltb (2 ^ 14) (length s)) (not (eqb (length s % 16) 0)) (tree-range (width s) s)
+  where
+    whole : Bool → Bool → Bool → ℕ
+    whole a b c =
+        when a (λ _. 1) (λ _. when b (λ _. 1) (λ _. when c (λ _. 1) (λ _. treeRefusal (width s) s)))
+
+    go : (a b c : Bool) → Range (treeRefusal (width s) s) → (whole a b c ≡ 1) ⊎ Range (whole a b c)
+    go true b c h = inl refl
+    go false true c h = inl refl
+    go false false true h = inl refl
+    go false false false h = inr h
+
+-- ---- a tree
+
+same-refusal : {o p : Outcome} {n : ℕ} → o ≡ p → o ≡ refused n → refusalOf p ≡ n
+unfolding refusalOf
+same-refusal f e = ap refusalOf (sym f ∙ e)
+
+-- the descent gives these atoms, and the table does not hold them
+abbrev pub TooLarge : ℕ → Tree → Type 0
+TooLarge w t =
+    (c : ℕ) × (l : List Emitted) × (collectTerms w 1 t ≡ linear c l) × (fitsTable (collectedForm w c l .rows) ≡ false)
+
+module _ (w : ℕ) (t : Tree) where
+  -- no refusal of a tree is below 7
+  tree-low : (n : ℕ) → 1 ≤ n → n < 7 → normalizeTree w t ≡ refused n → ⊥
+  unfolding refusalOf formOutcome
+  tree-low n pos h e = go (tree-case w t)
+    where
+      go : TreeCase w t → ⊥
+      go (arithmetic a f) = omega (arith, same-refusal f e)
+      go (not-linear a b f) = omega (arith, same-refusal f e)
+      go (too-large a c l b x f) = omega (arith, same-refusal f e)
+      go (written a c l b x f) = omega (arith, same-refusal f e)
+
+  pub tree-seven-iff : (normalizeTree w t ≡ refused 7) ↔ (hasConstantArith t ≡ true)
+  unfolding refusalOf formOutcome
+  tree-seven-iff = (λ e. go e (tree-case w t), λ h. tree-seven w t h)
+    where
+      go : normalizeTree w t ≡ refused 7 → TreeCase w t → hasConstantArith t ≡ true
+      go e (arithmetic a f) = a
+      go e (not-linear a b f) = absurd (omega (arith, same-refusal f e))
+      go e (too-large a c l b x f) = absurd (omega (arith, same-refusal f e))
+      go e (written a c l b x f) = absurd (omega (arith, same-refusal f e))
+
+  pub tree-eight-iff : (normalizeTree w t ≡ refused 8)
+      ↔ ((hasConstantArith t ≡ false) × (collectTerms w 1 t ≡ nonlinear))
+  unfolding refusalOf formOutcome
+  tree-eight-iff = (λ e. go e (tree-case w t), λ h. tree-eight w t (h .0) (h .1))
+    where
+      go : normalizeTree w t ≡ refused 8 → TreeCase w t
+          → (hasConstantArith t ≡ false) × (collectTerms w 1 t ≡ nonlinear)
+      go e (arithmetic a f) = absurd (omega (arith, same-refusal f e))
+      go e (not-linear a b f) = (a, b)
+      go e (too-large a c l b x f) = absurd (omega (arith, same-refusal f e))
+      go e (written a c l b x f) = absurd (omega (arith, same-refusal f e))
+
+  pub tree-nine-iff : (normalizeTree w t ≡ refused 9) ↔ ((hasConstantArith t ≡ false) × TooLarge w t)
+  unfolding refusalOf formOutcome
+  tree-nine-iff = (
+    λ e. go e (tree-case w t),
+    λ h. tree-nine w t (h .0) (h .1 .0) (h .1 .1) (h .1 .2) (h .1 .3),
+  )
+    where
+      go : normalizeTree w t ≡ refused 9 → TreeCase w t → (hasConstantArith t ≡ false) × TooLarge w t
+      go e (arithmetic a f) = absurd (omega (arith, same-refusal f e))
+      go e (not-linear a b f) = absurd (omega (arith, same-refusal f e))
+      go e (too-large a c l b x f) = (a, (c, l, b, x))
+      go e (written a c l b x f) = absurd (omega (arith, same-refusal f e))
+
+-- ---- the bytes of an expression
+
+-- the bytes are an expression, and the result slice has the right length
+abbrev pub Reached : List ℕ → ℕ → Type 0
+Reached s len = (exprRefusal s ≡ 0) × (len ≡ 57360)
+
+module _ (s : List ℕ) (len : ℕ) where
+  -- a refusal of 7 or more is the tree's
+  from-seven : (n : ℕ) → 7 ≤ n → normalizeToSemilinear s len ≡ refused n
+      → Reached s len × (normalizeTree (width s) (decode s) ≡ refused n)
+  unfolding refusalOf
+  from-seven n h e = go (file-case s len)
+    where
+      low : (exprRefusal s ≡ 1) ⊎ Range (exprRefusal s) → exprRefusal s ≡ n → ⊥
+      low (inl a) f = omega arith
+      low (inr (inl a)) f = omega arith
+      low (inr (inr a)) f = omega (arith, a .1)
+
+      go : FileCase s len → Reached s len × (normalizeTree (width s) (decode s) ≡ refused n)
+      go (wrong-length a f) = absurd (omega (arith, same-refusal f e))
+      go (wrong-slice a b f) = absurd (omega (arith, same-refusal f e))
+      go (no-expression a b c f) = absurd (low (expr-range s) (same-refusal f e))
+      go (expression z k f) = ((z, k), sym f ∙ e)
+
+  pub refused-one-iff : (normalizeToSemilinear s len ≡ refused 1) ↔ (exprRefusal s ≡ 1)
+  unfolding refusalOf
+  refused-one-iff = (λ e. go e (file-case s len), λ h. file-one s len h)
+    where
+      go : normalizeToSemilinear s len ≡ refused 1 → FileCase s len → exprRefusal s ≡ 1
+      go e (wrong-length a f) = a
+      go e (wrong-slice a b f) = absurd (omega (arith, same-refusal f e))
+      go e (no-expression a b c f) = same-refusal f e
+      go e (expression z k f) = absurd (tree-low (width s) (decode s) 1 (omega arith) (omega arith) (sym f ∙ e))
+
+  pub refused-two-iff : (normalizeToSemilinear s len ≡ refused 2)
+      ↔ ((exprRefusal s ≡ 1 → ⊥) × (len ≡ 57360 → ⊥))
+  unfolding refusalOf
+  refused-two-iff = (λ e. go e (file-case s len), λ h. file-two s len (h .0) (h .1))
+    where
+      low : (exprRefusal s ≡ 1) ⊎ Range (exprRefusal s) → exprRefusal s ≡ 2 → ⊥
+      low (inl a) f = omega arith
+      low (inr (inl a)) f = omega arith
+      low (inr (inr a)) f = omega (arith, a .0)
+
+      go : normalizeToSemilinear s len ≡ refused 2 → FileCase s len
+          → (exprRefusal s ≡ 1 → ⊥) × (len ≡ 57360 → ⊥)
+      go e (wrong-length a f) = absurd (omega (arith, same-refusal f e))
+      go e (wrong-slice a b f) = (a, b)
+      go e (no-expression a b c f) = absurd (low (expr-range s) (same-refusal f e))
+      go e (expression z k f) = absurd (tree-low (width s) (decode s) 2 (omega arith) (omega arith) (sym f ∙ e))
+
+  -- refusals 3 to 6
+  pub refused-expr-iff : (n : ℕ) → 3 ≤ n → n < 7
+      → (normalizeToSemilinear s len ≡ refused n) ↔ ((exprRefusal s ≡ n) × (len ≡ 57360))
+  unfolding refusalOf
+  refused-expr-iff n low high = (
+    λ e. go e (file-case s len),
+    λ h. file-refused s len (omega (arith, h .0)) (omega (arith, h .0)) (h .1) ∙ ap refused (h .0),
+  )
+    where
+      go : normalizeToSemilinear s len ≡ refused n → FileCase s len → (exprRefusal s ≡ n) × (len ≡ 57360)
+      go e (wrong-length a f) = absurd (omega (arith, same-refusal f e))
+      go e (wrong-slice a b f) = absurd (omega (arith, same-refusal f e))
+      go e (no-expression a b c f) = (same-refusal f e, c)
+      go e (expression z k f) = absurd (tree-low (width s) (decode s) n (omega arith) high (sym f ∙ e))
+
+  -- refusals 7 to 9 are those of the tree
+  from-tree : {P : Type 0} (n : ℕ) → 7 ≤ n → (normalizeTree (width s) (decode s) ≡ refused n) ↔ P
+      → (normalizeToSemilinear s len ≡ refused n) ↔ (Reached s len × P)
+  from-tree n h iff = (
+    λ e. (from-seven n h e .0, iff .0 (from-seven n h e .1)),
+    λ p. file-tree s len (p .0 .0) (p .0 .1) ∙ iff .1 (p .1),
+  )
+
+  pub refused-seven-iff : (normalizeToSemilinear s len ≡ refused 7)
+      ↔ (Reached s len × (hasConstantArith (decode s) ≡ true))
+  refused-seven-iff = from-tree 7 (omega arith) (tree-seven-iff (width s) (decode s))
+
+  pub refused-eight-iff : (normalizeToSemilinear s len ≡ refused 8)
+      ↔ (Reached s len
+      × ((hasConstantArith (decode s) ≡ false) × (collectTerms (width s) 1 (decode s) ≡ nonlinear)))
+  refused-eight-iff = from-tree 8 (omega arith) (tree-eight-iff (width s) (decode s))
+
+  pub refused-nine-iff : (normalizeToSemilinear s len ≡ refused 9)
+      ↔ (Reached s len × ((hasConstantArith (decode s) ≡ false) × TooLarge (width s) (decode s)))
+  refused-nine-iff = from-tree 9 (omega arith) (tree-nine-iff (width s) (decode s))

@@ -1,0 +1,1 @@
+// What normalising gives: definitions and laws, without code.

@@ -1,0 +1,1 @@
+// What the partition classes are: definitions and laws, without code.

@@ -1,0 +1,130 @@
+-- How recovering goes through the entries of a group and through the groups (src/pair.rt, src/recover.rt): what a turn
+-- makes of the group, of the words of the table with the constant, and of the bytes. Where the table is full the rows
+-- pass a limit, and nothing else is said of them (specs/Showing.antt).
+use mathlib.Core.Path.{_≡_}
+use Prim.Native.Nat.{ℕ, _+_, _-_, _≤_, _<_}
+use mathlib.Core.List.{List, [], _∷_}
+use mathlib.Core.Bool.{Bool, true, false, _&&_}
+use lib.ListN.{length, getD}
+use lib.Dec.{eqb}
+use Rattle.base.specs.Loop.{firstIn}
+use Rattle.record.specs.Tree.{Tree}
+use Rattle.record.specs.Tree.Tree.{Constant, Binary}
+use Rattle.semilinear.specs.Form.{Row, Form, fitsTable}
+use Rattle.group.specs.declared.Group.{Group}
+use Rattle.entries.specs.Marks.{liveMark}
+use Rattle.group.specs.Group.{emptyGroup, groupOf, settle}
+use Rattle.views.specs.Grouping.{anyBasis, basesOf, ungrouped}
+use Rattle.made.specs.Made.{tableOf, Room, Held}
+use Rattle.made.specs.Shown.{Shown}
+use Rattle.group.specs.Fair.{Fair}
+use Rattle.structure_laws.specs.RecoverStructure.{Recovery, recoverGroup, recoverAll}
+use Rattle.bare.specs.Showing.{Shows}
+use Rattle.base.specs.Limits.{groupEntries}
+
+-- the Xor of a literal and a basis
+abbrev pub xorTree : ℕ → Tree → Tree
+xorTree m b = Binary 6 (Constant m) b
+
+-- ---- the search for a partner in lent arrays
+
+unfoldable pub partnerFits : ℕ → List ℕ → List ℕ → ℕ → Bool
+partnerFits m masks marks j = eqb (getD marks j 0) liveMark && eqb (getD masks j 0) m
+
+-- the first entry from a to below n that is as it was gathered and has the mask m; or n
+abbrev pub partnerIn : ℕ → List ℕ → List ℕ → ℕ → ℕ → ℕ
+partnerIn m masks marks a n = firstIn (partnerFits m masks marks) a n
+
+-- no entry, of n, has a partner
+abbrev pub NoPartner : ℕ → List ℕ → List ℕ → ℕ → Type 0
+NoPartner full masks marks n = (i : ℕ) → i < n → n ≤ partnerIn (full - getD masks i 0) masks marks (i + 1) n
+
+-- ---- steps of a group beside the table and the constant
+
+-- a group, the words and the bytes stand for x
+pub record Stands (w : ℕ) (g : Group) (made out : List ℕ) (x : Recovery) : Type 0 where
+  pub same : g ≡ x .group
+  pub held : Held w made out (x .rows)
+  pub constant : getD made 5 0 ≡ x .constant
+
+-- a step after which they stand for what f makes of it
+pub record Turned (w n : ℕ) (f : Recovery → Recovery) (g : Group) (made out : List ℕ) (r : Group) (made′ out′ : List ℕ)
+    : Type 0 where
+  pub room : Room made′ out′
+  pub rows-le : getD made′ 4 0 ≤ getD made 4 0 + n
+  pub long : length out′ ≡ length out
+  pub len : r .len ≡ g .len
+  pub stands : (x : Recovery) → Stands w g made out x → Stands w r made′ out′ (f x)
+
+-- they stand for x, or the table is full and the rows of x pass a limit
+pub record Recovers (w : ℕ) (g : Group) (made out : List ℕ) (x : Recovery) : Type 0 where
+  pub stands : tableOf made .full ≡ false → Stands w g made out x
+  pub past : tableOf made .full ≡ true → fitsTable (x .rows) ≡ false
+
+-- steps after which it may be
+pub record Recovered (w n : ℕ) (f : Recovery → Recovery) (g : Group) (made out : List ℕ) (r : Group)
+    (made′ out′ : List ℕ) : Type 0 where
+  pub room : Room made′ out′
+  pub rows-le : getD made′ 4 0 ≤ getD made 4 0 + n
+  pub long : length out′ ≡ length out
+  pub len : r .len ≡ g .len
+  pub recovers : (x : Recovery) → Stands w g made out x → Recovers w r made′ out′ (f x)
+
+-- ---- the groups in turn
+
+-- a group beside rows and a constant
+abbrev pub recovery : Group → List Row → ℕ → Recovery
+recovery g l c = record { group = g; rows = l; constant = c }
+
+-- what recovering a group makes of the rows l is fair
+abbrev pub FairRecovery : List Row → Recovery → Type 0
+FairRecovery l x = Fair l (x .group) (x .rows)
+
+-- the form that is being made, after a group is settled
+unfoldable pub settledForm : ℕ → Recovery → Form
+settledForm w x = record { bitwidth = w; constant = x .constant; rows = settle w (x .group) (x .rows) }
+
+-- the words, bytes and coefficients show the form f, or the table is full and its rows pass a limit
+pub record ShowsForm (w : ℕ) (made out coeffs : List ℕ) (f : Form) : Type 0 where
+  pub shows : Shows w made out coeffs (f .rows)
+  pub constant : tableOf made .full ≡ false → getD made 5 0 ≡ f .constant
+
+-- the group g of the basis t recovered and settled: the table has at most n rows more
+pub record GroupRecovered (w n : ℕ) (t : Tree) (g : Group) (made out coeffs made′ out′ coeffs′ : List ℕ) : Type 0 where
+  pub room : Room made′ out′
+  pub rows-le : getD made′ 4 0 ≤ getD made 4 0 + n
+  pub long : length out′ ≡ length out
+  pub wide : length coeffs′ ≡ length coeffs
+  pub shown : (l : List Row) → FairRecovery l (recoverGroup w t (recovery g l (getD made 5 0)))
+      → Shown w made out coeffs l
+      → ShowsForm w made′ out′ coeffs′ (settledForm w (recoverGroup w t (recovery g l (getD made 5 0))))
+
+-- the groups of these bases, read off the rows `before`, in turn
+abbrev pub oneRecovered : ℕ → List Row → Tree → List Row → ℕ → Recovery
+oneRecovered w before b l c = recoverGroup w b (recovery (groupOf anyBasis w b 0 before emptyGroup) l c)
+
+unfoldable pub AllFair : ℕ → List Row → List Tree → List Row → ℕ → Type 0
+AllFair w before [] l c = Unit {0}
+AllFair w before (b ∷ bs) l c =
+    FairRecovery l (oneRecovered w before b l c)
+    × AllFair w before bs (settledForm w (oneRecovered w before b l c) .rows) (oneRecovered w before b l c .constant)
+
+-- all groups recovered
+pub record AllRecovered (w : ℕ) (before : List Row) (bases : List Tree) (made out coeffs made′ out′ coeffs′ : List ℕ)
+    : Type 0 where
+  pub room : Room made′ out′
+  pub long : length out′ ≡ length out
+  pub wide : length coeffs′ ≡ length coeffs
+  pub shown : (l : List Row) → AllFair w before bases l (getD made 5 0) → Shown w made out coeffs l
+      → ShowsForm w made′ out′ coeffs′ (recoverAll w before bases l (getD made 5 0))
+
+-- the form of these rows recovered: for a table that holds them, where recovering them is fair
+abbrev pub rowsRecovered : ℕ → List Row → ℕ → Form
+rowsRecovered w rows c = recoverAll w rows (basesOf anyBasis w rows []) (ungrouped anyBasis w rows) c
+
+pub record RowsRecovered (w : ℕ) (rows : List Row) (made out made′ out′ coeffs′ : List ℕ) : Type 0 where
+  pub room : Room made′ out′
+  pub long : length out′ ≡ length out
+  pub wide : length coeffs′ ≡ groupEntries
+  pub shown : AllFair w rows (basesOf anyBasis w rows []) (ungrouped anyBasis w rows) (getD made 5 0)
+      → Held w made out rows → ShowsForm w made′ out′ coeffs′ (rowsRecovered w rows (getD made 5 0))

@@ -1,0 +1,3 @@
+// Recovering within a group: entries with complement masks.
+pub mod pair;
+pub mod xored;

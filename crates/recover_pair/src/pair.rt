@@ -1,0 +1,237 @@
+// Xor recovery and mask elimination on a group.
+use crate::xored;
+use bare::constant;
+use base::limits;
+use group::Group;
+ghost use mathlib.Core.Path.{_≡_};
+ghost use mathlib.Core.Logic.{_≢_};
+ghost use mathlib.Core.Bool.{false, _&&_};
+ghost use Prim.Native.Nat.{_+_, _-_, _^_, _<_, _≤_};
+ghost use lib.ListN.{getD};
+ghost use lib.Dec.{eqb, leb};
+ghost use Rattle.record.specs.Tree.{encode, Encodable};
+ghost use Rattle.record.specs.Decode.{decode};
+ghost use Rattle.entries.specs.Marks.{liveMark};
+ghost use Rattle.made.specs.Made.{tableOf, Room, Basis};
+ghost use Rattle.structure_laws.specs.RecoverStructure.{recoverXor, eliminateMask};
+ghost use Rattle.structure_laws.specs.RecoverStructure.{countOnes, recoverPair};
+ghost use Rattle.structure_laws.specs.RecoverStructure.{recoverAt, recoverGroup};
+ghost use Rattle.recover_pair.specs.Recovering.{partnerIn, NoPartner, Turned, Recovered};
+ghost use Rattle.base.specs.Limits.{groupEntries};
+
+// What the mask `full` has beside m; 0 where m is above it.
+fn complement(full: u64, m: u64) -> u64
+    ensures { λ r. ⌜ r ≡ full - m ⌝ }
+{
+    if full < m {
+        return 0;
+    }
+    full - m
+}
+
+// Whether an entry with this mark and mask is as it was gathered and has the mask m.
+fn is_partner(mark: u8, mask: u64, m: u64) -> bool
+    ensures { λ r. ⌜ r ≡ (eqb mark liveMark && eqb mask m) ⌝ }
+{
+    if mark != entries::LIVE {
+        return false;
+    }
+    mask == m
+}
+
+// The first entry from `from` to below n that is as it was gathered and has the mask m; or n.
+fn partner_of<'a>(
+    masks: &'a [u64; limits::GROUP_ENTRIES],
+    marks: &'a [u8; limits::GROUP_ENTRIES],
+    from: usize,
+    n: usize,
+    m: u64,
+) -> usize
+    requires { ⌜ (from ≤ n) × (n ≤ groupEntries) ⌝ }
+    ensures { λ r. ⌜ r ≡ partnerIn m (now (masks .entry)) (now (marks .entry)) from n ⌝ }
+{
+    let mut j = from;
+    while j < n {
+        if is_partner(marks[j], masks[j], m) {
+            return j;
+        }
+        j += 1;
+    }
+    n
+}
+
+// Whether an entry, of n, has a partner.
+pub fn any_partner<'a>(
+    masks: &'a [u64; limits::GROUP_ENTRIES],
+    marks: &'a [u8; limits::GROUP_ENTRIES],
+    n: usize,
+    full: u64,
+) -> bool
+    requires { ⌜ n ≤ groupEntries ⌝ }
+    ensures { λ r. ⌜ (r ≡ false → NoPartner full (now (masks .entry)) (now (marks .entry)) n) ⌝ }
+{
+    let mut i = 0;
+    while i < n {
+        let j = partner_of(masks, marks, i + 1, n, complement(full, masks[i]));
+        if j < n {
+            return true;
+        }
+        i += 1;
+    }
+    false
+}
+
+// c & x and ~c & x with coefficients that add to 0: entry src becomes an Xor, and dst is consumed.
+fn recover_xor(
+    group: Group,
+    src: usize,
+    dst: usize,
+    b: &[u8],
+    w: u8,
+    made: &mut [u64],
+    out: &mut [u8],
+) -> Group
+    requires { ⌜ Room (now made) (now out) × (encode w (decode (now b)) ≡ now b)
+        × Encodable (decode (now b)) × (getD (now made) 4 0 + 1 < 2 ^ 64) × (w ≤ 64)
+        × (src < groupEntries) × (dst < groupEntries) × (dst ≢ src) ⌝ }
+    ensures { λ r. ⌜ Turned w 1 (recoverXor w (decode (now (b .entry))) src dst)
+        group (now (made .entry)) (now (out .entry)) r (now (made .exit)) (now (out .exit)) ⌝ }
+{
+    let mut g = group;
+    let c = g.coeffs[src];
+    let m = g.masks[src];
+    let rows = made[4];
+    g.coeffs[src] = g.coeffs[dst];
+    g.masks[src] = arith::bitmask(w as u32);
+    g.atoms[src] = rows;
+    g.marks[src] = entries::REWRITTEN;
+    g.marks[dst] = entries::CONSUMED;
+    xored::create_xored(made, out, b, m, w);
+    constant::add_constant(made, arith::mod_mul(c, m, w as u32), w as u32);
+    g
+}
+
+// Entry i takes the difference of the coefficients, and entry j the basis without a mask.
+fn eliminate_mask(
+    group: Group,
+    diff: u64,
+    i: usize,
+    j: usize,
+    b: &[u8],
+    hash: u64,
+    w: u8,
+    made: &mut [u64],
+    out: &mut [u8],
+) -> Group
+    requires { ⌜ Room (now made) (now out) × Basis w hash (now b)
+        × (getD (now made) 4 0 + 1 < 2 ^ 64) × (w ≤ 64) × (i < groupEntries) × (j < groupEntries) × (j ≢ i)
+        × (tableOf (now made) .full ≡ false) ⌝ }
+    ensures { λ r. ⌜ Turned w 1 (eliminateMask w (decode (now (b .entry))) diff i j)
+        group (now (made .entry)) (now (out .entry)) r (now (made .exit)) (now (out .exit)) ⌝ }
+{
+    let mut g = group;
+    let atom = bare::find_or_create_bare(made, out, b, hash, w);
+    g.coeffs[i] = diff;
+    g.masks[j] = arith::bitmask(w as u32);
+    g.atoms[j] = atom;
+    g.marks[j] = entries::WIDENED;
+    g
+}
+
+// Whether m has at most as many ones as p.
+fn fewer_ones(m: u64, p: u64) -> bool
+    ensures { λ r. ⌜ r ≡ leb (countOnes m) (countOnes p) ⌝ }
+{
+    u64::count_ones(m) <= u64::count_ones(p)
+}
+
+// The pair i and j of complement masks.
+fn recover_pair(
+    g: Group,
+    i: usize,
+    j: usize,
+    b: &[u8],
+    hash: u64,
+    w: u8,
+    made: &mut [u64],
+    out: &mut [u8],
+) -> Group
+    requires { ⌜ Room (now made) (now out) × Basis w hash (now b)
+        × (getD (now made) 4 0 + 1 < 2 ^ 64) × (w ≤ 64) × (i < groupEntries) × (j < groupEntries) × (j ≢ i)
+        × (tableOf (now made) .full ≡ false) ⌝ }
+    ensures { λ r. ⌜ Turned w 1 (recoverPair w (decode (now (b .entry))) i j)
+        g (now (made .entry)) (now (out .entry)) r (now (made .exit)) (now (out .exit)) ⌝ }
+{
+    let c = g.coeffs[i];
+    let d = g.coeffs[j];
+    if arith::mod_add(c, d, w as u32) == 0 {
+        if fewer_ones(g.masks[i], g.masks[j]) {
+            return recover_xor(g, i, j, b, w, made, out);
+        }
+        return recover_xor(g, j, i, b, w, made, out);
+    }
+    let diff = arith::mod_sub(c, d, w as u32);
+    if diff == 0 {
+        return g;
+    }
+    eliminate_mask(g, diff, i, j, b, hash, w, made, out)
+}
+
+// Entry i, of n, with the first later one that has the complement mask.
+fn recover_entry(
+    g: Group,
+    i: usize,
+    b: &[u8],
+    hash: u64,
+    w: u8,
+    made: &mut [u64],
+    out: &mut [u8],
+) -> Group
+    requires { ⌜ Room (now made) (now out) × Basis w hash (now b)
+        × (getD (now made) 4 0 + 1 < 2 ^ 64) × (w ≤ 64) × (i < g .len) × (g .len ≤ groupEntries)
+        × (tableOf (now made) .full ≡ false) ⌝ }
+    ensures { λ r. ⌜ Turned w 1 (recoverAt w (decode (now (b .entry))) i)
+        g (now (made .entry)) (now (out .entry)) r (now (made .exit)) (now (out .exit)) ⌝ }
+{
+    let mark = g.marks[i];
+    if mark == entries::CONSUMED {
+        return g;
+    }
+    if mark == entries::REWRITTEN {
+        return g;
+    }
+    let n = g.len;
+    let wanted = complement(arith::bitmask(w as u32), g.masks[i]);
+    let j = partner_of(&g.masks, &g.marks, i + 1, n, wanted);
+    if j < n {
+        return recover_pair(g, i, j, b, hash, w, made, out);
+    }
+    g
+}
+
+// Every entry in turn looks for the first later one with the complement mask.
+pub fn recover_entries(
+    group: Group,
+    b: &[u8],
+    hash: u64,
+    w: u8,
+    made: &mut [u64],
+    out: &mut [u8],
+) -> Group
+    requires { ⌜ Room (now made) (now out) × Basis w hash (now b)
+        × (getD (now made) 4 0 + groupEntries < 2 ^ 64) × (w ≤ 64) × (group .len ≤ groupEntries) ⌝ }
+    ensures { λ r. ⌜ Recovered w groupEntries (recoverGroup w (decode (now (b .entry))))
+        group (now (made .entry)) (now (out .entry)) r (now (made .exit)) (now (out .exit)) ⌝ }
+{
+    let mut g = group;
+    let n = g.len;
+    let mut i = 0;
+    while i < n {
+        if made[3] == 1 {
+            return g;
+        }
+        g = recover_entry(g, i, b, hash, w, made, out);
+        i += 1;
+    }
+    g
+}

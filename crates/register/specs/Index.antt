@@ -1,0 +1,127 @@
+-- The atom table as the code keeps it while normalising: the atoms' bytes in the result slice, and beside them lent
+-- words, eleven to an atom: its coefficient, its hash, where its tree starts and ends in the result slice, and its key.
+-- A view gives the rows that they stand for.
+use mathlib.Core.Path.{_≡_}
+use Prim.Native.Nat.{ℕ, zero, suc, _+_, _*_, _≤_, _<_}
+use mathlib.Core.List.{List, [], _∷_, _++_}
+use mathlib.Core.Bool.{Bool, true, false, _&&_}
+use lib.ListN.{length, getD, take}
+use lib.Dec.{eqb}
+use Rattle.base.specs.Choice.{when}
+use Rattle.base.specs.Lists.{eqList}
+use Rattle.record.specs.Span.{sized}
+use Rattle.record.specs.Tree.{Tree}
+use Rattle.record.specs.Decode.{decode}
+use Rattle.expr_refusal.specs.Refusal.{treeRefusal}
+use Rattle.expr.specs.Vars.{sameVars}
+use Rattle.expr.specs.Hash.{structuralHash}
+use Rattle.truth.specs.Key.{notPure, keyOf}
+use Rattle.atom_table.specs.declared.table.Table.{Table}
+use Rattle.semilinear.specs.Form.{Row, fitsTable}
+use Rattle.atom_table.specs.Table.{Holds, Clean}
+use Rattle.base.specs.Loop.{firstIn}
+use Rattle.normalizer_laws.specs.Collect.{Emitted}
+use Rattle.normalizer_laws.specs.Register.{detectProvenance}
+use Rattle.descent.specs.Spots.{spanOf}
+use Rattle.base.specs.Limits.{atomLimit}
+
+-- the words of an entry
+abbrev pub entryWords : ℕ
+entryWords = 11
+
+-- the bytes of atom j's tree
+unfoldable pub entrySpan : List ℕ → List ℕ → ℕ → List ℕ
+entrySpan index out j = spanOf out (getD index (entryWords * j + 2) 0) (getD index (entryWords * j + 3) 0)
+
+-- the tree of atom j
+abbrev pub entryTree : List ℕ → List ℕ → ℕ → Tree
+entryTree index out j = decode (entrySpan index out j)
+
+-- the row of atom j
+unfoldable pub rowAt : List ℕ → List ℕ → ℕ → Row
+rowAt index out j =
+    record {
+      provenance = detectProvenance (entryTree index out j);
+      tree = entryTree index out j;
+      coeff = getD index (entryWords * j) 0;
+    }
+
+-- the rows of the first n atoms
+unfoldable pub rowsIn : List ℕ → List ℕ → ℕ → List Row
+rowsIn index out zero = []
+rowsIn index out (suc n) = rowsIn index out n ++ (rowAt index out n ∷ [])
+
+-- the words of atom j say what its tree is, which stands before `top`
+pub record EntryOk (w : ℕ) (index out : List ℕ) (top j : ℕ) : Type 0 where
+  pub rising : getD index (entryWords * j + 2) 0 ≤ getD index (entryWords * j + 3) 0
+  pub inside : getD index (entryWords * j + 3) 0 ≤ top
+  pub tree : treeRefusal w (entrySpan index out j) ≡ 0
+  pub hash : getD index (entryWords * j + 1) 0 ≡ structuralHash (entryTree index out j)
+  pub key : spanOf index (entryWords * j + 4) (entryWords * j + entryWords) ≡ keyOf (entryTree index out j)
+
+-- a table that is not full, beside its index
+pub record Indexed (w : ℕ) (tab : Table) (index out : List ℕ) : Type 0 where
+  pub more : tab .full ≡ false
+  pub holds : Holds w tab out (rowsIn index out (tab .count))
+  pub clean : Clean tab out
+  pub entries : (j : ℕ) → j < tab .count → EntryOk w index out (tab .at) j
+  pub room : entryWords * tab .count ≤ length index
+
+-- the index has room for the words of an atom more, unless the table has the most atoms
+abbrev pub RoomMore : Table → List ℕ → Type 0
+RoomMore tab index = tab .count < atomLimit → entryWords * tab .count + entryWords ≤ length index
+
+-- a step from one table to another makes the rows of it; where it is full, they pass a limit
+pub record Registers (w : ℕ) (rows : List Row) (index out : List ℕ) (r : Table) : Type 0 where
+  pub rows-are : r .full ≡ false → rowsIn index out (r .count) ≡ rows
+  pub indexed : r .full ≡ false → Indexed w r index out
+  pub past : r .full ≡ true → fitsTable rows ≡ false
+
+-- the atom of the tree with the bytes t
+abbrev pub emitted : ℕ → List ℕ → Emitted
+emitted c t = record { coeff = c; tree = decode t }
+
+-- the row of an atom that shares none
+abbrev pub rowOf : Emitted → Row
+rowOf e = record { provenance = detectProvenance (e .tree); tree = e .tree; coeff = e .coeff }
+
+-- the first r bytes of a slice are an accepted tree of width w: the tree t
+pub record Built (w : ℕ) (t : Tree) (before after : List ℕ) (r : ℕ) : Type 0 where
+  pub inside : r ≤ length after
+  pub same-length : length after ≡ length before
+  pub accepted : treeRefusal w (take r after) ≡ 0
+  pub tree-is : decode (take r after) ≡ t
+
+-- ---- the searches
+
+-- the last number below n that passes the test, or `none`
+unfoldable pub lastF : ℕ → (ℕ → Bool) → ℕ → ℕ
+lastF zero p none = none
+lastF (suc n) p none = when (p n) (λ _. n) (λ _. lastF n p none)
+
+-- atom j has this hash and the variables of the tree t
+unfoldable pub slotAt : ℕ → Tree → List ℕ → List ℕ → ℕ → Bool
+slotAt hash t index out j = eqb (getD index (entryWords * j + 1) 0) hash && sameVars (entryTree index out j) t
+
+-- the newest of the first n atoms with this hash and the variables of t, else n
+unfoldable pub newestSlot : ℕ → ℕ → Tree → List ℕ → List ℕ → ℕ
+newestSlot n hash t index out = lastF n (slotAt hash t index out) n
+
+-- the newest of the first n atoms with this hash and these variables where it has the bytes t, else n
+unfoldable pub rowByHash : ℕ → ℕ → List ℕ → List ℕ → List ℕ → ℕ
+rowByHash n hash t index out =
+    when (eqList (entrySpan index out (newestSlot n hash (decode t) index out)) t)
+    (λ _. newestSlot n hash (decode t) index out) (λ _. n)
+
+-- the first of n atoms with this key, else n
+unfoldable pub rowByKey : ℕ → List ℕ → List ℕ → ℕ
+rowByKey n key index =
+    when (eqb (getD key 0 0) notPure) (λ _. n)
+    (λ _. firstIn (λ j. eqList (spanOf index (entryWords * j + 4) (entryWords * j + entryWords)) key) 0 n)
+
+-- what the searches ask of the words: the trees of the first n atoms stand in the slice
+pub record Searchable (index out : List ℕ) (n : ℕ) : Type 0 where
+  pub room : entryWords * n ≤ length index
+  pub rising : (j : ℕ) → j < n → getD index (entryWords * j + 2) 0 ≤ getD index (entryWords * j + 3) 0
+  pub inside : (j : ℕ) → j < n → getD index (entryWords * j + 3) 0 ≤ length out
+  pub trees : (j : ℕ) → j < n → sized (entrySpan index out j) ≡ true

@@ -1,0 +1,232 @@
+// The atom table that the collected atoms make: each is shared with an atom that is there, or
+// appended.
+pub mod index;
+
+use atom_table::table;
+use atom_table::table::Table;
+use base::limits;
+use descent::collect;
+use truth::key;
+ghost use mathlib.Core.Path.{_≡_};
+ghost use mathlib.Core.Bool.{true, _||_};
+ghost use mathlib.Core.List.{[], _∷_, _++_};
+ghost use Prim.Native.Nat.{_+_, _*_, _^_, _<_, _≤_, min};
+ghost use lib.ListN.{length, getD, set};
+ghost use lib.Dec.{eqb};
+ghost use Rattle.arith.specs.Width.{modAdd};
+ghost use Rattle.record.specs.Span.{sized};
+ghost use Rattle.base.specs.Put.{put, padded};
+ghost use Rattle.record.specs.Decode.{decode};
+ghost use Rattle.expr_refusal.specs.Refusal.{treeRefusal};
+ghost use Rattle.expr.specs.Hash.{structuralHash};
+ghost use Rattle.truth.specs.Key.{keyOf};
+ghost use Rattle.semilinear.specs.Form.{mixedFamily};
+ghost use Rattle.normalizer_laws.specs.Register.{familyOf, joinProvenance};
+ghost use Rattle.normalizer_laws.specs.Register.{detectProvenance, registerAtom};
+ghost use Rattle.normalizer_laws.specs.Register.{registerAll};
+ghost use Rattle.descent.specs.Spots.{Accepted, SpotsOk, spotTree, spotAt};
+ghost use Rattle.descent.specs.Spots.{spotsIn};
+ghost use Rattle.register.specs.Index.{entryWords, Indexed, RoomMore, Registers, Built};
+ghost use Rattle.register.specs.Index.{rowsIn, emitted, rowOf};
+ghost use Rattle.base.specs.Limits.{atomLimit, formBytes};
+
+// Whether a child of family x belongs to the family f or is Mixed.
+fn in_family(f: u8, x: u8) -> bool
+    ensures { λ r. ⌜ r ≡ (eqb x f || eqb x mixedFamily) ⌝ }
+{
+    if x == f {
+        return true;
+    }
+    x == table::MIXED_FAMILY
+}
+
+// And over And and Mixed is And, otherwise Mixed; likewise Or and Xor.
+fn family_of(f: u8, x: u8, y: u8) -> u8
+    ensures { λ r. ⌜ r ≡ familyOf f x y ⌝ }
+{
+    if !in_family(f, x) {
+        return table::MIXED_FAMILY;
+    }
+    if !in_family(f, y) {
+        return table::MIXED_FAMILY;
+    }
+    f
+}
+
+// The family of a root of kind k over two children.
+fn join_provenance(k: u8, x: u8, y: u8) -> u8
+    ensures { λ r. ⌜ r ≡ joinProvenance k x y ⌝ }
+{
+    match k {
+        4 => family_of(table::AND_FAMILY, x, y),
+        5 => family_of(table::OR_FAMILY, x, y),
+        6 => family_of(table::XOR_FAMILY, x, y),
+        _ => table::MIXED_FAMILY,
+    }
+}
+
+// The operator family of the tree of t.
+fn detect_provenance(t: &[u8]) -> u8
+    requires { ⌜ sized (now t) ≡ true ⌝ }
+    ensures { λ r. ⌜ r ≡ detectProvenance (decode (now (t .entry))) ⌝ }
+{
+    let children = record::root_arity(t);
+    if children == 0 {
+        return table::MIXED_FAMILY;
+    }
+    let k = record::kind(t);
+    if children == 1 {
+        if k == 7 {
+            return table::NOT_FAMILY;
+        }
+        return table::MIXED_FAMILY;
+    }
+    let x = detect_provenance(record::left(t));
+    let y = detect_provenance(record::right(t));
+    join_provenance(k, x, y)
+}
+
+// The tree t, or the And of it and the literal where it is masked, is put into `tree`; returns its
+// length.
+fn put_tree(t: &[u8], masked: u64, literal: u64, w: u8, tree: &mut [u8]) -> usize
+    requires { ⌜ (treeRefusal w (now t) ≡ 0) × (literal < 2 ^ w) × (length (now t) ≤ 1048000)
+        × (length (now t) + 32 ≤ length (now tree)) ⌝ }
+    ensures { λ r. ⌜ Built w (spotTree (decode (now (t .entry))) masked literal)
+        (now (tree .entry)) (now (tree .exit)) r ⌝ }
+{
+    let n = t.len();
+    base::write::put_bytes(tree, 0, t);
+    if masked == 0 {
+        return n;
+    }
+    record::write::put_record(tree, n, 0, 0, 1, w, literal);
+    record::write::put_record(
+        tree,
+        n + limits::RECORD_LENGTH,
+        4,
+        0,
+        record::size(t) + 2,
+        w,
+        0,
+    );
+    n + 32
+}
+
+// The tree that spot i stands for is put into `tree`; returns its length.
+fn build_tree(i: usize, spots: &[u64], file: &[u8], w: u8, tree: &mut [u8]) -> usize
+    requires { ⌜ Accepted w (now file) (getD (now spots) (5 * i + 1) 0)
+        (getD (now spots) (5 * i + 2) 0)
+        × (getD (now spots) (5 * i + 4) 0 < 2 ^ w) × (5 * i + 5 ≤ length (now spots))
+        × (length (now file) + 32 ≤ length (now tree)) × (length (now file) ≤ 1048000) ⌝ }
+    ensures { λ r. ⌜ Built w (spotAt (now (file .entry)) (now (spots .entry)) i .tree)
+        (now (tree .entry)) (now (tree .exit)) r ⌝ }
+{
+    let at = collect::SPOT_WORDS * i;
+    let start = spots[at + 1] as usize;
+    let end = spots[at + 2] as usize;
+    put_tree(&file[start..end], spots[at + 3], spots[at + 4], w, tree)
+}
+
+// The coefficient of atom j grows by c.
+fn add_coeff(index: &mut [u64], j: usize, c: u64, w: u8)
+    requires { ⌜ entryWords * j < length (now index) ⌝ }
+    ensures { λ _. ⌜ now (index .exit) ≡ set (now (index .entry)) (entryWords * j)
+        (modAdd (getD (now (index .entry)) (entryWords * j) 0) c w) ⌝ }
+{
+    let at = index::ENTRY_WORDS * j;
+    index[at] = arith::mod_add(index[at], c, w as u32);
+}
+
+// The words of atom n are put into the index: those in front of its key, and the key.
+fn put_entry(index: &mut [u64], n: usize, front: &[u64], key: &[u64])
+    requires { ⌜ entryWords * n + length (now front) + length (now key) ≤ length (now index) ⌝ }
+    ensures { λ _. ⌜ now (index .exit) ≡ put (now (index .entry)) (entryWords * n)
+        (now (front .entry) ++ now (key .entry)) ⌝ }
+{
+    let at = index::ENTRY_WORDS * n;
+    base::write::put_words(index, at, front);
+    base::write::put_words(index, at + front.len(), key);
+}
+
+// The atom with the tree t and this hash and key is appended, with the coefficient c.
+fn append_atom(
+    table: Table,
+    c: u64,
+    t: &[u8],
+    hash: u64,
+    key: &[u64],
+    w: u8,
+    index: &mut [u64],
+    out: &mut [u8],
+) -> Table
+    requires { ⌜ Indexed w table (now index) (now out) × (treeRefusal w (now t) ≡ 0)
+        × (hash ≡ structuralHash (decode (now t))) × (now key ≡ keyOf (decode (now t)))
+        × RoomMore table (now index) ⌝ }
+    ensures { λ r. ⌜ Registers w (rowsIn (now (index .entry)) (now (out .entry)) (table .count)
+        ++ (rowOf (emitted c (now (t .entry))) ∷ [])) (now (index .exit)) (now (out .exit)) r ⌝ }
+{
+    let n = table.count as usize;
+    let start = table.at as u64 + limits::RECORD_LENGTH_U64;
+    let more = table.create_atom(out, t, hash, detect_provenance(t), w);
+    if more.full {
+        return more;
+    }
+    let end = more.at as u64;
+    put_entry(index, n, &[c, hash, start, end], key);
+    more
+}
+
+// One atom: the tree t with the coefficient c. Corresponds to `register_atom`.
+fn register_atom(table: Table, c: u64, t: &[u8], w: u8, index: &mut [u64], out: &mut [u8]) -> Table
+    requires { ⌜ Indexed w table (now index) (now out) × (treeRefusal w (now t) ≡ 0)
+        × RoomMore table (now index) ⌝ }
+    ensures { λ r. ⌜ Registers w (registerAtom w (emitted c (now (t .entry)))
+        (rowsIn (now (index .entry)) (now (out .entry)) (table .count)))
+        (now (index .exit)) (now (out .exit)) r ⌝ }
+{
+    let n = table.count as usize;
+    let hash = expr::hash::structural_hash(t);
+    let same = index::row_by_hash(n, hash, t, index, out);
+    if same < n {
+        add_coeff(index, same, c, w);
+        return table;
+    }
+    let key = key::key_of(t);
+    let shared = index::row_by_key(n, &key, index);
+    if shared < n {
+        add_coeff(index, shared, c, w);
+        return table;
+    }
+    append_atom(table, c, t, hash, &key, w, index, out)
+}
+
+// All atoms of the first n spots, in order; ends where the table is full.
+pub fn register_all(
+    n: usize,
+    spots: &[u64],
+    file: &[u8],
+    w: u8,
+    tree: &mut [u8],
+    index: &mut [u64],
+    out: &mut [u8],
+) -> Table
+    requires { ⌜ SpotsOk w (now file) (now spots) n × (5 * n ≤ length (now spots))
+        × (length (now file) + 32 ≤ length (now tree)) × (length (now file) ≤ 1048000)
+        × (min (entryWords * atomLimit) (entryWords * n) ≤ length (now index)) × (now out ≡ padded formBytes []) ⌝ }
+    ensures { λ r. ⌜ Registers w
+        (registerAll w (spotsIn (now (file .entry)) (now (spots .entry)) n) [])
+        (now (index .exit)) (now (out .exit)) r ⌝ }
+{
+    let mut table = Table::empty();
+    let mut i = 0;
+    while i < n {
+        let size = build_tree(i, spots, file, w, tree);
+        let c = spots[collect::SPOT_WORDS * i];
+        table = register_atom(table, c, &tree[..size], w, index, out);
+        if table.full {
+            return table;
+        }
+        i += 1;
+    }
+    table
+}

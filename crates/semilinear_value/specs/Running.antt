@@ -1,0 +1,27 @@
+-- What one turn of a walk over atoms and terms, side by side, does: of the walk that adds and of the one that copies.
+use mathlib.Core.Path.{_≡_}
+use Prim.Native.Nat.{ℕ, _+_, _*_, _%_, _^_, _≤_}
+use mathlib.Core.List.{List}
+use lib.ListN.{length, drop}
+use Rattle.record.specs.Decode.{decode}
+use Rattle.expr.specs.Value.{value}
+use Rattle.semilinear_value.specs.declared.Running.{Running}
+use Rattle.semilinear.specs.Items.{treeSpan, afterAtom}
+use Rattle.semilinear.specs.DecodeForm.{coeffAt, afterTerm}
+use Rattle.base.specs.Limits.{recordLength}
+
+-- the atom at `at` is passed, and its term where it has one: the places and the number after it
+pub record RowPassed (f : List ℕ) (at next number at′ next′ number′ : ℕ) : Type 0 where
+  pub inside : at′ ≤ length f
+  pub later : at + recordLength ≤ at′
+  pub rest : drop at′ f ≡ afterAtom (drop at f)
+  pub terms-inside : next′ ≤ length f
+  pub terms : drop next′ f ≡ afterTerm number (drop next f)
+  pub next-number : number′ ≡ number + 1
+
+-- y is x after the atom at x .at, whose coefficient times its value is added
+pub record RowAdded (w : ℕ) (vars f : List ℕ) (x y : Running) : Type 0 where
+  pub passed : RowPassed f (x .at) (x .next) (x .number) (y .at) (y .next) (y .number)
+  pub sum : y .sum
+      ≡ (x .sum
+      + coeffAt (x .number) (drop (x .next) f) * value w vars (decode (treeSpan (drop (x .at) f)))) % 2 ^ w

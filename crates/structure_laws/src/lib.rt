@@ -1,0 +1,1 @@
+// What recovering, coalescing and flattening give: definitions and laws, without code.
