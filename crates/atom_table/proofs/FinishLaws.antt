@@ -15,7 +15,7 @@ use Rattle.record.specs.Tree.{IsBytes}
 use Rattle.base.specs.Put.{put, padded}
 use Rattle.base.proofs.BoolLaws.{false-true}
 use Rattle.base.proofs.PutLaws.{length-put, length-padded, put-padded-at, take-padded}
-use Rattle.atom_table.specs.declared.compact.Written.{Written}
+use Rattle.atom_table.specs.declared.table.Written.{Written}
 use Rattle.semilinear.specs.declared.outcome.Answer.{Answer}
 use Rattle.semilinear.specs.declared.scan.AtomTable.{AtomTable}
 use Rattle.atom_table.specs.declared.table.Table.{Table}

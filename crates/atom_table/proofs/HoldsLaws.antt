@@ -1,5 +1,5 @@
--- A table with limits beside the rows of a table without them (specs/Table.antt, specs/Form.antt): it holds their atoms
--- as long as they keep the limits, and is full exactly where they do not.
+-- A table with limits beside the rows of a table without them (specs/Table.antt, semilinear/specs/Form.antt): it holds
+-- their atoms as long as they keep the limits, and is full exactly where they do not.
 use mathlib.Core.Path.{_≡_, refl, ap, sym, _∙_}
 use Prim.Native.Nat.{ℕ, _+_, _≤_, _<_}
 use native.Mathlib.Omega.{arith}

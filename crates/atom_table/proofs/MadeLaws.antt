@@ -1,5 +1,5 @@
--- What a pass makes of a valid form (specs/Compact.antt): a valid form of the same width and value, or a refusal, which
--- is not 0; 9 exactly where the table would pass its limits.
+-- What a pass makes of a valid form (compaction/specs/Compact.antt): a valid form of the same width and value, or a
+-- refusal, which is not 0; 9 exactly where the table would pass its limits.
 use mathlib.Core.Path.{_≡_, refl, ap, sym, _∙_}
 use Prim.Native.Nat.{ℕ, _<_}
 use native.Mathlib.Omega.{arith}
@@ -10,25 +10,24 @@ use mathlib.Core.Bool.{Bool, true, false}
 use Rattle.semilinear.specs.Form.{Form, formValue, encodeForm, fitsTable, validForm}
 use Rattle.base.specs.Outcome.{Outcome, refused, refusalOf}
 use Rattle.semilinear.specs.Outcome.{formOutcome}
-use Rattle.atom_table.specs.Compact.{compactForm, compactAtomTable}
 use Rattle.semilinear.specs.PassOutcome.{passOutcome, limitOutcome}
 use Rattle.semilinear.proofs.FormLaws.{form-not-refused}
 use Rattle.semilinear.proofs.EncodeFormLaws.{form-decode, form-accept}
-use Rattle.atom_table.proofs.PassLaws.{pass-slice, pass-accepted, value-compact, valid-compact}
+use Rattle.atom_table.proofs.PassLaws.{pass-slice, pass-accepted}
 
 -- g has the width and the value of f
-pub record Kept (f g : Form) : Type 0 where
+pub record KeptForm (f g : Form) : Type 0 where
   pub valid : validForm g ≡ true
   pub wide : g .bitwidth ≡ f .bitwidth
   pub value : (vars : List ℕ) → formValue vars g ≡ formValue vars f
 
 pub data Made (f : Form) (o : Outcome) : Type 0 where
-  made : (g : Form) (flag : Bool) → Kept f g → o ≡ formOutcome g flag → Made f o
+  made : (g : Form) (flag : Bool) → KeptForm f g → o ≡ formOutcome g flag → Made f o
   not-made : (n : ℕ) → 0 < n → o ≡ refused n → Made f o
 
 -- a form that is given only where its table keeps the limits
 module _ (f g : Form) (flag : Bool) where
-  pub limit-made : (fitsTable (g .rows) ≡ true → Kept f g) → Made f (limitOutcome g flag)
+  pub limit-made : (fitsTable (g .rows) ≡ true → KeptForm f g) → Made f (limitOutcome g flag)
   unfolding limitOutcome
   limit-made k = go (fitsTable (g .rows)) refl
     where
@@ -64,10 +63,3 @@ pass-made pass f ok m len = go (ℕ-discrete len 57360)
         by-case : Made f (pass f) → Made f (passOutcome pass (encodeForm f) len)
         by-case (made g flag k q) = made g flag k (same e ∙ q)
         by-case (not-made n pos q) = not-made n pos (same e ∙ q)
-
-pub compact-made : (f : Form) → validForm f ≡ true → (len : ℕ) → Made f (compactAtomTable (encodeForm f) len)
-unfolding compactAtomTable compactForm
-compact-made f ok len =
-    pass-made (λ f. formOutcome (compactForm f) false) f ok
-    (made (compactForm f) false
-    (record { valid = valid-compact f ok; wide = refl; value = λ vars. value-compact vars f }) refl) len

@@ -1,5 +1,6 @@
--- Laws of what reads a form and has a result slice (specs/PassOutcome.antt, readOutcome): its refusals are those of
--- `openOutcome`, and where there is none the bytes are a form, the slice has its length, and what is given is given.
+-- Laws of what reads a form and has a result slice (semilinear/specs/PassOutcome.antt, readOutcome): its refusals are
+-- those of `openOutcome`, and where there is none the bytes are a form, the slice has its length, and what is given is
+-- given.
 use mathlib.Core.Path.{_≡_, refl, ap, sym, _∙_}
 use Prim.Native.Nat.{ℕ, _≤_}
 use native.Mathlib.Omega.{arith}

@@ -13,10 +13,11 @@ use borrow.Author.Tests.{eq-eqb, ne-eqb}
 use Rattle.base.specs.Choice.{when}
 use Rattle.base.specs.Put.{put}
 use Rattle.base.proofs.PutLaws.{length-put, put-then}
-use Rattle.atom_table.specs.declared.compact.Written.{Written}
+use Rattle.atom_table.specs.declared.table.Written.{Written}
 use Rattle.semilinear.specs.Form.{Row, termCount, termBytes, termsBytes}
-use Rattle.atom_table.specs.Terms.{coeffsOf, coeffsIn, rowTerm, rowTerms, coeffTerms, coeffCount, TermPut, TermsPut}
-use Rattle.atom_table.proofs.RenumberLaws.{length-term, put-none}
+use Rattle.atom_table.specs.Terms.{coeffsOf, coeffsIn, rowTerm, rowTerms, coeffTerms, coeffCount, TermPut}
+use Rattle.atom_table.specs.Terms.{TermsPut}
+use Rattle.atom_table.proofs.TermLengthLaws.{length-term, put-none}
 
 -- ---- one term
 

@@ -1,5 +1,3 @@
--- The definitions of this crate.
-pub mod Compact
-pub mod Copying
+-- The atom table of a form that is being made, the terms behind it, and the begin and the end of a pass.
 pub mod Table
 pub mod Terms

@@ -8,7 +8,7 @@ use lib.ListN.{length, getD}
 use lib.Dec.{eqb}
 use Rattle.base.specs.Choice.{when}
 use Rattle.base.specs.Put.{put}
-use Rattle.atom_table.specs.declared.compact.Written.{Written}
+use Rattle.atom_table.specs.declared.table.Written.{Written}
 use Rattle.semilinear.specs.declared.outcome.Answer.{Answer}
 use Rattle.atom_table.specs.declared.table.Table.{Table}
 use Rattle.semilinear.specs.Form.{Row, Form, termBytes, fitsTable}

@@ -1,6 +1,4 @@
-// The atom table of a form that is being made: the front door, the begin and the end of a pass,
-// and compaction.
-pub mod compact;
+// The atom table of a form that is being made: the front door, the begin and the end of a pass.
 pub mod pass;
 pub mod read;
 pub mod table;

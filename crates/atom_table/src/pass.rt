@@ -1,7 +1,7 @@
 // The begin and the end of a pass: the atoms are copied, and the terms and the sum record follow.
-use crate::compact::Written;
 use crate::table;
 use crate::table::Table;
+use crate::table::Written;
 use base::limits;
 use semilinear::outcome;
 use semilinear::outcome::Answer;

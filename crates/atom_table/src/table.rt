@@ -2,8 +2,8 @@
 // writers of a form's records.
 use base::limits;
 ghost use mathlib.Core.Path.{_≡_};
-ghost use mathlib.Core.Bool.{true};
-ghost use Prim.Native.Nat.{_+_, _<_, _≤_};
+ghost use mathlib.Core.Bool.{true, false};
+ghost use Prim.Native.Nat.{_+_, _<_, _≤_, _-_};
 ghost use lib.ListN.{length};
 ghost use Rattle.record.specs.Span.{sized};
 ghost use Rattle.base.specs.Put.{put};
@@ -102,4 +102,10 @@ impl Table {
         self.records = records + size;
         self
     }
+}
+
+// Where what was written ends, and how many terms were written.
+pub struct Written {
+    pub used: usize,
+    pub terms: u64,
 }

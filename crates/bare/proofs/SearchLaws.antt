@@ -20,18 +20,18 @@ use Rattle.semilinear.proofs.ItemsLaws.{atom-room, fold-atom, fold-done}
 use Rattle.semilinear.proofs.FrontLaws.{atom-front, word-atom, tree-span-atom, after-atom-atom}
 use Rattle.made.specs.Made.{Basis}
 use Rattle.structure_laws.specs.RecoverStructure.{rowWith}
-use Rattle.bare.specs.Search.{hasTree, atomWith}
+use Rattle.bare.specs.Search.{atomHas, atomWith}
 use Rattle.bare.proofs.HashBytesLaws.{same-hash}
 
 -- ---- the test of one atom
 
 module _ (hash : ℕ) (t r : List ℕ) {v : ℕ} (e : v ≡ frontWord r) where
-  pub tree-other : (v ≡ hash → ⊥) → false ≡ hasTree hash t r
-  unfolding hasTree
+  pub tree-other : (v ≡ hash → ⊥) → false ≡ atomHas hash t r
+  unfolding atomHas
   tree-other n = sym (simp (ne-eqb (frontWord r) hash (λ z. n (e ∙ z))))
 
-  pub tree-same : v ≡ hash → {s : List ℕ} {b : Bool} → s ≡ treeSpan r → b ≡ eqList s t → b ≡ hasTree hash t r
-  unfolding hasTree
+  pub tree-same : v ≡ hash → {s : List ℕ} {b : Bool} → s ≡ treeSpan r → b ≡ eqList s t → b ≡ atomHas hash t r
+  unfolding atomHas
   tree-same h es eb =
       eb ∙ ap (λ (s : List ℕ). eqList s t) es ∙ sym (simp (eq-eqb (frontWord r) hash (sym e ∙ h)))
 
@@ -41,10 +41,10 @@ module _ (hash : ℕ) (t : List ℕ) where
   with-none : (r : List ℕ) → isAtom r ≡ false → atomWith hash t r ≡ 0
   with-none r e = fold-done _ _ r e
 
-  with-here : (r : List ℕ) → isAtom r ≡ true → hasTree hash t r ≡ true → atomWith hash t r ≡ 0
+  with-here : (r : List ℕ) → isAtom r ≡ true → atomHas hash t r ≡ true → atomWith hash t r ≡ 0
   with-here r e s = fold-atom _ _ r e ∙ simp s
 
-  with-next : (r : List ℕ) → isAtom r ≡ true → hasTree hash t r ≡ false
+  with-next : (r : List ℕ) → isAtom r ≡ true → atomHas hash t r ≡ false
       → atomWith hash t r ≡ 1 + atomWith hash t (afterAtom r)
   with-next r e s = fold-atom _ _ r e ∙ simp s
 
@@ -62,7 +62,7 @@ module _ (hash : ℕ) (t : List ℕ) where
     passed-end e = omega (arith, h .rest, ap (atomWith hash t) er, with-none r e)
 
     module _ (ea : isAtom r ≡ true) where
-      pub passed-found : hasTree hash t r ≡ true → i ≡ atomWith hash t f
+      pub passed-found : atomHas hash t r ≡ true → i ≡ atomWith hash t f
       passed-found s = omega (arith, h .rest, ap (atomWith hash t) er, with-here r ea s)
 
       pub atom-inside : at + atomLength r ≤ length f
@@ -73,7 +73,7 @@ module _ (hash : ℕ) (t : List ℕ) where
       unfolding afterAtom
       after-at = ap (drop (atomLength r)) er ∙ drop-drop (atomLength r) at f
 
-      pub passed-next : hasTree hash t r ≡ false → Searched f (at + atomLength r) (i + 1)
+      pub passed-next : atomHas hash t r ≡ false → Searched f (at + atomLength r) (i + 1)
       unfolding atomLength
       passed-next s =
           record {
@@ -116,8 +116,8 @@ module _ (w hash : ℕ) (b : List ℕ) (basis : Basis w hash b) (word : hash < 2
         same-hash w (x .tree) (decode b) (bytes ∙ sym (basis .same)) ∙ sym (basis .hashed) in
         word-atom w (x .provenance) (x .tree) (atomsBytes w l) (omega (arith, same, word)) ∙ same
 
-    span-tree : hasTree hash b front ≡ eqTree w (x .tree) (decode b)
-    unfolding hasTree
+    span-tree : atomHas hash b front ≡ eqTree w (x .tree) (decode b)
+    unfolding atomHas
     span-tree = go (eqTree w (x .tree) (decode b)) refl
       where
         go : (s : Bool) → eqTree w (x .tree) (decode b) ≡ s

@@ -8,9 +8,9 @@ use Rattle.base.specs.Lists.{eqList}
 use Rattle.semilinear.specs.Items.{frontWord, treeSpan, foldAtoms}
 
 -- the atom at the front has this hash, and a tree with the bytes t
-unfoldable pub hasTree : ℕ → List ℕ → List ℕ → Bool
-hasTree hash t r = eqb (frontWord r) hash && eqList (treeSpan r) t
+unfoldable pub atomHas : ℕ → List ℕ → List ℕ → Bool
+atomHas hash t r = eqb (frontWord r) hash && eqList (treeSpan r) t
 
 -- the number of the first atom that has them; the count of atoms where there is none
 abbrev pub atomWith : ℕ → List ℕ → List ℕ → ℕ
-atomWith hash t = foldAtoms (λ r. 0) (λ r n. when (hasTree hash t r) (λ _. 0) (λ _. 1 + n))
+atomWith hash t = foldAtoms (λ r. 0) (λ r n. when (atomHas hash t r) (λ _. 0) (λ _. 1 + n))

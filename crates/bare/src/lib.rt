@@ -11,14 +11,14 @@ ghost use Rattle.record.specs.Decode.{decode};
 ghost use Rattle.semilinear.specs.Items.{isAtom};
 ghost use Rattle.made.specs.Rows.{createRow};
 ghost use Rattle.made.specs.Made.{Room, Grew, Basis};
-ghost use Rattle.bare.specs.Search.{hasTree, atomWith};
+ghost use Rattle.bare.specs.Search.{atomHas, atomWith};
 ghost use Rattle.bare.specs.Showing.{BareFound};
 
 // Whether the atom at the front has this hash and the tree t. Bytes are compared only where the
 // hashes are equal.
 fn has_tree(r: &[u8], t: &[u8], hash: u64) -> bool
     requires { ⌜ isAtom (now r) ≡ true ⌝ }
-    ensures { λ b. ⌜ b ≡ hasTree hash (now (t .entry)) (now (r .entry)) ⌝ }
+    ensures { λ b. ⌜ b ≡ atomHas hash (now (t .entry)) (now (r .entry)) ⌝ }
 {
     if items::front_word(r) != hash {
         return false;

@@ -1,4 +1,4 @@
--- What everything uses and no format needs: choice, lists, loops, slices, and what a call gives.
+-- What everything uses and no format needs: choice, lists, loops, slices, what a call gives, and the limits.
 pub mod Choice
 pub mod Limits
 pub mod Lists

@@ -24,7 +24,7 @@ use Rattle.partition_laws.specs.Partition.{PartitionClass, classesF, classesOf,
 use Rattle.partition_laws.specs.Partition.{partitionsOutcome, computePartitions}
 use Rattle.partition_laws.specs.Columns.{Columns}
 use Rattle.profile.specs.Index.{AtomsValid}
-use Rattle.bit_partitioner.specs.Places.{rowsIn, AllPlaced, FormPlaced}
+use Rattle.bit_partitioner.specs.Places.{formRows, AllPlaced, FormPlaced}
 use Rattle.partition_laws.proofs.ClassesLaws.{classes-none, classes-some}
 use Rattle.partition_laws.proofs.ColumnsLaws.{columns}
 use Rattle.profile.proofs.IndexLaws.{trees-count}
@@ -77,10 +77,10 @@ module _ (s : List ℕ) where
       let some = classes-some (decodeForm s) (omega (arith, rows-count)) in
       let a : AllPlaced (body s) w before out r = rw ef at placed in
       record {
-        number = a .number ∙ ap (λ (k : ℕ). length (classesF k k (rowsIn (body s)))) hw ∙ ap length (sym some);
+        number = a .number ∙ ap (λ (k : ℕ). length (classesF k k (formRows (body s)))) hw ∙ ap length (sym some);
         words =
             a .words
-            ∙ ap₂ (λ (k m : ℕ). padded k (classWords (classesF m m (rowsIn (body s))))) long hw
+            ∙ ap₂ (λ (k m : ℕ). padded k (classWords (classesF m m (formRows (body s))))) long hw
             ∙ ap (λ (l : List PartitionClass). padded 16448 (classWords l)) (sym some);
       }
 

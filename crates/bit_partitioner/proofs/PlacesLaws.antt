@@ -19,10 +19,10 @@ use Rattle.bit_partitioner.specs.declared.places.Places.{Places}
 use Rattle.partition_laws.specs.Partition.{PartitionClass, profileWord, profileFrom, joinClass}
 use Rattle.partition_laws.specs.Partition.{classesF, classWords}
 use Rattle.profile.specs.Edges.{atomEdges}
-use Rattle.partition_laws.specs.Classes.{Each, classNumber, addPlace, ClassesIn, countAfter, Joins}
-use Rattle.profile.specs.Index.{atomTrees, treeOf, Readable, Indexed}
+use Rattle.partition_laws.specs.Classes.{EachClass, classNumber, addPlace, ClassesIn, countAfter, Joins}
+use Rattle.profile.specs.Index.{atomTrees, treeOf, IndexReadable, AtomsIndexed}
 use Rattle.profile.specs.Profile.{movedWord, WordsMoved}
-use Rattle.bit_partitioner.specs.Places.{rowsIn, Placed, PlacedNext, AllPlaced}
+use Rattle.bit_partitioner.specs.Places.{formRows, PlacesJoined, PlacedNext, AllPlaced}
 use Rattle.partition_laws.proofs.PartitionLaws.{classes-length}
 use Rattle.partition_laws.proofs.ProfileLaws.{profile-length, profile-at}
 use Rattle.profile.proofs.EdgesLaws.{word-still, edge-start}
@@ -35,17 +35,17 @@ use Rattle.profile.proofs.MoveLaws.{moved-edge, moved-still, rows-length, rows-
 module _ (f : List ℕ) (w : ℕ) where
   -- the profile of place p
   abbrev pub profileOf : ℕ → List ℕ
-  profileOf p = profileFrom w p 0 (rowsIn f)
+  profileOf p = profileFrom w p 0 (formRows f)
 
   length-profile : (p : ℕ) → length (profileOf p) ≡ length (atomTrees f)
-  length-profile p = profile-length w p 0 (rowsIn f) ∙ rows-length f (afterAtoms f)
+  length-profile p = profile-length w p 0 (formRows f) ∙ rows-length f (afterAtoms f)
 
   word-of : (p i : ℕ) → i < length (atomTrees f) → getD (profileOf p) i 0 ≡ profileWord w p i (treeOf f i)
   word-of p i h =
-      profile-at w p 0 (rowsIn f) i (omega (arith, rows-length f (afterAtoms f)))
+      profile-at w p 0 (formRows f) i (omega (arith, rows-length f (afterAtoms f)))
       ∙ ap₂ (profileWord w p) (zero-add i) (rows-tree f (afterAtoms f) i)
 
-  module _ (index : List ℕ) (r : Readable f index) (hw : w ≤ 64) where
+  module _ (index : List ℕ) (r : IndexReadable f index) (hw : w ≤ 64) where
     -- no edge at p + 1: the word is that of p
     same-word : (p i : ℕ) → suc p < w → i < length (atomTrees f) → bitAt (atomEdges (treeOf f i)) (suc p) ≡ 0
         → profileWord w p i (treeOf f i) ≡ profileWord w (suc p) i (treeOf f i)
@@ -74,7 +74,7 @@ module _ (f : List ℕ) (w : ℕ) where
             ∙ same-word p i hp h (omega (arith, bit-lt (atomEdges (treeOf f i)) (suc p)))
 
   -- no atom has an edge at p + 1: the profile is that of p
-  pub profile-still : (index : List ℕ) (edges : ℕ) → Indexed f index edges → w ≤ 64 → (p : ℕ) → suc p < w
+  pub profile-still : (index : List ℕ) (edges : ℕ) → AtomsIndexed f index edges → w ≤ 64 → (p : ℕ) → suc p < w
       → bitAt edges (suc p) ≡ 0 → profileOf p ≡ profileOf (suc p)
   profile-still index edges x hw p hp z =
       ext-getD 0 (profileOf p) (profileOf (suc p)) (length-profile p ∙ sym (length-profile (suc p)))
@@ -100,10 +100,10 @@ last-class w rows q (suc p) l e =
     let z : suc p - 1 ≡ p = omega arith in
     rw (e ∙ ap (λ (k : ℕ). profileFrom w k 0 rows) z) (number-lt (profileFrom w p 0 rows) p (classesF p w rows))
 
-module _ (f : List ℕ) (w : ℕ) (x : Places) (before out : List ℕ) (h : Placed f w x before out) where
+module _ (f : List ℕ) (w : ℕ) (x : Places) (before out : List ℕ) (h : PlacesJoined f w x before out) where
   -- there are at most as many classes as places, so that there is room for one more
   pub count-place : x .count ≤ x .place
-  count-place = omega (arith, h .classes .count, classes-length w (rowsIn f) (x .place))
+  count-place = omega (arith, h .classes .count, classes-length w (formRows f) (x .place))
 
   pub room-next : x .place < 64 → 64 * (length before + 1) ≤ length out
       → (x .count + 1) * (length before + 1) ≤ length out
@@ -115,18 +115,18 @@ module _ (f : List ℕ) (w : ℕ) (x : Places) (before out : List ℕ) (h : Plac
   -- the class of the place before is one of the classes
   pub class-lt : 0 < x .place → x .class < x .count
   class-lt l =
-      omega (arith, h .classes .count, h .class l, last-class w (rowsIn f) before (x .place) l (h .last l))
+      omega (arith, h .classes .count, h .class l, last-class w (formRows f) before (x .place) l (h .last l))
 
   -- the next place has this profile and this class
   next-of : {profile after : List ℕ} {c k : ℕ} → length after ≡ length out → profile ≡ profileOf f w (x .place)
-      → ClassesIn (length profile) after k (joinClass (x .place) profile (classesF (x .place) w (rowsIn f)))
-      → c ≡ classNumber profile (classesF (x .place) w (rowsIn f))
+      → ClassesIn (length profile) after k (joinClass (x .place) profile (classesF (x .place) w (formRows f)))
+      → c ≡ classNumber profile (classesF (x .place) w (formRows f))
       → PlacedNext f w x (record { place = x .place + 1; class = c; count = k }) profile out after
   next-of {profile} long e classes class =
       let p : ℕ = x .place in
-      let l : List PartitionClass = classesF p w (rowsIn f) in
-      let next : classesF (p + 1) w (rowsIn f) ≡ joinClass p profile l =
-      classes-next w (rowsIn f) p ∙ ap (λ (q : List ℕ). joinClass p q l) (sym e) in
+      let l : List PartitionClass = classesF p w (formRows f) in
+      let next : classesF (p + 1) w (formRows f) ≡ joinClass p profile l =
+      classes-next w (formRows f) p ∙ ap (λ (q : List ℕ). joinClass p q l) (sym e) in
       let z : p ≡ p + 1 - 1 = omega arith in
       record {
         next = refl;
@@ -141,7 +141,7 @@ module _ (f : List ℕ) (w : ℕ) (x : Places) (before out : List ℕ) (h : Plac
       }
 
   -- where no atom has an edge, the place joins the class of the place before
-  module _ (index : List ℕ) (edges : ℕ) (ix : Indexed f index edges) (some : 0 < length (atomTrees f))
+  module _ (index : List ℕ) (edges : ℕ) (ix : AtomsIndexed f index edges) (some : 0 < length (atomTrees f))
       (hp : x .place < w) (hw : w ≤ 64) (z : bitAt edges (x .place) ≡ 0) where
     pub still-pos : 0 < x .place
     still-pos = go (ℕ-discrete (x .place) 0)
@@ -168,18 +168,18 @@ module _ (f : List ℕ) (w : ℕ) (x : Places) (before out : List ℕ) (h : Plac
         ∙ ap (profileOf f w) s in
         let n = ap length ha ∙ length-add-place (x .class * (length before + 1)) (x .place) out in
         next-of n e
-        (classes-old before out (x .count) (x .place) (classesF (x .place) w (rowsIn f)) (h .classes)
+        (classes-old before out (x .count) (x .place) (classesF (x .place) w (formRows f)) (h .classes)
         (h .class still-pos) (class-lt still-pos) ha)
         (h .class still-pos)
 
   -- and else that of its profile
-  pub placed-joined : (index : List ℕ) → Readable f index → x .place < w → w ≤ 64 → {profile : List ℕ}
+  pub placed-joined : (index : List ℕ) → IndexReadable f index → x .place < w → w ≤ 64 → {profile : List ℕ}
       → WordsMoved f w (x .place) before profile
       → {after : List ℕ} {r : ℕ} → Joins (x .place) profile out (x .count) after r
       → {k : ℕ} → k ≡ countAfter (x .count) r
       → PlacedNext f w x (record { place = x .place + 1; class = r; count = k }) profile out after
   placed-joined index rd hp hw {profile} m j {k} hk =
-      let l : List PartitionClass = classesF (x .place) w (rowsIn f) in
+      let l : List PartitionClass = classesF (x .place) w (formRows f) in
       let here : ClassesIn (length profile) out (x .count) l = rw (m .long) (h .classes) in
       next-of (j .long) (profile-moved f w index rd hw (x .place) hp (h .long) (h .last) m) (rw hk (j .classes l here))
       (j .class l here)
@@ -196,8 +196,8 @@ module _ (k r : ℕ) where
 -- ---- the loop
 
 pub placed-none : (f : List ℕ) (w : ℕ) (profile out : List ℕ) → length profile ≡ length (atomTrees f)
-    → out ≡ padded (length out) [] → Placed f w (record { place = 0; class = 0; count = 0 }) profile out
-unfolding classesF Each classWords
+    → out ≡ padded (length out) [] → PlacesJoined f w (record { place = 0; class = 0; count = 0 }) profile out
+unfolding classesF EachClass classWords
 placed-none f w profile out n z =
     record {
       long = n;
@@ -206,13 +206,13 @@ placed-none f w profile out n z =
       class = λ l. absurd (omega arith);
     }
 
-pub placed-all : (f : List ℕ) (w : ℕ) (x : Places) (profile before after : List ℕ) → Placed f w x profile after
+pub placed-all : (f : List ℕ) (w : ℕ) (x : Places) (profile before after : List ℕ) → PlacesJoined f w x profile after
     → x .place ≤ w → w ≤ x .place → length after ≡ length before → AllPlaced f w before after (x .count)
 placed-all f w x profile before after h l m n =
     let e : x .place ≡ w = omega arith in
     record {
-      number = h .classes .count ∙ ap (λ (p : ℕ). length (classesF p w (rowsIn f))) e;
+      number = h .classes .count ∙ ap (λ (p : ℕ). length (classesF p w (formRows f))) e;
       words =
           h .classes .words
-          ∙ ap₂ (λ (k p : ℕ). padded k (classWords (classesF p w (rowsIn f)))) n e;
+          ∙ ap₂ (λ (k p : ℕ). padded k (classWords (classesF p w (formRows f)))) n e;
     }

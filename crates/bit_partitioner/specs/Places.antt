@@ -14,26 +14,26 @@ use Rattle.profile.specs.Index.{atomTrees}
 use Rattle.base.specs.Limits.{columnWords}
 
 -- the rows of the atoms and terms f
-abbrev pub rowsIn : List ℕ → List Row
-rowsIn f = rowsOf 0 f (afterAtoms f)
+abbrev pub formRows : List ℕ → List Row
+formRows f = rowsOf 0 f (afterAtoms f)
 
 -- the places below x .place are in their classes; the profile and the class are those of the last of them
-pub record Placed (f : List ℕ) (w : ℕ) (x : Places) (profile out : List ℕ) : Type 0 where
+pub record PlacesJoined (f : List ℕ) (w : ℕ) (x : Places) (profile out : List ℕ) : Type 0 where
   pub long : length profile ≡ length (atomTrees f)
-  pub classes : ClassesIn (length profile) out (x .count) (classesF (x .place) w (rowsIn f))
-  pub last : 0 < x .place → profile ≡ profileFrom w (x .place - 1) 0 (rowsIn f)
-  pub class : 0 < x .place → x .class ≡ classNumber profile (classesF (x .place) w (rowsIn f))
+  pub classes : ClassesIn (length profile) out (x .count) (classesF (x .place) w (formRows f))
+  pub last : 0 < x .place → profile ≡ profileFrom w (x .place - 1) 0 (formRows f)
+  pub class : 0 < x .place → x .class ≡ classNumber profile (classesF (x .place) w (formRows f))
 
 -- one place more is
 pub record PlacedNext (f : List ℕ) (w : ℕ) (x y : Places) (profile before after : List ℕ) : Type 0 where
   pub next : y .place ≡ x .place + 1
   pub long : length after ≡ length before
-  pub placed : Placed f w y profile after
+  pub placed : PlacesJoined f w y profile after
 
 -- all places of w are: the words of their classes, and how many there are
 pub record AllPlaced (f : List ℕ) (w : ℕ) (before after : List ℕ) (count : ℕ) : Type 0 where
-  pub number : count ≡ length (classesF w w (rowsIn f))
-  pub words : after ≡ padded (length before) (classWords (classesF w w (rowsIn f)))
+  pub number : count ≡ length (classesF w w (formRows f))
+  pub words : after ≡ padded (length before) (classWords (classesF w w (formRows f)))
 
 -- the classes of the form s are in the words, and r says how many there are
 pub record FormPlaced (s out : List ℕ) (r : ℕ) : Type 0 where

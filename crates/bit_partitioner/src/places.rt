@@ -6,8 +6,8 @@ ghost use Prim.Native.Nat.{ℕ, _+_, _*_, _<_, _≤_};
 ghost use lib.ListN.{length};
 ghost use Rattle.base.specs.Put.{padded};
 ghost use Rattle.semilinear.specs.Items.{atomCount};
-ghost use Rattle.profile.specs.Index.{atomTrees, AtomsValid, Indexed};
-ghost use Rattle.bit_partitioner.specs.Places.{Placed, PlacedNext, AllPlaced};
+ghost use Rattle.profile.specs.Index.{atomTrees, AtomsValid, AtomsIndexed};
+ghost use Rattle.bit_partitioner.specs.Places.{PlacesJoined, PlacedNext, AllPlaced};
 
 // Places on their way: the next place, the class of the place before, and the count of classes.
 pub struct Places {
@@ -27,8 +27,8 @@ impl Places {
         profile: &mut [u64],
         out: &mut [u64],
     ) -> Self
-        requires { ⌜ Indexed (now f) (now index) edges × (0 < length (atomTrees (now f)))
-            × Placed (now f) w self (now profile) (now out) × (self .place < w) × (w ≤ 64)
+        requires { ⌜ AtomsIndexed (now f) (now index) edges × (0 < length (atomTrees (now f)))
+            × PlacesJoined (now f) w self (now profile) (now out) × (self .place < w) × (w ≤ 64)
             × (64 * (length (now profile) + 1) ≤ length (now out)) ⌝ }
         ensures { λ r. ⌜ PlacedNext (now (f .entry)) w self r (now (profile .exit))
             (now (out .entry)) (now (out .exit)) ⌝ }
@@ -71,7 +71,7 @@ fn join_places(
     profile: &mut [u64],
     out: &mut [u64],
 ) -> usize
-    requires { ⌜ Indexed (now f) (now index) edges × (0 < length (atomTrees (now f)))
+    requires { ⌜ AtomsIndexed (now f) (now index) edges × (0 < length (atomTrees (now f)))
         × (length (now profile) ≡ length (atomTrees (now f))) × (w ≤ 64)
         × (64 * (length (now profile) + 1) ≤ length (now out))
         × (now out ≡ padded (length (now out)) []) ⌝ }

@@ -20,7 +20,8 @@ use Rattle.bitwise.specs.declared.Checked.{Checked}
 use Rattle.expr_refusal.specs.Refusal.{lowest, rootRefusal, treeRefusal}
 use Rattle.expr_utils.specs.Utils.{isArith, hasKind, hasArith, hasVarDep}
 use Rattle.expr.specs.Hash.{mixHash, tagHash, structuralHash}
-use Rattle.bitwise.specs.Bitwise.{bitwiseOk, refused, passing, checked, lastChild, rootOk, leafChecked, oneChecked, twoChecked}
+use Rattle.bitwise.specs.Bitwise.{bitwiseOk, refused, passing, checked, lastChild, rootOk, leafChecked}
+use Rattle.bitwise.specs.Bitwise.{oneChecked, twoChecked}
 use Rattle.expr_refusal.proofs.RefusalLaws.{lowest-zero, lowest-none, accepted-big, accepted-root, zero-of-root}
 use Rattle.expr_refusal.proofs.RefusalLaws.{accepted-body, accepted-left, accepted-right}
 

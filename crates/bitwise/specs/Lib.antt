@@ -1,2 +1,2 @@
--- The definitions of this crate.
+-- What one walk of an atom's tree finds.
 pub mod Bitwise

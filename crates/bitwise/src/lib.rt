@@ -6,7 +6,8 @@ ghost use mathlib.Core.Path.{_≡_};
 ghost use mathlib.Core.Bool.{true};
 ghost use Prim.Native.Nat.{ℕ, _≤_};
 ghost use lib.ListN.{length};
-ghost use Rattle.bitwise.specs.Bitwise.{rootOk, refused, lastChild, leafChecked, oneChecked, twoChecked, checked};
+ghost use Rattle.bitwise.specs.Bitwise.{rootOk, refused, lastChild, leafChecked, oneChecked};
+ghost use Rattle.bitwise.specs.Bitwise.{twoChecked, checked};
 ghost use Rattle.base.specs.Limits.{recordLength};
 
 // Whether the tree is one without Add, Mul and Neg to which no refusal applies; if so, whether it has

@@ -17,7 +17,7 @@ use Rattle.expr.proofs.IsExprLaws.{unary-of-expr, binary-of-expr}
 use Rattle.semilinear.specs.Form.{Row, Form, isAtomTree, rowsOk, validForm}
 use Rattle.semilinear.proofs.FormLaws.{rows-cons, form-parts}
 use Rattle.semilinear.proofs.AtomLaws.{tree-atom}
-use Rattle.partition_laws.specs.Columns.{treeAt}
+use Rattle.partition_laws.specs.Columns.{rowTree}
 use Rattle.claims.specs.Atoms.{AtomKind, constant-kind, variable-kind, and-kind, or-kind, xor-kind}
 use Rattle.claims.specs.Atoms.{not-kind, shr-kind, IsAtom, AllAtoms}
 
@@ -75,8 +75,8 @@ is-atom t e =
     let p = tree-atom t e in
     record { variable = p .variable; kinds = atom-kinds t (p .expr) (p .plain) }
 
-rows-atom : (w : ℕ) (l : List Row) → rowsOk w l ≡ true → (i : ℕ) → i < length l → IsAtom (treeAt l i)
-unfolding treeAt
+rows-atom : (w : ℕ) (l : List Row) → rowsOk w l ≡ true → (i : ℕ) → i < length l → IsAtom (rowTree l i)
+unfolding rowTree
 rows-atom w [] ok i h = absurd (omega arith)
 rows-atom w (x ∷ l) ok zero h = is-atom (x .tree) (rows-cons w x l ok .0 .atom)
 rows-atom w (x ∷ l) ok (suc i) h = rows-atom w l (rows-cons w x l ok .1) i (omega arith)

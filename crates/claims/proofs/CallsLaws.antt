@@ -10,12 +10,13 @@ use Rattle.semilinear.specs.Form.{Form, encodeForm, validForm}
 use Rattle.base.specs.Outcome.{Outcome, accepted, refused}
 use Rattle.semilinear.specs.Outcome.{formOutcome}
 use Rattle.semilinear_value.specs.Value.{semilinearValue}
-use Rattle.atom_table.specs.Compact.{compactAtomTable}
+use Rattle.compaction.specs.Compact.{compactAtomTable}
 use Rattle.semilinear.specs.PassOutcome.{limitOutcome}
 use Rattle.semilinear.proofs.FormLaws.{form-not-refused}
 use Rattle.atom_table.proofs.PassLaws.{pass-slice}
 use Rattle.semilinear_value.proofs.ValueLaws.{encoded-value}
-use Rattle.atom_table.proofs.MadeLaws.{Kept, Made, made, not-made, limit-made, pass-made, compact-made}
+use Rattle.atom_table.proofs.MadeLaws.{KeptForm, Made, made, not-made, limit-made, pass-made}
+use Rattle.compaction.proofs.CompactedLaws.{compact-made}
 use Rattle.normalizer_laws.specs.Normalize.{normalizeToSemilinear}
 use Rattle.normalizer_laws.proofs.NormalizeLaws.{normalize-form}
 use Rattle.term_refiner.specs.RefineTerms.{refineForm, refineTerms}
@@ -88,7 +89,7 @@ module _ (f : Form) (ok : validForm f ≡ true) (len : ℕ) where
 pub record InUse (f : Form) (t : List ℕ) : Type 0 where
   pub form : Form
   pub encoded : t ≡ encodeForm form
-  pub kept : Kept f form
+  pub kept : KeptForm f form
 
 pub call-keeps : (f : Form) → validForm f ≡ true → (c : Call) → InUse f (afterCall c (encodeForm f))
 unfolding afterCall useOf formOutcome

@@ -25,7 +25,7 @@ use Rattle.semilinear.specs.Items.{atomLength, isAtom, treeSpan, afterAtom, ato
 use Rattle.semilinear.specs.Valid.{atomTreeOk, treeOk, atomOk, termOk, termsOkF, termsOk, sumOk, frontOk}
 use Rattle.semilinear.specs.Valid.{isSemilinear, lengthRefused}
 use Rattle.semilinear.specs.DecodeForm.{hasTerm, coeffAt, afterTerm, rowAt, rowsF, rowsOf, decodeForm}
-use Rattle.atom_table.specs.Compact.{usedRows, compactForm, compactAtomTable}
+use Rattle.compaction.specs.Compact.{usedRows, compactForm, compactAtomTable}
 use Rattle.group.specs.Group.{at, putEntry, emptyGroup, pushEntry, isLive, consumed, work, onGroup}
 use Rattle.made.specs.Rows.{createRow}
 use Rattle.made.specs.Rows.{maskedTree, createMasked}

@@ -6,7 +6,7 @@ use mathlib.Core.Bool.{true}
 use Rattle.semilinear.specs.Form.{Form, encodeForm, validForm}
 use Rattle.base.specs.Outcome.{Outcome, accepted, refused}
 use Rattle.semilinear_value.specs.Value.{semilinearValue}
-use Rattle.atom_table.specs.Compact.{compactAtomTable}
+use Rattle.compaction.specs.Compact.{compactAtomTable}
 use Rattle.term_refiner.specs.RefineTerms.{refineTerms}
 use Rattle.structure_laws.specs.RecoverStructure.{recoverStructure}
 use Rattle.structure_laws.specs.CoalesceTerms.{coalesceTerms}

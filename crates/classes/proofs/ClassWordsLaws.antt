@@ -1,5 +1,5 @@
--- Laws of the words of classes and of the number of a class (specs/Classes.antt): where a class's words stand, that a
--- search finds the first class with a profile, and what `joinClass` does to classes and their words.
+-- Laws of the words of classes and of the number of a class (partition_laws/specs/Classes.antt): where a class's words
+-- stand, that a search finds the first class with a profile, and what `joinClass` does to classes and their words.
 use mathlib.Core.Path.{_≡_, refl, ap, sym, _∙_}
 use Prim.Native.Nat.{ℕ, suc, _+_, _-_, _*_, _%_, _^_, _≤_, _<_}
 use native.Mathlib.Omega.{arith}
@@ -17,7 +17,7 @@ use Rattle.base.specs.Put.{padded}
 use Rattle.base.proofs.ListsLaws.{eq-list-self}
 use Rattle.base.specs.Loop.{firstF}
 use Rattle.partition_laws.specs.Partition.{PartitionClass, joinClass, classWords}
-use Rattle.partition_laws.specs.Classes.{Each, HasWords, classNumber, hasProfile, addPlace}
+use Rattle.partition_laws.specs.Classes.{EachClass, HasWords, classNumber, hasProfile, addPlace}
 use Rattle.partition_laws.proofs.PartitionLaws.{classAt}
 
 -- ---- places of words
@@ -130,14 +130,14 @@ module _ (q : List ℕ) where
         go true f below = refl
         go false f below = ap suc (below (omega arith))
 
-    pub join-words : (n : ℕ) → length q ≡ n → (l : List PartitionClass) → Each (HasWords n) l
-        → Each (HasWords n) (joinClass p q l)
-    unfolding Each joinClass
+    pub join-words : (n : ℕ) → length q ≡ n → (l : List PartitionClass) → EachClass (HasWords n) l
+        → EachClass (HasWords n) (joinClass p q l)
+    unfolding EachClass joinClass
     join-words n hq [] e = (hq, tt)
     join-words n hq (x ∷ l) e = go (eqList (x .profile) q) (join-words n hq l (e .1))
       where
-        go : (b : Bool) → Each (HasWords n) (joinClass p q l)
-            → Each (HasWords n)
+        go : (b : Bool) → EachClass (HasWords n) (joinClass p q l)
+            → EachClass (HasWords n)
             (when b (λ _. record { mask = bitOr (x .mask) (2 ^ p); profile = x .profile } ∷ l)
             (λ _. x ∷ joinClass p q l))
         go true below = e
@@ -168,9 +168,9 @@ module _ (q : List ℕ) where
             omega (arith, join-number l, number-le l, ap length e, length-append l (new ∷ []))
 
     -- the words of the class that is found change in the mask alone
-    pub words-old : (n : ℕ) (l : List PartitionClass) → Each (HasWords n) l → classNumber q l < length l
+    pub words-old : (n : ℕ) (l : List PartitionClass) → EachClass (HasWords n) l → classNumber q l < length l
         → classWords (joinClass p q l) ≡ addPlace (classNumber q l * (n + 1)) p (classWords l)
-    unfolding Each classNumber joinClass classWords addPlace
+    unfolding EachClass classNumber joinClass classWords addPlace
     words-old n [] e h = absurd (omega arith)
     words-old n (x ∷ l) e h = go (eqList (x .profile) q) h (words-old n l (e .1))
       where

@@ -1,2 +1,2 @@
--- The definitions of this crate.
+-- Coalescing through the groups, as the code goes.
 pub mod Coalescing

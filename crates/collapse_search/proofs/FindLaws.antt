@@ -1,4 +1,4 @@
--- Laws of the search for the three entries of a collapse (specs/Collapse.antt) as the code does it.
+-- Laws of the search for the three entries of a collapse (group/specs/Collapse.antt) as the code does it.
 use mathlib.Core.Path.{_≡_, ap, sym, _∙_}
 use Prim.Native.Nat.{ℕ, _+_, _≤_, _<_}
 use native.Mathlib.Omega.{arith}

@@ -1,2 +1,2 @@
--- The definitions of this crate.
+-- What the search for a collapse finds, and its links.
 pub mod Links

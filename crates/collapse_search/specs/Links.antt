@@ -1,4 +1,4 @@
--- What the code of the three-term collapse finds (specs/Collapse.antt), and the links by which it finds the third
+-- What the code of the three-term collapse finds (group/specs/Collapse.antt), and the links by which it finds the third
 -- entry: the live entries that share no bit with a mask, by a fold of their coefficients.
 use Prim.Native.Nat.{ℕ, _+_, _/_, _^_, _≤_, _<_}
 use mathlib.Core.Path.{_≡_}

@@ -6,7 +6,8 @@ ghost use mathlib.Core.Path.{_≡_};
 ghost use mathlib.Core.Bool.{false};
 ghost use Prim.Native.Nat.{ℕ, _<_, _≤_};
 ghost use lib.ListN.{length, getD, replicate};
-ghost use Rattle.collapse_search.specs.Links.{folds, foldOf, apartOf, restOf, lent, Linked, thirdIn};
+ghost use Rattle.collapse_search.specs.Links.{folds, foldOf, apartOf, restOf, lent, Linked};
+ghost use Rattle.collapse_search.specs.Links.{thirdIn};
 ghost use Rattle.base.specs.Limits.{groupEntries};
 
 // How many folds there are.

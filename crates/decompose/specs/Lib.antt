@@ -1,3 +1,3 @@
--- The definitions of this crate.
+-- A bitwise tree as basis and mask (`decompose_atom`).
 pub mod Basis
 pub mod Decompose

@@ -5,27 +5,24 @@ use Prim.Native.Nat.{ℕ, _+_, _≤_}
 use native.Mathlib.Omega.{arith}
 use mathlib.Core.List.{List}
 use mathlib.Core.Bool.{true, false}
-use lib.ListN.{length}
 use lib.Dec.{eqb}
 use Rattle.record.specs.Fields.{kind, arity}
-use Rattle.record.specs.Span.{left}
 use Rattle.record.specs.Tree.{sizeOf}
 use Rattle.record.specs.Tree.Tree.{Binary}
-use Rattle.record.proofs.SizedLaws.{sized-big}
 use Rattle.expr_utils.specs.Utils.{hasVarDep}
-use Rattle.descent.specs.declared.side.Spot.{Spot}
+use Rattle.ways.specs.declared.side.Spot.{Spot}
 use Rattle.descent.specs.declared.collect.Descent.{Descent}
-use Rattle.descent.specs.declared.side.Side.{Side}
+use Rattle.ways.specs.declared.side.Side.{Side}
 use Rattle.normalizer_laws.specs.Collect.{Collected, linear, joinCollected, collectTerms}
-use Rattle.descent.specs.Spots.{spanOf, Collects, Ready}
-use Rattle.descent.specs.Sides.{treeAt, AtSpot, sideTree, isBinary, leftOf, rightOf, leftSide}
-use Rattle.descent.specs.Sides.{rightSide}
-use Rattle.descent.proofs.SpanOfLaws.{binary-two}
-use Rattle.descent.proofs.SideLaws.{left-side, right-side, left-side-tree, right-side-tree}
-use Rattle.descent.proofs.SideLaws.{left-size, left-sized, split, sides-size, spot-marks}
-use Rattle.descent.proofs.CollectsLaws.{collects-as, collects-more, collects-then, collects-stop}
-use Rattle.descent.proofs.CollectsLaws.{ready-after, ready-less}
-use Rattle.descent.proofs.TermsLaws.{terms-add}
+use Rattle.ways.specs.Spans.{spanOf}
+use Rattle.descent.specs.Spots.{Collects, Ready}
+use Rattle.ways.specs.Sides.{treeAt, AtSpot, sideTree, isBinary, leftOf, rightOf, leftSide, rightSide}
+use Rattle.ways.proofs.SpanOfLaws.{binary-two}
+use Rattle.ways.proofs.SideLaws.{left-side, right-side, left-side-tree, right-side-tree, left-size, split, sides-size}
+use Rattle.ways.proofs.SideLaws.{spot-marks}
+use Rattle.descent.proofs.CollectsLaws.{collects-as, collects-more, collects-then, collects-stop, ready-after}
+use Rattle.descent.proofs.CollectsLaws.{ready-less}
+use Rattle.ways.proofs.TermsLaws.{terms-add}
 use Rattle.descent.proofs.DescentLaws.{Down}
 
 module _ {w : ℕ} {file marks : List ℕ} {x : Spot} (at : AtSpot w file marks x)
@@ -39,9 +36,6 @@ module _ {w : ℕ} {file marks : List ℕ} {x : Spot} (at : AtSpot w file marks 
 
   sizes : sizeOf (treeAt file x) ≡ sizeOf (leftOf (treeAt file x)) + sizeOf (rightOf (treeAt file x)) + 1
   sizes = sym (spot-marks at) ∙ sides-size at two
-
-  pub left-big : 16 ≤ length (left (spanOf file (x .start) (x .end)))
-  left-big = sized-big _ (left-sized at two refl)
 
   left-tree : sideTree file (leftSide file x) ≡ leftOf (treeAt file x)
   unfolding leftSide

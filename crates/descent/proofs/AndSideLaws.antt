@@ -11,10 +11,10 @@ use Rattle.base.proofs.BoolLaws.{false-true}
 use Rattle.expr_utils.specs.Utils.{hasKind, hasVarDep}
 use Rattle.expr.specs.Value.{value}
 use Rattle.expr.proofs.ValueLaws.{value-lt}
-use Rattle.descent.specs.declared.side.Side.{Side}
+use Rattle.ways.specs.declared.side.Side.{Side}
 use Rattle.normalizer_laws.specs.Collect.{collectAtom, isNot, operand, collectNot, collectAnd}
-use Rattle.descent.specs.Sides.{SideAt, sideTree, SideOf, neither, at-right, at-left, isBinary}
-use Rattle.descent.specs.Sides.{leftOf, rightOf, IsAnd}
+use Rattle.ways.specs.Sides.{SideAt, sideTree, SideOf, neither, at-right, at-left, isBinary}
+use Rattle.ways.specs.Sides.{leftOf, rightOf, IsAnd}
 use Rattle.normalizer_laws.proofs.AndLaws.{and-not-left, and-not-right, and-plain-left, and-plain-right}
 use Rattle.normalizer_laws.proofs.AndLaws.{and-both}
 

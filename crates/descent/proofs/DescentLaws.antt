@@ -6,13 +6,14 @@ use native.Mathlib.Omega.{arith}
 use mathlib.Core.List.{List}
 use Rattle.record.specs.Fields.{size}
 use Rattle.record.specs.Tree.{sizeOf}
-use Rattle.descent.specs.declared.side.Spot.{Spot}
+use Rattle.ways.specs.declared.side.Spot.{Spot}
 use Rattle.descent.specs.declared.collect.Descent.{Descent}
-use Rattle.descent.specs.declared.side.Side.{Side}
-use Rattle.descent.specs.Marks.{marksOf}
-use Rattle.descent.specs.Spots.{spanOf, Ready}
-use Rattle.descent.specs.Sides.{treeAt, AtSpot, SideAt, sideTree}
-use Rattle.descent.proofs.SpanOfLaws.{size-sized, span-sized}
+use Rattle.ways.specs.declared.side.Side.{Side}
+use Rattle.ways.specs.Marks.{marksOf}
+use Rattle.ways.specs.Spans.{spanOf}
+use Rattle.descent.specs.Spots.{Ready}
+use Rattle.ways.specs.Sides.{treeAt, AtSpot, SideAt, sideTree}
+use Rattle.ways.proofs.SpanOfLaws.{size-sized, span-sized}
 use Rattle.descent.proofs.CollectsLaws.{ready-less}
 
 -- a side of the tree of the spot x

@@ -3,17 +3,8 @@ pub mod AddLaws
 pub mod AndSideLaws
 pub mod CollectsLaws
 pub mod DescentLaws
-pub mod InnerLaws
-pub mod MarkedLaws
-pub mod MarksLaws
-pub mod PartLaws
 pub mod PushLaws
-pub mod PutSpanLaws
-pub mod SideLaws
-pub mod SpanOfLaws
 pub mod SpotsLaws
-pub mod TermsLaws
 pub mod WayDownLaws
-pub mod WayLaws
 pub mod WayOnLaws
 pub mod WholeLaws

@@ -16,11 +16,12 @@ use Rattle.record.specs.Decode.{decode}
 use Rattle.expr_utils.specs.Utils.{hasVarDep}
 use Rattle.descent.specs.declared.collect.Descent.{Descent}
 use Rattle.normalizer_laws.specs.Collect.{linear, collectAtom, collectNot, collectAnd, andCoeff}
-use Rattle.descent.specs.Spots.{spanOf, spotTree, Accepted, Collects, Pushed, Ready}
-use Rattle.descent.specs.Sides.{collectLiteral}
+use Rattle.ways.specs.Spans.{spanOf, Accepted}
+use Rattle.descent.specs.Spots.{spotTree, Collects, Pushed, Ready}
+use Rattle.ways.specs.Sides.{collectLiteral}
 use Rattle.normalizer_laws.proofs.JoinLaws.{mod-add-zero}
 use Rattle.normalizer_laws.proofs.AndLaws.{literal-not, literal-atom, and-zero}
-use Rattle.descent.proofs.InnerLaws.{not-inner, not-root, not-operand, other-root}
+use Rattle.ways.proofs.InnerLaws.{not-inner, not-root, not-operand, other-root}
 use Rattle.descent.proofs.SpotsLaws.{spotOf, collects-push}
 use Rattle.descent.proofs.CollectsLaws.{collects-as, collects-none, collects-constant}
 use Rattle.descent.proofs.CollectsLaws.{collects-then, ready-after, ready-less}

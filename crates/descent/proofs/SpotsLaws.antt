@@ -15,7 +15,8 @@ use Rattle.base.specs.Put.{put}
 use Rattle.base.proofs.PutLaws.{length-put, getD-put-before, getD-put-in}
 use Rattle.descent.specs.declared.collect.Descent.{Descent}
 use Rattle.normalizer_laws.specs.Collect.{Emitted, nonlinear, linear, joinCollected}
-use Rattle.descent.specs.Spots.{spanOf, spotWords, spotTree, spotAt, spotsIn, collectedIn, Accepted}
+use Rattle.ways.specs.Spans.{spanOf, Accepted}
+use Rattle.descent.specs.Spots.{spotWords, spotTree, spotAt, spotsIn, collectedIn}
 use Rattle.descent.specs.Spots.{SpotsOk, Collects, Pushed}
 
 -- ---- the words of atoms

@@ -1,5 +1,6 @@
--- The descent from a spot of the file (specs/Sides.antt, WayDown): where it ends, the smaller spots to which it goes,
--- and that what is collected there makes up what is collected here. `Going` is what the loop of `collect_terms` keeps.
+-- The descent from a spot of the file (ways/specs/Sides.antt, WayDown): where it ends, the smaller spots to which it
+-- goes, and that what is collected there makes up what is collected here. `Going` is what the loop of `collect_terms`
+-- keeps.
 use mathlib.Core.Path.{_≡_, refl, ap, sym, _∙_}
 use Prim.Native.Nat.{ℕ, _^_, _≤_, _<_}
 use native.Mathlib.Omega.{arith}
@@ -12,14 +13,15 @@ use Rattle.record.specs.Fields.{kind, size}
 use Rattle.record.specs.Tree.{sizeOf}
 use Rattle.base.proofs.BoolLaws.{false-true}
 use Rattle.expr_utils.specs.Utils.{hasVarDep}
-use Rattle.descent.specs.declared.side.Spot.{Spot}
-use Rattle.descent.specs.declared.side.Side.{Side}
-use Rattle.descent.specs.declared.side.Way.{Way}
+use Rattle.ways.specs.declared.side.Spot.{Spot}
+use Rattle.ways.specs.declared.side.Side.{Side}
+use Rattle.ways.specs.declared.side.Way.{Way}
 use Rattle.descent.specs.declared.collect.Descent.{Descent}
 use Rattle.normalizer_laws.specs.Collect.{collectTerms}
-use Rattle.descent.specs.Spots.{spanOf, Accepted, Collects, Ready}
-use Rattle.descent.specs.Sides.{treeAt, sideTree, AtSpot, leftSide, rightSide, WayOf, Ends, WayDown}
-use Rattle.descent.specs.Sides.{none, sum, other, collectLiteral}
+use Rattle.ways.specs.Spans.{spanOf, Accepted}
+use Rattle.descent.specs.Spots.{Collects, Ready}
+use Rattle.ways.specs.Sides.{treeAt, sideTree, AtSpot, leftSide, rightSide, WayOf, EndsHere, WayDown}
+use Rattle.ways.specs.Sides.{none, sum, other, collectLiteral}
 use Rattle.descent.proofs.DescentLaws.{Down, down-spot, down-falls, down-ready}
 use Rattle.descent.proofs.AddLaws.{down-left, down-right, ready-right, sum-then, sum-stop}
 use Rattle.descent.proofs.WayOnLaws.{down-way, way-whole, way-goes, way-literal, ready-masked}
@@ -42,10 +44,10 @@ module _ {w : ℕ} {file marks : List ℕ} {x : Spot} (at : AtSpot w file marks 
   abbrev k : ℕ
   k = kind (spanOf file (x .start) (x .end))
 
-  pub down-ends : b .found ≡ false → Ends w (x .coeff) (treeAt file x)
+  pub down-ends : b .found ≡ false → EndsHere w (x .coeff) (treeAt file x)
   down-ends e = go way
     where
-      go : Here → Ends w (x .coeff) (treeAt file x)
+      go : Here → EndsHere w (x .coeff) (treeAt file x)
       go (none f q) = q
       go (sum two hc hv s) = false-true (sym e ∙ ap (λ (z : Way). z .found) s)
       go (other n hc hv o) = λ _ _. way-whole at o e

@@ -9,13 +9,14 @@ use Rattle.record.specs.Tree.{Tree, sizeOf}
 use Rattle.base.proofs.BoolLaws.{false-true}
 use Rattle.expr_utils.specs.Utils.{hasVarDep}
 use Rattle.expr.specs.Value.{value}
-use Rattle.descent.specs.declared.side.Spot.{Spot}
+use Rattle.ways.specs.declared.side.Spot.{Spot}
 use Rattle.descent.specs.declared.collect.Descent.{Descent}
-use Rattle.descent.specs.declared.side.Way.{Way}
+use Rattle.ways.specs.declared.side.Way.{Way}
 use Rattle.normalizer_laws.specs.Collect.{Collected, linear, joinCollected, collectTerms}
-use Rattle.descent.specs.Spots.{Accepted, Collects, Ready}
-use Rattle.descent.specs.Sides.{treeAt, AtSpot, sideTree, WayOf, ends, goes, masks, collectWhole}
-use Rattle.descent.specs.Sides.{collectLiteral}
+use Rattle.ways.specs.Spans.{Accepted}
+use Rattle.descent.specs.Spots.{Collects, Ready}
+use Rattle.ways.specs.Sides.{treeAt, AtSpot, sideTree, WayOf, ends, goes, masks, collectWhole}
+use Rattle.ways.specs.Sides.{collectLiteral}
 use Rattle.descent.proofs.CollectsLaws.{collects-as, collects-more, collects-then, collects-stop}
 use Rattle.descent.proofs.CollectsLaws.{ready-after, ready-less}
 use Rattle.descent.proofs.DescentLaws.{Down}

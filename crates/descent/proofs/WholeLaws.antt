@@ -18,7 +18,7 @@ use Rattle.base.proofs.BoolLaws.{false-true}
 use Rattle.record.proofs.LeafLaws.{leaf-both}
 use Rattle.expr_utils.specs.Utils.{hasArith}
 use Rattle.normalizer_laws.specs.Collect.{nonlinear, collectAtom, collectAnd}
-use Rattle.descent.specs.Sides.{leftOf, rightOf, IsAnd, collectWhole}
+use Rattle.ways.specs.Sides.{leftOf, rightOf, IsAnd, collectWhole}
 
 -- ---- what is collected
 

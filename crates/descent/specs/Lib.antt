@@ -1,4 +1,2 @@
--- The definitions of this crate.
-pub mod Marks
-pub mod Sides
+-- What a descent has collected, in lent words.
 pub mod Spots

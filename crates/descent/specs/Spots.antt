@@ -1,25 +1,19 @@
 -- The descent as the code runs it: atoms are named by the bytes of the file that hold their trees, in lent words, five
 -- to an atom; a view gives what they stand for.
+use Rattle.ways.specs.Spans.{spanOf, Accepted}
 use mathlib.Core.Path.{_≡_}
 use Prim.Native.Nat.{ℕ, zero, suc, _+_, _-_, _*_, _^_, _≤_, _<_}
 use mathlib.Core.List.{List, [], _∷_, _++_}
 use mathlib.Core.Bool.{true}
-use lib.ListN.{length, getD, take, drop}
+use lib.ListN.{length, getD}
 use lib.Dec.{eqb}
 use Rattle.base.specs.Choice.{when}
 use Rattle.record.specs.Tree.{Tree}
 use Rattle.record.specs.Tree.Tree.{Constant, Binary}
 use Rattle.record.specs.Decode.{decode}
 use Rattle.base.specs.Put.{put}
-use Rattle.expr_refusal.specs.Refusal.{treeRefusal}
 use Rattle.descent.specs.declared.collect.Descent.{Descent}
 use Rattle.normalizer_laws.specs.Collect.{Emitted, Collected, nonlinear, linear, joinCollected}
-
--- ---- the words
-
--- the bytes from start to end
-unfoldable pub spanOf : List ℕ → ℕ → ℕ → List ℕ
-spanOf file start end = take (end - start) (drop start file)
 
 -- the words of an atom: the coefficient, where a subtree stands in the file, and whether a literal belongs to it
 unfoldable pub spotWords : ℕ → ℕ → ℕ → ℕ → ℕ → List ℕ
@@ -48,12 +42,6 @@ spotsIn file words (suc n) = spotsIn file words n ++ (spotAt file words n ∷ []
 unfoldable pub collectedIn : List ℕ → List ℕ → Descent → Collected
 collectedIn file words d =
     when (d .linear) (λ _. linear (d .constant) (spotsIn file words (d .count))) (λ _. nonlinear)
-
--- a part of the file that holds an accepted tree of width w
-pub record Accepted (w : ℕ) (file : List ℕ) (start end : ℕ) : Type 0 where
-  pub rising : start ≤ end
-  pub inside : end ≤ length file
-  pub tree : treeRefusal w (spanOf file start end) ≡ 0
 
 -- each of the first n atoms names such a part, and its literal has w bits
 abbrev pub SpotsOk : ℕ → List ℕ → List ℕ → ℕ → Type 0

@@ -1,11 +1,11 @@
 // The descent: what an expression comes to as a constant and weighted atoms, in the order in which
 // the Rust makes them, or that it is not linear. An atom is named by the bytes of the file that
 // hold its tree; one that the descent makes itself is a subtree of the file and a literal.
-use crate::marks;
-use crate::side;
-use crate::side::Side;
-use crate::side::Spot;
 use base::limits;
+use ways::marks;
+use ways::side;
+use ways::side::Side;
+use ways::side::Spot;
 ghost use mathlib.Core.Path.{_≡_};
 ghost use mathlib.Core.Bool.{true, false};
 ghost use Prim.Native.Nat.{_+_, _*_, _^_, _<_, _≤_};
@@ -16,10 +16,11 @@ ghost use Rattle.record.specs.Tree.{sizeOf};
 ghost use Rattle.record.specs.Tree.Tree.{Constant};
 ghost use Rattle.expr_utils.specs.Utils.{hasVarDep};
 ghost use Rattle.normalizer_laws.specs.Collect.{collectAnd, andCoeff, collectTerms};
-ghost use Rattle.descent.specs.Spots.{Accepted, Collects, Ready, Pushed};
-ghost use Rattle.descent.specs.Sides.{treeAt, AtSpot, sideTree, leftOf};
-ghost use Rattle.descent.specs.Sides.{rightOf, IsAnd, collectWhole};
-ghost use Rattle.descent.specs.Sides.{collectLiteral, Ends};
+ghost use Rattle.ways.specs.Spans.{Accepted};
+ghost use Rattle.descent.specs.Spots.{Collects, Ready, Pushed};
+ghost use Rattle.ways.specs.Sides.{treeAt, AtSpot, sideTree, leftOf};
+ghost use Rattle.ways.specs.Sides.{rightOf, IsAnd, collectWhole};
+ghost use Rattle.ways.specs.Sides.{collectLiteral, EndsHere};
 
 // A descent on its way: whether all was linear so far, the constant, and how many atoms there are.
 pub struct Descent {
@@ -215,7 +216,7 @@ impl Descent {
     fn collect_end(self, x: Spot, file: &[u8], marks: &[u8], w: u32, spots: &mut [u64]) -> Self
         requires { ⌜ AtSpot w (now file) (now marks) x
             × Ready w (sizeOf (treeAt (now file) x)) (now spots) self
-            × Ends w (x .coeff) (treeAt (now file) x) ⌝ }
+            × EndsHere w (x .coeff) (treeAt (now file) x) ⌝ }
         ensures { λ r. ⌜ Collects w (now (file .entry)) (sizeOf (treeAt (now (file .entry)) x))
             (collectTerms w (x .coeff) (treeAt (now (file .entry)) x))
             (now (spots .entry)) self (now (spots .exit)) r ⌝ }

@@ -1,4 +1,2 @@
-// The descent of normalising: marks, the ways on from a root, and what is collected.
+// The descent of normalising: what is collected on the way down.
 pub mod collect;
-pub mod marks;
-pub mod side;

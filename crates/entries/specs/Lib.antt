@@ -1,3 +1,3 @@
--- The definitions of this crate.
+-- The marks of a group's entries, and tests on one and on two entries.
 pub mod Marks
 pub mod Tests

@@ -1,4 +1,5 @@
--- Laws of `isExpr` (specs/Refusal.antt): what it says of a root, both ways; such trees have bytes that decode to them.
+-- Laws of `isExpr` (expr_refusal/specs/Refusal.antt): what it says of a root, both ways; such trees have bytes that
+-- decode to them.
 use mathlib.Core.Path.{_≡_}
 use Prim.Native.Nat.{ℕ, _+_, _^_, _≤_, _<_}
 use native.Mathlib.Omega.{arith}

@@ -1,4 +1,4 @@
--- What expressions mean: refusals, value, structural hash, tests and variables of a tree, and the entry point's answer.
+-- What expressions mean: value, structural hash and variables of a tree, and the entry point's answer.
 pub mod Value
 pub mod Hash
 pub mod Vars

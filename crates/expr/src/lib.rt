@@ -1,4 +1,4 @@
-// Expressions in 16-byte records: their refusals, value, structural hash, tests and variables.
+// Expressions in 16-byte records: their value, structural hash and variables.
 pub mod hash;
 pub mod value;
 pub mod vars;

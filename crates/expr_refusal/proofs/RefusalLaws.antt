@@ -14,7 +14,8 @@ use Rattle.record.specs.Span.{body, left, right, sized}
 use Rattle.record.proofs.SpanLaws.{fold-none, fold-leaf, fold-one, fold-two, span-ind}
 use Rattle.base.proofs.BoolLaws.{false-true, and-true}
 use Rattle.record.proofs.FieldsLaws.{kind-of-arity-zero}
-use Rattle.expr_refusal.specs.Refusal.{lowest, usesByte1, fieldsOk, sizeOk, formOk, widthOk, rootRefusal, treeRefusal}
+use Rattle.expr_refusal.specs.Refusal.{lowest, usesByte1, fieldsOk, sizeOk, formOk, widthOk, rootRefusal}
+use Rattle.expr_refusal.specs.Refusal.{treeRefusal}
 
 -- neither of two refusals
 pub lowest-zero : (a b : ℕ) → lowest a b ≡ 0 → (a ≡ 0) × (b ≡ 0)

@@ -3,7 +3,8 @@ use base::limits;
 ghost use mathlib.Core.Path.{_≡_};
 ghost use Prim.Native.Nat.{ℕ, _≤_};
 ghost use lib.ListN.{length};
-ghost use Rattle.expr_refusal.specs.Refusal.{lowest, usesByte1, fieldsOk, sizeOk, formOk, widthOk, rootRefusal, treeRefusal, exprRefusal};
+ghost use Rattle.expr_refusal.specs.Refusal.{lowest, usesByte1, fieldsOk, sizeOk, formOk};
+ghost use Rattle.expr_refusal.specs.Refusal.{widthOk, rootRefusal, treeRefusal, exprRefusal};
 ghost use Rattle.base.specs.Limits.{recordLength};
 
 // The lower of two refusals; 0 is none.

@@ -1,2 +1,2 @@
--- The definitions of this crate.
+-- Tests of a tree (expr_utils.rs), and refusal 7.
 pub mod Utils

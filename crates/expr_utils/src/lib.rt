@@ -5,7 +5,8 @@ ghost use Prim.Native.Nat.{ℕ, _<_, _≤_};
 ghost use lib.ListN.{length};
 ghost use Rattle.record.specs.Span.{sized};
 ghost use Rattle.record.specs.Decode.{leaf, decode};
-ghost use Rattle.expr_utils.specs.Utils.{isArith, isBitwise, isConstantSubtree, hasVarDep, hasConstantArith, traitsOf, joinTraits, nodeTraits};
+ghost use Rattle.expr_utils.specs.Utils.{isArith, isBitwise, isConstantSubtree, hasVarDep};
+ghost use Rattle.expr_utils.specs.Utils.{hasConstantArith, traitsOf, joinTraits, nodeTraits};
 ghost use Rattle.base.specs.Limits.{recordLength};
 
 // What a tree holds: a variable, a literal, a Shr, an Add, Mul or Neg, and one of these three

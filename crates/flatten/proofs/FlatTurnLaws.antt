@@ -30,8 +30,8 @@ use Rattle.made.specs.Made.{Room}
 use Rattle.flatten.specs.declared.Flattening.{Flattening}
 use Rattle.structure_laws.specs.FlattenComplexAtoms.{isPlain, isComplex, atZero, atOnes, Flat, flatRow}
 use Rattle.structure_laws.specs.FlattenComplexAtoms.{flattenRow}
-use Rattle.flatten.specs.Flattening.{complexTree, flatTree, flatConstant, Extended, flat, Works}
-use Rattle.flatten.specs.Flattening.{bareRow, keptRow, rowOf, RowFlattened}
+use Rattle.flatten.specs.Flattening.{complexTree, flatTree, flatConstant, Extended, flatWith, Works}
+use Rattle.flatten.specs.Flattening.{bareRow, keptRow, rowHere, RowFlattened}
 use Rattle.structure_laws.proofs.OneVarLaws.{one-var-occurs}
 use Rattle.structure_laws.proofs.FlattenLaws.{flatten-row-other}
 use Rattle.flatten.proofs.ShownLaws.{shown-put, extended-then, extended-as, extended-constant}
@@ -94,27 +94,27 @@ module _ (w : ℕ) (x : Row) where
 
   pub flatten-row-tree : isComplex w x ≡ true → (s : Flat)
       → flattenRow w x s
-      ≡ flat (flatTree w (x .tree) (x .coeff) (s .added)) (flatConstant w (x .tree) (x .coeff) (s .constant)) true
+      ≡ flatWith (flatTree w (x .tree) (x .coeff) (s .added)) (flatConstant w (x .tree) (x .coeff) (s .constant)) true
   unfolding flattenRow flatTree flatConstant
   flatten-row-tree e s = simp e
 
 -- ---- the form that is being made, with the rows a before the row x and b behind it
 
 module _ (w : ℕ) (x : Row) (made out coeffs : List ℕ) (a b : List Row) (k : ℕ) (g h : Bool)
-    (was : Works w g made out coeffs (flat (a ++ (bareRow x ∷ b)) k h)) where
+    (was : Works w g made out coeffs (flatWith (a ++ (bareRow x ∷ b)) k h)) where
   -- the form after the row, where it is not flattened
   other : isComplex w x ≡ false
-      → flattenRow w x (flat (a ++ (keptRow w x ∷ b)) k h) ≡ flat (a ++ (x ∷ b)) k h
+      → flattenRow w x (flatWith (a ++ (keptRow w x ∷ b)) k h) ≡ flatWith (a ++ (x ∷ b)) k h
   other e =
-      flatten-row-other w x (flat (a ++ (keptRow w x ∷ b)) k h) e
-      ∙ ap (λ (r : Row). flat (a ++ (r ∷ b)) k h) (kept-same w x e)
+      flatten-row-other w x (flatWith (a ++ (keptRow w x ∷ b)) k h) e
+      ∙ ap (λ (r : Row). flatWith (a ++ (r ∷ b)) k h) (kept-same w x e)
 
-  works-none : x .coeff ≡ 0 → Works w g made out coeffs (flattenRow w x (flat (a ++ (keptRow w x ∷ b)) k h))
+  works-none : x .coeff ≡ 0 → Works w g made out coeffs (flattenRow w x (flatWith (a ++ (keptRow w x ∷ b)) k h))
   works-none e =
       rw (other (complex-none w x e)) (rw (bare-same w x e) at was)
 
   works-put : isComplex w x ≡ false → (coeffs′ : List ℕ) → coeffs′ ≡ set coeffs (length a) (x .coeff)
-      → Works w g made out coeffs′ (flattenRow w x (flat (a ++ (keptRow w x ∷ b)) k h))
+      → Works w g made out coeffs′ (flattenRow w x (flatWith (a ++ (keptRow w x ∷ b)) k h))
   works-put e coeffs′ put =
       rw (other e)
       (record {
@@ -126,9 +126,9 @@ module _ (w : ℕ) (x : Row) (made out coeffs : List ℕ) (a b : List Row) (k : 
   works-flat : isComplex w x ≡ true → (made′ out′ coeffs′ : List ℕ)
       → Extended w 2 (flatTree w (x .tree) (x .coeff)) (flatConstant w (x .tree) (x .coeff)) made out coeffs made′ out′
       coeffs′
-      → Works w true made′ out′ coeffs′ (flattenRow w x (flat (a ++ (keptRow w x ∷ b)) k h))
+      → Works w true made′ out′ coeffs′ (flattenRow w x (flatWith (a ++ (keptRow w x ∷ b)) k h))
   works-flat e made′ out′ coeffs′ step =
-      rw (flatten-row-tree w x e (flat (a ++ (keptRow w x ∷ b)) k h), kept-bare w x e)
+      rw (flatten-row-tree w x e (flatWith (a ++ (keptRow w x ∷ b)) k h), kept-bare w x e)
       (record {
         flag = refl;
         constant = step .constant ∙ ap (flatConstant w (x .tree) (x .coeff)) (was .constant);
@@ -163,20 +163,20 @@ module _ (w : ℕ) (f : List ℕ) (x : Flattening) (ha : x .at ≤ length f) (hn
   unfolding rowAt coeffAt
   turn-none h =
       let h′ : hasTerm (x .number) (drop (x .next) f) ≡ false = rw eq at h in
-      let none : rowOf f x .coeff ≡ 0 = simp h′ in
+      let none : rowHere f x .coeff ≡ 0 = simp h′ in
       record {
         passed = passed-without f (x .at) (x .next) (x .number) ha hn e er eq en h;
         room = room;
         rows-le = omega arith;
         long = refl;
         wide = refl;
-        turn = λ a b k g _ was. works-none w (rowOf f x) made out coeffs a b k (x .flag) g was none;
+        turn = λ a b k g _ was. works-none w (rowHere f x) made out coeffs a b k (x .flag) g was none;
       }
 
   module _ (h : hasTerm (x .number) q ≡ true) {c : ℕ} (ec : c ≡ frontWord q) {t : List ℕ} (et : t ≡ treeSpan r)
       (ok : termsOk w (x .number + atomCount (drop (x .at) f)) (x .number) (drop (x .next) f) ≡ true) where
     abbrev row : Row
-    row = rowOf f x
+    row = rowHere f x
 
     coeff-row : c ≡ row .coeff
     unfolding rowAt

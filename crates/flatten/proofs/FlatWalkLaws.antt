@@ -18,15 +18,15 @@ use Rattle.atom_table.proofs.HoldsLaws.{bareRows, holds-bare}
 use Rattle.semilinear.proofs.ItemsLaws.{fold-atom, rows-atom, rows-end}
 use Rattle.semilinear.proofs.ValidLaws.{FrontParts}
 use Rattle.semilinear_value.proofs.SumLaws.{later-atoms-ok}
-use Rattle.atom_table.proofs.CompactLaws.{terms-after}
+use Rattle.compaction.proofs.CompactLaws.{terms-after}
 use Rattle.made.specs.Made.{tableOf, Room, Held}
 use Rattle.views.proofs.ReadLaws.{length-rows}
 use Rattle.flatten.specs.declared.Flattening.{Flattening}
 use Rattle.structure_laws.specs.FlattenComplexAtoms.{Flat, flattenRow}
 use Rattle.structure_laws.specs.FlattenComplexAtoms.{flattenRows, keptRows}
 use Rattle.made.specs.Shown.{Shown}
-use Rattle.flatten.specs.Flattening.{flat, Works, bareRow, keptRow}
-use Rattle.flatten.specs.Flattening.{rowOf, RowFlattened, flatRows, RowsFlattened}
+use Rattle.flatten.specs.Flattening.{flatWith, Works, bareRow, keptRow}
+use Rattle.flatten.specs.Flattening.{rowHere, RowFlattened, flatRows, RowsFlattened}
 use Rattle.made.proofs.CoeffsLaws.{fits-length}
 use Rattle.flatten.proofs.KeptRowsLaws.{kept-more, length-kept, flatten-more, flatten-behind}
 
@@ -37,8 +37,8 @@ left f x = rowsOf (x .number) (drop (x .at) f) (drop (x .next) f)
 -- the rows `done` flattened, with those left behind them and those added last
 abbrev soFar : ℕ → ℕ → List Row → List Row → Flat
 soFar w k done rest =
-    flat (keptRows w done ++ (bareRows rest ++ flattenRows w done (flat [] k false) .added))
-    (flattenRows w done (flat [] k false) .constant) (flattenRows w done (flat [] k false) .flag)
+    flatWith (keptRows w done ++ (bareRows rest ++ flattenRows w done (flatWith [] k false) .added))
+    (flattenRows w done (flatWith [] k false) .constant) (flattenRows w done (flatWith [] k false) .flag)
 
 pub record Walked (w : ℕ) (f : List ℕ) (k len : ℕ) (x : Flattening) (made out coeffs : List ℕ) : Type 0 where
   pub inside : x .at ≤ length f
@@ -96,31 +96,31 @@ shown-bare w made out coeffs l h z =
 -- one row more of them
 works-row : (w k : ℕ) (g h : Bool) (made out coeffs made′ out′ coeffs′ : List ℕ) (done rest : List Row) (x : Row)
     → ((a b : List Row) (j : ℕ) (d : Bool) → length a ≡ length done
-    → Works w g made out coeffs (flat (a ++ (bareRow x ∷ b)) j d)
-    → Works w h made′ out′ coeffs′ (flattenRow w x (flat (a ++ (keptRow w x ∷ b)) j d)))
+    → Works w g made out coeffs (flatWith (a ++ (bareRow x ∷ b)) j d)
+    → Works w h made′ out′ coeffs′ (flattenRow w x (flatWith (a ++ (keptRow w x ∷ b)) j d)))
     → Works w g made out coeffs (soFar w k done (x ∷ rest))
     → Works w h made′ out′ coeffs′ (soFar w k (done ++ (x ∷ [])) rest)
 unfolding bareRows bareRow
 works-row w k g h made out coeffs made′ out′ coeffs′ done rest x turn was =
-    let s : Flat = flattenRows w done (flat [] k false) in
+    let s : Flat = flattenRows w done (flatWith [] k false) in
     let a : List Row = keptRows w done in
     let b : List Row = bareRows rest in
-    let more : flattenRows w (done ++ (x ∷ [])) (flat [] k false) ≡ flattenRow w x s =
-    flatten-more w done x (flat [] k false) in
+    let more : flattenRows w (done ++ (x ∷ [])) (flatWith [] k false) ≡ flattenRow w x s =
+    flatten-more w done x (flatWith [] k false) in
     let rows : (z : Flat) → a ++ (keptRow w x ∷ (b ++ z .added)) ≡ keptRows w (done ++ (x ∷ [])) ++ (b ++ z .added) =
     λ z. sym (append-assoc a (keptRow w x ∷ []) (b ++ z .added))
     ∙ ap (λ (l : List Row). l ++ (b ++ z .added)) (sym (kept-more w done x)) in
     let front : (z : Flat) → (a ++ (keptRow w x ∷ b)) ++ z .added ≡ a ++ (keptRow w x ∷ (b ++ z .added)) =
     λ z. append-assoc a (keptRow w x ∷ b) (z .added) in
-    let same : flattenRow w x (flat (a ++ (keptRow w x ∷ (b ++ s .added))) (s .constant) (s .flag))
+    let same : flattenRow w x (flatWith (a ++ (keptRow w x ∷ (b ++ s .added))) (s .constant) (s .flag))
     ≡ soFar w k (done ++ (x ∷ [])) rest =
-    ap (λ (l : List Row). flattenRow w x (flat l (s .constant) (s .flag))) (sym (front s))
+    ap (λ (l : List Row). flattenRow w x (flatWith l (s .constant) (s .flag))) (sym (front s))
     ∙ flatten-behind w x (a ++ (keptRow w x ∷ b)) s
-    ∙ ap (λ (z : Flat). flat ((a ++ (keptRow w x ∷ b)) ++ z .added) (z .constant) (z .flag)) (sym more)
-    ∙ ap (λ (l : List Row). flat l (flattenRows w (done ++ (x ∷ [])) (flat [] k false) .constant)
-    (flattenRows w (done ++ (x ∷ [])) (flat [] k false) .flag))
-    (front (flattenRows w (done ++ (x ∷ [])) (flat [] k false))
-    ∙ rows (flattenRows w (done ++ (x ∷ [])) (flat [] k false))) in
+    ∙ ap (λ (z : Flat). flatWith ((a ++ (keptRow w x ∷ b)) ++ z .added) (z .constant) (z .flag)) (sym more)
+    ∙ ap (λ (l : List Row). flatWith l (flattenRows w (done ++ (x ∷ [])) (flatWith [] k false) .constant)
+    (flattenRows w (done ++ (x ∷ [])) (flatWith [] k false) .flag))
+    (front (flattenRows w (done ++ (x ∷ [])) (flatWith [] k false))
+    ∙ rows (flattenRows w (done ++ (x ∷ [])) (flatWith [] k false))) in
     rw (← same) (turn a (b ++ s .added) (s .constant) (s .flag) (length-kept w done) was)
 
 module _ (w : ℕ) (f : List ℕ) (k len : ℕ) where
@@ -173,7 +173,7 @@ module _ (w : ℕ) (f : List ℕ) (k len : ℕ) where
       let p = t .passed in
       let count : n ≡ y .number + atomCount (drop (y .at) f) =
       omega (arith, fold-atom (λ r. 0) (λ r m. 1 + m) r e, ap atomCount (p .rest), p .next-number) in
-      let first : left f x ≡ rowOf f x ∷ left f y =
+      let first : left f x ≡ rowHere f x ∷ left f y =
       rows-atom i r q e ∙ rw (p .next-number, p .rest, p .terms) in
       record {
         inside = p .inside;
@@ -186,13 +186,13 @@ module _ (w : ℕ) (f : List ℕ) (k len : ℕ) where
         rows-le = omega (arith, t .rows-le, h .rows-le, p .next-number);
         long = t .long ∙ h .long;
         wide = t .wide ∙ h .wide;
-        done = h .done ++ (rowOf f x ∷ []);
-        numbered = length-append (h .done) (rowOf f x ∷ []) ∙ omega (arith, h .numbered, p .next-number);
+        done = h .done ++ (rowHere f x ∷ []);
+        numbered = length-append (h .done) (rowHere f x ∷ []) ∙ omega (arith, h .numbered, p .next-number);
         all =
-            append-assoc (h .done) (rowOf f x ∷ []) (left f y)
+            append-assoc (h .done) (rowHere f x ∷ []) (left f y)
             ∙ ap (λ (l : List Row). h .done ++ l) (sym first)
             ∙ h .all;
-        works = works-row w k (x .flag) (y .flag) made out coeffs made′ out′ coeffs′ (h .done) (left f y) (rowOf f x)
+        works = works-row w k (x .flag) (y .flag) made out coeffs made′ out′ coeffs′ (h .done) (left f y) (rowHere f x)
             (λ a b k g l. t .turn a b k g (l ∙ h .numbered))
             (rw first at (h .works));
       }

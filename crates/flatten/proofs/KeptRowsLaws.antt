@@ -15,7 +15,7 @@ use Rattle.semilinear.specs.Form.{andFamily, Row}
 use Rattle.made.specs.Rows.{maskedTree}
 use Rattle.structure_laws.specs.FlattenComplexAtoms.{isComplex, atZero, atOnes, Flat, flatRow, flattenRow}
 use Rattle.structure_laws.specs.FlattenComplexAtoms.{flattenRows, keptRows}
-use Rattle.flatten.specs.Flattening.{flatTree, flatConstant, flat, bareRow, keptRow}
+use Rattle.flatten.specs.Flattening.{flatTree, flatConstant, flatWith, bareRow, keptRow}
 use Rattle.structure_laws.proofs.FlattenLaws.{flatten-row-other}
 use Rattle.flatten.proofs.FlatTurnLaws.{flatten-row-tree}
 
@@ -77,18 +77,18 @@ module _ (w : ℕ) where
 
   -- rows before those added do not matter
   pub flatten-behind : (x : Row) (p : List Row) (s : Flat)
-      → flattenRow w x (flat (p ++ s .added) (s .constant) (s .flag))
-      ≡ flat (p ++ flattenRow w x s .added) (flattenRow w x s .constant) (flattenRow w x s .flag)
+      → flattenRow w x (flatWith (p ++ s .added) (s .constant) (s .flag))
+      ≡ flatWith (p ++ flattenRow w x s .added) (flattenRow w x s .constant) (flattenRow w x s .flag)
   flatten-behind x p s = go (isComplex w x) refl
     where
       go : (b : Bool) → isComplex w x ≡ b
-          → flattenRow w x (flat (p ++ s .added) (s .constant) (s .flag))
-          ≡ flat (p ++ flattenRow w x s .added) (flattenRow w x s .constant) (flattenRow w x s .flag)
+          → flattenRow w x (flatWith (p ++ s .added) (s .constant) (s .flag))
+          ≡ flatWith (p ++ flattenRow w x s .added) (flattenRow w x s .constant) (flattenRow w x s .flag)
       go true e =
-          flatten-row-tree w x e (flat (p ++ s .added) (s .constant) (s .flag))
-          ∙ ap (λ (l : List Row). flat l (flatConstant w (x .tree) (x .coeff) (s .constant)) true)
+          flatten-row-tree w x e (flatWith (p ++ s .added) (s .constant) (s .flag))
+          ∙ ap (λ (l : List Row). flatWith l (flatConstant w (x .tree) (x .coeff) (s .constant)) true)
           (tree-behind (x .tree) (x .coeff) p (s .added))
-          ∙ ap (λ (z : Flat). flat (p ++ z .added) (z .constant) (z .flag)) (sym (flatten-row-tree w x e s))
+          ∙ ap (λ (z : Flat). flatWith (p ++ z .added) (z .constant) (z .flag)) (sym (flatten-row-tree w x e s))
       go false e =
-          flatten-row-other w x (flat (p ++ s .added) (s .constant) (s .flag)) e
-          ∙ ap (λ (z : Flat). flat (p ++ z .added) (z .constant) (z .flag)) (sym (flatten-row-other w x s e))
+          flatten-row-other w x (flatWith (p ++ s .added) (s .constant) (s .flag)) e
+          ∙ ap (λ (z : Flat). flatWith (p ++ z .added) (z .constant) (z .flag)) (sym (flatten-row-other w x s e))

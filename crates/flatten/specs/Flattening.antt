@@ -59,8 +59,8 @@ pub record Extended (w n : ℕ) (F : List Row → List Row) (k : ℕ → ℕ) (m
 -- ---- the walk over the rows
 
 -- a form that is being made, with all its rows
-abbrev pub flat : List Row → ℕ → Bool → Flat
-flat l k g = record { added = l; constant = k; flag = g }
+abbrev pub flatWith : List Row → ℕ → Bool → Flat
+flatWith l k g = record { added = l; constant = k; flag = g }
 
 pub record Works (w : ℕ) (g : Bool) (made out coeffs : List ℕ) (s : Flat) : Type 0 where
   pub flag : g ≡ s .flag
@@ -75,8 +75,8 @@ unfoldable pub keptRow : ℕ → Row → Row
 keptRow w x = when (isComplex w x) (λ _. bareRow x) (λ _. x)
 
 -- the row whose atom stands at the place of x
-abbrev pub rowOf : List ℕ → Flattening → Row
-rowOf f x = rowAt (x .number) (drop (x .at) f) (drop (x .next) f)
+abbrev pub rowHere : List ℕ → Flattening → Row
+rowHere f x = rowAt (x .number) (drop (x .at) f) (drop (x .next) f)
 
 -- y is x after one row: of all rows a before it and b behind it
 pub record RowFlattened (w : ℕ) (f : List ℕ) (x y : Flattening) (made out coeffs made′ out′ coeffs′ : List ℕ)
@@ -87,16 +87,16 @@ pub record RowFlattened (w : ℕ) (f : List ℕ) (x y : Flattening) (made out co
   pub long : length out′ ≡ length out
   pub wide : length coeffs′ ≡ length coeffs
   pub turn : (a b : List Row) (k : ℕ) (g : Bool) → length a ≡ x .number
-      → Works w (x .flag) made out coeffs (flat (a ++ (bareRow (rowOf f x) ∷ b)) k g)
+      → Works w (x .flag) made out coeffs (flatWith (a ++ (bareRow (rowHere f x) ∷ b)) k g)
       → Works w (y .flag) made′ out′ coeffs′
-      (flattenRow w (rowOf f x) (flat (a ++ (keptRow w (rowOf f x) ∷ b)) k g))
+      (flattenRow w (rowHere f x) (flatWith (a ++ (keptRow w (rowHere f x) ∷ b)) k g))
 
 -- the rows l flattened, from the constant k on: those kept, and those added behind
 unfoldable pub flatRows : ℕ → List Row → ℕ → Flat
-flatRows w l k = flat (keptRows w l ++ made .added) (made .constant) (made .flag)
+flatRows w l k = flatWith (keptRows w l ++ made .added) (made .constant) (made .flag)
   where
     made : Flat
-    made = flattenRows w l (flat [] k false)
+    made = flattenRows w l (flatWith [] k false)
 
 -- all rows flattened, and the words and bytes as safe to go on with as before
 pub record RowsFlattened (w : ℕ) (l : List Row) (k len : ℕ) (r : Bool) (made out coeffs : List ℕ) : Type 0 where

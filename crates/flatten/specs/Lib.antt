@@ -1,2 +1,2 @@
--- The definitions of this crate.
+-- Flattening through the rows, as the code goes.
 pub mod Flattening

@@ -24,8 +24,10 @@ ghost use Rattle.semilinear.specs.Answers.{GivesForm};
 ghost use Rattle.semilinear.specs.PassOutcome.{limitOutcome};
 ghost use Rattle.semilinear.specs.Scan.{AtomsEnd};
 ghost use Rattle.made.specs.Made.{Room, Held};
-ghost use Rattle.structure_laws.specs.FlattenComplexAtoms.{isPlain, atOnes, flatRow, flattened, flattenForm, flattenComplexAtoms};
-ghost use Rattle.flatten.specs.Flattening.{complexTree, flatTree, flatConstant, Extended, RowFlattened, RowsFlattened};
+ghost use Rattle.structure_laws.specs.FlattenComplexAtoms.{isPlain, atOnes, flatRow, flattened};
+ghost use Rattle.structure_laws.specs.FlattenComplexAtoms.{flattenForm, flattenComplexAtoms};
+ghost use Rattle.flatten.specs.Flattening.{complexTree, flatTree, flatConstant, Extended};
+ghost use Rattle.flatten.specs.Flattening.{RowFlattened, RowsFlattened};
 ghost use Rattle.base.specs.Limits.{atomLimit, formBytes, varLimit};
 
 // Whether the tree of t is a variable, or a variable under a mask.

@@ -20,7 +20,8 @@ use Rattle.group.specs.declared.Group.{Group}
 use Rattle.group.specs.Group.{at, putEntry, isLive, consumed, Work, work}
 use Rattle.made.specs.Rows.{createMasked}
 use Rattle.group.specs.Steps.{remasked}
-use Rattle.group.specs.Collapse.{thirdFits, findThird, secondFits, findSecond, firstFits, findFirst, collapseAt, threeTermCollapse}
+use Rattle.group.specs.Collapse.{thirdFits, findThird, secondFits, findSecond, firstFits, findFirst, collapseAt}
+use Rattle.group.specs.Collapse.{threeTermCollapse}
 use Rattle.made.specs.Made.{Grew}
 use Rattle.group.specs.Made.{Stands, Stepped}
 use Rattle.group.proofs.SteppedLaws.{stepped-of}

@@ -17,7 +17,8 @@ use Rattle.entries.specs.declared.pair.Joined.{Joined}
 use Rattle.entries.specs.declared.pair.Joined.the-variants.{Apart, At}
 use Rattle.base.specs.Loop.{forIn, firstIn}
 use Rattle.group.specs.Group.{at, isLive, Work}
-use Rattle.group.specs.Steps.{joinAt, pairAt, pairMerge, slotFits, placeAt, placeBucket, bucketKeys, placeBuckets, bucketMerge}
+use Rattle.group.specs.Steps.{joinAt, pairAt, pairMerge, slotFits, placeAt, placeBucket, bucketKeys, placeBuckets}
+use Rattle.group.specs.Steps.{bucketMerge}
 use Rattle.made.specs.Made.{Room}
 use Rattle.group.specs.Made.{Stepped}
 use Rattle.entries.specs.Tests.{pairOf, pairIn}

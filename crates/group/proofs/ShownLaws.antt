@@ -1,5 +1,5 @@
--- Laws of a table with its coefficients (specs/Shown.antt): the words of the copied table at the begin of a pass, a group
--- settled, and what the end of a pass reads off.
+-- Laws of a table with its coefficients (made/specs/Shown.antt): the words of the copied table at the begin of a pass,
+-- a group settled, and what the end of a pass reads off.
 use mathlib.Core.Path.{_≡_, refl, ap, ap₂, sym, _∙_}
 use Prim.Native.Nat.{ℕ, zero, suc, _+_, _*_, _≤_, _<_}
 use native.Mathlib.Omega.{arith}

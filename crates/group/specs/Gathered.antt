@@ -1,5 +1,5 @@
--- The group of a basis, and the end of a pass on it, by what stands in the words: of the views (specs/Views.antt) and
--- of the coefficients. That they are `groupOf` and `settle` (specs/Group.antt) is a law.
+-- The group of a basis, and the end of a pass on it, by what stands in the words: of the views (views/specs/Views.antt)
+-- and of the coefficients. That they are `groupOf` and `settle` (specs/Group.antt) is a law.
 use Prim.Native.Nat.{ℕ}
 use mathlib.Core.List.{List}
 use lib.ListN.{getD, set}

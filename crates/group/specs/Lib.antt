@@ -1,5 +1,4 @@
--- The group of a pass (document 01, "The shorter sheet"): its entries, the groups of a form, the steps of refining, and
--- the atom table in words beside it.
+-- The group of a pass (document 01, "The shorter sheet"): its entries, gathered and settled, and the steps of refining.
 pub mod Group
 pub mod Steps
 pub mod Collapse

@@ -1,6 +1,5 @@
--- The atom table of a pass in lent words, beside the lent bytes that hold its atoms, and what a step makes of a group,
--- the words and the bytes. The rows of the table without limits stand in no word: a step is said for every group and
--- rows that the words and bytes stand for.
+-- What a step makes of a group, the words of the atom table and its bytes. The rows of the table without limits stand in
+-- no word: a step is said for every group and rows that the words and bytes stand for.
 use Rattle.made.specs.Made.{Room, Later, Held}
 use Prim.Native.Nat.{ℕ}
 use mathlib.Core.Path.{_≡_}

@@ -1,5 +1,4 @@
-// The group of a pass: the terms of one basis, the steps of refining on them, and the atom table
-// beside it.
+// The group of a pass: the terms of one basis, and the steps of refining on them.
 pub mod collapse;
 pub mod gather;
 pub mod keys;

@@ -17,7 +17,7 @@ use Rattle.record.specs.Fields.{width}
 use Rattle.record.specs.Tree.{IsBytes}
 use Rattle.expr.specs.ExprValue.{exprValue}
 use Rattle.expr.specs.Vars.{support}
-use Rattle.truth.specs.Truth.{rowOf}
+use Rattle.truth.specs.Truth.{rowNumber}
 use Rattle.semilinear.specs.Form.{Form, encodeForm, validForm}
 use Rattle.semilinear.specs.DecodeForm.{decodeForm}
 use Rattle.base.specs.Outcome.{accepted}
@@ -144,7 +144,7 @@ pub record Traced (s : List ℕ) (calls : List Call) : Type 0 where
 pub record ColumnsOf (f : Form) (out : List ℕ) (count : ℕ) : Type 0 where
   pub columns : Columns f out count
   pub row-is : (i p : ℕ) (vars : List ℕ)
-      → IsRow (atomTree f i) p vars (rowOf (λ v. bitAt (getD vars v 0) p) (support (atomTree f i)))
+      → IsRow (atomTree f i) p vars (rowNumber (λ v. bitAt (getD vars v 0) p) (support (atomTree f i)))
 
 -- of the bytes t in use after the calls, where normalising wrote for the expression s into len bytes: they are what the
 -- definitions give for the same calls; they are those of a valid form of the expression's width, whose atoms have a

@@ -6,7 +6,7 @@ ghost use lib.ListN.{length, replicate};
 ghost use Rattle.expr.specs.ExprValue.{IsExprValue};
 ghost use Rattle.semilinear_value.specs.Value.{IsSemilinearValue};
 ghost use Rattle.base.specs.Outcome.{flagNumber, Gives};
-ghost use Rattle.atom_table.specs.Compact.{compactAtomTable};
+ghost use Rattle.compaction.specs.Compact.{compactAtomTable};
 ghost use Rattle.normalizer_laws.specs.Normalize.{normalizeToSemilinear};
 ghost use Rattle.term_refiner.specs.RefineTerms.{refineTerms};
 ghost use Rattle.structure_laws.specs.RecoverStructure.{recoverStructure};
@@ -76,7 +76,7 @@ pub extern "C" fn hogzelt_compact_atom_table(
     ensures { λ r. ⌜ Gives (compactAtomTable (now (s .entry)) (length (now (out .entry))))
         (length (now (out .entry))) r (now (used .exit) ∷ now (terms .exit) ∷ []) (now (out .exit)) ⌝ }
 {
-    let answer = atom_table::compact::compact_atom_table(s, out);
+    let answer = compaction::compact_atom_table(s, out);
     *used = answer.used;
     *terms = answer.terms;
     answer.refusal

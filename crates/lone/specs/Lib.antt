@@ -1,2 +1,2 @@
--- The definitions of this crate.
+-- A basis that one row alone has.
 pub mod Lone

@@ -1,4 +1,4 @@
--- The definitions of this crate.
+-- The rows of a pass, and its atom table in lent words.
 pub mod Made
 pub mod Rows
 pub mod Shown

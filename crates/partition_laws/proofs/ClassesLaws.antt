@@ -8,7 +8,7 @@ use lib.ListN.{length}
 use borrow.Author.Tests.{ne-eqb, eq-eqb}
 use Rattle.semilinear.specs.Form.{Form}
 use Rattle.partition_laws.specs.Partition.{PartitionClass, classesF, classesOf, classWords}
-use Rattle.partition_laws.specs.Classes.{Each, HasWords}
+use Rattle.partition_laws.specs.Classes.{EachClass, HasWords}
 use Rattle.partition_laws.proofs.PartitionLaws.{Class, each-map}
 use Rattle.partition_laws.proofs.PartitionLaws.{profiles, classes-each, classes-length}
 use Rattle.partition_laws.proofs.ProfileLaws.{profile-length}
@@ -42,11 +42,11 @@ module _ (f : Form) where
   abbrev pub IsClass : PartitionClass → Type 0
   IsClass = Class (profiles (f .bitwidth) (f .rows)) (f .bitwidth)
 
-  pub classes-ok : Each IsClass (classesOf f)
-  unfolding Each
-  classes-ok = classes-either f (Each IsClass) tt (classes-each (f .bitwidth) (f .rows) (f .bitwidth))
+  pub classes-ok : EachClass IsClass (classesOf f)
+  unfolding EachClass
+  classes-ok = classes-either f (EachClass IsClass) tt (classes-each (f .bitwidth) (f .rows) (f .bitwidth))
 
-  pub classes-words : Each (HasWords atoms) (classesOf f)
+  pub classes-words : EachClass (HasWords atoms) (classesOf f)
   classes-words =
       each-map IsClass (HasWords atoms)
       (λ x c. ap length (c .own (c .some) (c .some-there)) ∙ profile-length (f .bitwidth) (c .some) 0 (f .rows))

@@ -22,7 +22,7 @@ use Rattle.expr_refusal.specs.Refusal.{isExpr}
 use Rattle.expr_utils.specs.Utils.{hasVarDep, hasArith}
 use Rattle.expr.specs.Value.{value}
 use Rattle.expr.specs.Vars.{support}
-use Rattle.truth.specs.Truth.{rowOf}
+use Rattle.truth.specs.Truth.{rowNumber}
 use Rattle.truth.proofs.BitwiseLaws.{Bitwise, bitwise-of-no-shift}
 use Rattle.truth.proofs.BitOfLaws.{bit-value}
 use Rattle.truth.proofs.TruthLaws.{table-lt, table-row, occurs-support, row-of-lt, row-of-bit}
@@ -32,7 +32,7 @@ use Rattle.semilinear.proofs.FormLaws.{rows-cons, form-parts}
 use Rattle.partition_laws.specs.Partition.{isOpaque, opaqueWord, profileWord}
 use Rattle.partition_laws.specs.Partition.{PartitionClass, classesOf, classWords, partitionsOutcome}
 use Rattle.partition_laws.specs.Classes.{HasWords}
-use Rattle.partition_laws.specs.Columns.{treeAt, atomTree, maskAt, wordAt, Holds, InOneClass, HoldsBelow}
+use Rattle.partition_laws.specs.Columns.{rowTree, atomTree, maskAt, wordAt, HoldsPlace, InOneClass, HoldsBelow}
 use Rattle.partition_laws.specs.Columns.{IsRow, Columns}
 use Rattle.partition_laws.proofs.PartitionLaws.{classAt, holders, each-at, each-map}
 use Rattle.partition_laws.proofs.PartitionLaws.{classes-holders, holder-of}
@@ -47,8 +47,8 @@ use Rattle.partition_laws.proofs.ClassesLaws.{classes-ok, classes-words
 
 -- the tree of an atom of valid rows
 good-at : (w : ℕ) (rows : List Row) → rowsOk w rows ≡ true → (i : ℕ) → i < length rows
-    → isAtomTree (treeAt rows i) ≡ true
-unfolding treeAt
+    → isAtomTree (rowTree rows i) ≡ true
+unfolding rowTree
 good-at w [] e i h = absurd (omega arith)
 good-at w (x ∷ l) e zero h = rows-cons w x l e .0 .atom
 good-at w (x ∷ l) e (suc i) h = good-at w l (rows-cons w x l e .1) i (omega arith)
@@ -87,7 +87,7 @@ module _ (f : Form) (ok : validForm f ≡ true) where
     out = writtenOf len (partitionsOutcome f)
 
     abbrev HoldsHere : ℕ → ℕ → Type 0
-    HoldsHere = Holds f out (count f)
+    HoldsHere = HoldsPlace f out (count f)
 
     out-at : (j : ℕ) → getD out j 0 ≡ getD (classWords (classesOf f)) j 0
     unfolding writtenOf partitionsOutcome
@@ -200,7 +200,7 @@ module _ (f : Form) (ok : validForm f ≡ true) where
 
     -- an atom's bit at a place of class k is the bit of its profile word there at the row of the assignment
     pub columns-bit : (i : ℕ) → i < length (f .rows) → isOpaque (atomTree f i) ≡ false
-        → (k p : ℕ) → Holds f out (count f) k p
+        → (k p : ℕ) → HoldsPlace f out (count f) k p
         → (vars : List ℕ) (row : ℕ) → IsRow (atomTree f i) p vars row
         → bitAt (value (f .bitwidth) vars (atomTree f i)) p ≡ bitAt (wordAt f out k i) row
     columns-bit i hi tab k p h vars row r =
@@ -244,7 +244,7 @@ module _ (f : Form) (ok : validForm f ≡ true) where
         }
 
 -- every assignment has its row
-pub row-is : (t : Tree) (p : ℕ) (vars : List ℕ) → IsRow t p vars (rowOf (λ v. bitAt (getD vars v 0) p) (support t))
+pub row-is : (t : Tree) (p : ℕ) (vars : List ℕ) → IsRow t p vars (rowNumber (λ v. bitAt (getD vars v 0) p) (support t))
 row-is t p vars =
     let bits : ℕ → ℕ = λ v. bitAt (getD vars v 0) p in
     let small : (v : ℕ) → bits v < 2 = λ v. bit-lt (getD vars v 0) p in

@@ -14,7 +14,7 @@ use Rattle.base.specs.Choice.{when}
 use Rattle.base.specs.Lists.{eqList}
 use Rattle.semilinear.specs.Form.{Row}
 use Rattle.partition_laws.specs.Partition.{PartitionClass, joinClass, classesF}
-use Rattle.partition_laws.specs.Classes.{Each}
+use Rattle.partition_laws.specs.Classes.{EachClass}
 use Rattle.partition_laws.proofs.PartitionLaws.{classAt, Class, each-at, each-map, or-other}
 use Rattle.partition_laws.proofs.PartitionLaws.{profiles, classes-each}
 
@@ -33,7 +33,7 @@ Unlike x y = eqList (x .profile) (y .profile) ≡ false
 -- R holds of each class and each later one
 unfoldable Pairwise : (PartitionClass → PartitionClass → Type 0) → List PartitionClass → Type 0
 Pairwise R [] = Unit {0}
-Pairwise R (x ∷ l) = Each (R x) l × Pairwise R l
+Pairwise R (x ∷ l) = EachClass (R x) l × Pairwise R l
 
 pairwise-at : (R : PartitionClass → PartitionClass → Type 0) (l : List PartitionClass) → Pairwise R l
     → (k j : ℕ) → k < j → j < length l → R (classAt l k) (classAt l j)
@@ -77,20 +77,20 @@ module _ (profiles : ℕ → List ℕ) (p : ℕ) where
       record { place = l .place; less = l .less; there = or ∙ omega (arith, l .there, bit-lt (2 ^ p) (l .place)) }
 
   join-before : (r : List ℕ) (x : PartitionClass) → Class profiles p x → (l : List PartitionClass)
-      → Each (Before x) l → Each (Before x) (joinClass p r l)
-  unfolding Each joinClass
+      → EachClass (Before x) l → EachClass (Before x) (joinClass p r l)
+  unfolding EachClass joinClass
   join-before r x c [] e = (before-first x c, tt)
   join-before r x c (y ∷ l) e = go (eqList (y .profile) r) (join-before r x c l (e .1))
     where
-      go : (b : Bool) → Each (Before x) (joinClass p r l)
-          → Each (Before x)
+      go : (b : Bool) → EachClass (Before x) (joinClass p r l)
+          → EachClass (Before x)
           (when b (λ _. record { mask = bitOr (y .mask) (2 ^ p); profile = y .profile } ∷ l) (λ _. y ∷ joinClass p r l))
       go true below = (before-new x y c (e .0), e .1)
       go false below = (e .0, below)
 
-  join-ordered : (r : List ℕ) (l : List PartitionClass) → Each (Class profiles p) l → Pairwise Before l
+  join-ordered : (r : List ℕ) (l : List PartitionClass) → EachClass (Class profiles p) l → Pairwise Before l
       → Pairwise Before (joinClass p r l)
-  unfolding Each Pairwise joinClass
+  unfolding EachClass Pairwise joinClass
   join-ordered r [] c o = (tt, tt)
   join-ordered r (x ∷ l) c o = go (eqList (x .profile) r) (join-ordered r l (c .1) (o .1))
     where
@@ -103,19 +103,19 @@ module _ (profiles : ℕ → List ℕ) (p : ℕ) where
 -- ---- profiles
 
 join-unlike : (p : ℕ) (r : List ℕ) (x : PartitionClass) → eqList (x .profile) r ≡ false → (l : List PartitionClass)
-    → Each (Unlike x) l → Each (Unlike x) (joinClass p r l)
-unfolding Each joinClass
+    → EachClass (Unlike x) l → EachClass (Unlike x) (joinClass p r l)
+unfolding EachClass joinClass
 join-unlike p r x d [] e = (d, tt)
 join-unlike p r x d (y ∷ l) e = go (eqList (y .profile) r) (join-unlike p r x d l (e .1))
   where
-    go : (b : Bool) → Each (Unlike x) (joinClass p r l)
-        → Each (Unlike x)
+    go : (b : Bool) → EachClass (Unlike x) (joinClass p r l)
+        → EachClass (Unlike x)
         (when b (λ _. record { mask = bitOr (y .mask) (2 ^ p); profile = y .profile } ∷ l) (λ _. y ∷ joinClass p r l))
     go true below = e
     go false below = (e .0, below)
 
 join-distinct : (p : ℕ) (r : List ℕ) (l : List PartitionClass) → Pairwise Unlike l → Pairwise Unlike (joinClass p r l)
-unfolding Each Pairwise joinClass
+unfolding EachClass Pairwise joinClass
 join-distinct p r [] o = (tt, tt)
 join-distinct p r (x ∷ l) o = go (eqList (x .profile) r) refl (join-distinct p r l (o .1))
   where

@@ -17,7 +17,7 @@ use Rattle.base.specs.Lists.{eqList}
 use Rattle.base.proofs.ListsLaws.{eq-of-eq-list}
 use Rattle.semilinear.specs.Form.{Row}
 use Rattle.partition_laws.specs.Partition.{PartitionClass, profileFrom, joinClass, classesF}
-use Rattle.partition_laws.specs.Classes.{Each}
+use Rattle.partition_laws.specs.Classes.{EachClass}
 
 -- class number k; past the last, one without places
 abbrev pub classAt : List PartitionClass → ℕ → PartitionClass
@@ -35,16 +35,16 @@ pub record Class (profiles : ℕ → List ℕ) (n : ℕ) (x : PartitionClass) : 
   pub some : ℕ
   pub some-there : bitAt (x .mask) some ≡ 1
 
-pub each-at : (P : PartitionClass → Type 0) (l : List PartitionClass) → Each P l
+pub each-at : (P : PartitionClass → Type 0) (l : List PartitionClass) → EachClass P l
     → (k : ℕ) → k < length l → P (classAt l k)
-unfolding Each
+unfolding EachClass
 each-at P [] e k h = absurd (omega arith)
 each-at P (x ∷ l) e zero h = e .0
 each-at P (x ∷ l) e (suc k) h = each-at P l (e .1) k (omega arith)
 
 pub each-map : (P Q : PartitionClass → Type 0) → ((x : PartitionClass) → P x → Q x)
-    → (l : List PartitionClass) → Each P l → Each Q l
-unfolding Each
+    → (l : List PartitionClass) → EachClass P l → EachClass Q l
+unfolding EachClass
 each-map P Q f [] e = tt
 each-map P Q f (x ∷ l) e = (f x (e .0), each-map P Q f l (e .1))
 
@@ -91,15 +91,15 @@ module _ (profiles : ℕ → List ℕ) (p : ℕ) where
       go q b (yes d) = e ∙ ap profiles (sym d)
       go q b (no d) = c .own q (sym (or-other (x .mask) q d) ∙ b)
 
-  join-each : (l : List PartitionClass) → Each (Class profiles p) l
-      → Each (Class profiles (suc p)) (joinClass p (profiles p) l)
-  unfolding Each joinClass
+  join-each : (l : List PartitionClass) → EachClass (Class profiles p) l
+      → EachClass (Class profiles (suc p)) (joinClass p (profiles p) l)
+  unfolding EachClass joinClass
   join-each [] e = (opened, tt)
   join-each (x ∷ l) e = go (eqList (x .profile) (profiles p)) refl (join-each l (e .1))
     where
       go : (b : Bool) → eqList (x .profile) (profiles p) ≡ b
-          → Each (Class profiles (suc p)) (joinClass p (profiles p) l)
-          → Each (Class profiles (suc p))
+          → EachClass (Class profiles (suc p)) (joinClass p (profiles p) l)
+          → EachClass (Class profiles (suc p))
           (when b (λ _. record { mask = bitOr (x .mask) (2 ^ p); profile = x .profile } ∷ l)
           (λ _. x ∷ joinClass p (profiles p) l))
       go true f below = (
@@ -122,8 +122,8 @@ module _ (profiles : ℕ → List ℕ) (p : ℕ) where
       go true below = ap (λ (y : ℕ). y + holders q l) (or-other (x .mask) q n)
       go false below = ap (λ (y : ℕ). bitAt (x .mask) q + y) below
 
-  none-yet : (l : List PartitionClass) → Each (Class profiles p) l → holders p l ≡ 0
-  unfolding Each holders
+  none-yet : (l : List PartitionClass) → EachClass (Class profiles p) l → holders p l ≡ 0
+  unfolding EachClass holders
   none-yet [] e = refl
   none-yet (x ∷ l) e = omega (arith, bit-past (x .mask) p p (e .0 .low) (omega arith), none-yet l (e .1))
 
@@ -157,8 +157,8 @@ module _ (w : ℕ) (rows : List Row) where
   abbrev pub profiles : ℕ → List ℕ
   profiles p = profileFrom w p 0 rows
 
-  pub classes-each : (n : ℕ) → Each (Class profiles n) (classesF n w rows)
-  unfolding classesF Each
+  pub classes-each : (n : ℕ) → EachClass (Class profiles n) (classesF n w rows)
+  unfolding classesF EachClass
   classes-each zero = tt
   classes-each (suc p) = join-each profiles p (classesF p w rows) (classes-each p)
 

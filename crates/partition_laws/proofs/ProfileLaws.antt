@@ -21,8 +21,8 @@ use Rattle.truth.proofs.TruthLaws.{table-lt}
 use Rattle.semilinear.specs.Form.{Row}
 use Rattle.partition_laws.specs.Partition.{columnVars, isOpaque, opaqueWord, profileWord, profileFrom}
 use Rattle.partition_laws.specs.Partition.{PartitionClass, classWords}
-use Rattle.partition_laws.specs.Classes.{Each, HasWords}
-use Rattle.partition_laws.specs.Columns.{treeAt}
+use Rattle.partition_laws.specs.Classes.{EachClass, HasWords}
+use Rattle.partition_laws.specs.Columns.{rowTree}
 use Rattle.partition_laws.proofs.PartitionLaws.{classAt}
 
 -- ---- profiles
@@ -44,15 +44,15 @@ profile-length w p i [] = refl
 profile-length w p i (x ∷ l) = ap suc (profile-length w p (i + 1) l)
 
 pub profile-at : (w p i : ℕ) (rows : List Row) (j : ℕ) → j < length rows
-    → getD (profileFrom w p i rows) j 0 ≡ profileWord w p (i + j) (treeAt rows j)
-unfolding profileFrom treeAt
+    → getD (profileFrom w p i rows) j 0 ≡ profileWord w p (i + j) (rowTree rows j)
+unfolding profileFrom rowTree
 profile-at w p i [] j h = absurd (omega arith)
 profile-at w p i (x ∷ l) zero h =
     let e : i ≡ i + 0 = omega arith in
     ap (λ (n : ℕ). profileWord w p n (x .tree)) e
 profile-at w p i (x ∷ l) (suc j) h =
     let e : i + 1 + j ≡ i + suc j = omega arith in
-    profile-at w p (i + 1) l j (omega arith) ∙ ap (λ (n : ℕ). profileWord w p n (treeAt l j)) e
+    profile-at w p (i + 1) l j (omega arith) ∙ ap (λ (n : ℕ). profileWord w p n (rowTree l j)) e
 
 pub profile-word-tabled : (w p i : ℕ) (t : Tree) → isOpaque t ≡ false
     → profileWord w p i t ≡ table w p (support t) (length (support t)) t
@@ -85,18 +85,18 @@ profile-lt w p i (x ∷ l) h (suc j) = profile-lt w p (i + 1) l (omega arith) j
 -- ---- the words of classes, where each profile has n words
 
 module _ (n : ℕ) where
-  pub class-words-length : (l : List PartitionClass) → Each (HasWords n) l
+  pub class-words-length : (l : List PartitionClass) → EachClass (HasWords n) l
       → length (classWords l) ≡ length l * (n + 1)
-  unfolding classWords Each
+  unfolding classWords EachClass
   class-words-length [] e = omega arith
   class-words-length (x ∷ l) e =
       length-append (x .mask ∷ x .profile) (classWords l)
       ∙ omega (arith, e .0, class-words-length l (e .1))
 
   -- what stands from the words of class k on
-  pub class-words-at : (l : List PartitionClass) → Each (HasWords n) l → (k : ℕ) → k < length l → (j : ℕ) → j < n + 1
+  pub class-words-at : (l : List PartitionClass) → EachClass (HasWords n) l → (k : ℕ) → k < length l → (j : ℕ) → j < n + 1
       → getD (classWords l) (k * (n + 1) + j) 0 ≡ getD (classAt l k .mask ∷ classAt l k .profile) j 0
-  unfolding classWords Each
+  unfolding classWords EachClass
   class-words-at [] e k h j hj = absurd (omega arith)
   class-words-at (x ∷ l) e zero h j hj =
       let z : 0 * (n + 1) + j ≡ j = omega arith in
@@ -109,9 +109,9 @@ module _ (n : ℕ) where
       ∙ class-words-at l (e .1) k (omega arith) j hj
 
   pub class-words-lt : (l : List PartitionClass)
-      → Each (λ x. (x .mask < 2 ^ 64) × ((j : ℕ) → getD (x .profile) j 0 < 2 ^ 64)) l
+      → EachClass (λ x. (x .mask < 2 ^ 64) × ((j : ℕ) → getD (x .profile) j 0 < 2 ^ 64)) l
       → (j : ℕ) → getD (classWords l) j 0 < 2 ^ 64
-  unfolding classWords Each
+  unfolding classWords EachClass
   class-words-lt [] e j = pow-pos 64
   class-words-lt (x ∷ l) e zero = e .0 .0
   class-words-lt (x ∷ l) e (suc j) = words-append (x .profile) (classWords l) (e .0 .1) (class-words-lt l (e .1)) j

@@ -13,9 +13,9 @@ use Rattle.base.specs.Put.{padded}
 use Rattle.partition_laws.specs.Partition.{PartitionClass, joinClass, classWords}
 
 -- each class of a list is one that P holds of
-unfoldable pub Each : (PartitionClass → Type 0) → List PartitionClass → Type 0
-Each P [] = Unit {0}
-Each P (x ∷ l) = P x × Each P l
+unfoldable pub EachClass : (PartitionClass → Type 0) → List PartitionClass → Type 0
+EachClass P [] = Unit {0}
+EachClass P (x ∷ l) = P x × EachClass P l
 
 -- the class has a profile of n words
 abbrev pub HasWords : ℕ → PartitionClass → Type 0
@@ -37,7 +37,7 @@ addPlace at p out = set out at (bitOr (getD out at 0) (2 ^ p))
 -- the words are those of the k classes l, whose profiles have n words
 pub record ClassesIn (n : ℕ) (out : List ℕ) (k : ℕ) (l : List PartitionClass) : Type 0 where
   pub count : k ≡ length l
-  pub each : Each (HasWords n) l
+  pub each : EachClass (HasWords n) l
   pub words : out ≡ padded (length out) (classWords l)
 
 -- how many classes there are after a place joined class r of k: one more where it is a new one

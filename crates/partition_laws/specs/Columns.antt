@@ -14,13 +14,13 @@ use Rattle.semilinear.specs.Form.{Row, Form}
 use Rattle.partition_laws.specs.Partition.{isOpaque, opaqueWord}
 
 -- the tree of atom i
-unfoldable pub treeAt : List Row → ℕ → Tree
-treeAt [] i = Constant 0
-treeAt (x ∷ l) zero = x .tree
-treeAt (x ∷ l) (suc i) = treeAt l i
+unfoldable pub rowTree : List Row → ℕ → Tree
+rowTree [] i = Constant 0
+rowTree (x ∷ l) zero = x .tree
+rowTree (x ∷ l) (suc i) = rowTree l i
 
 abbrev pub atomTree : Form → ℕ → Tree
-atomTree f i = treeAt (f .rows) i
+atomTree f i = rowTree (f .rows) i
 
 -- the mask of class k in the words of a form's classes
 abbrev pub maskAt : Form → List ℕ → ℕ → ℕ
@@ -31,21 +31,21 @@ abbrev pub wordAt : Form → List ℕ → ℕ → ℕ → ℕ
 wordAt f out k i = getD out (k * (length (f .rows) + 1) + 1 + i) 0
 
 -- place p is in class k, one of `count`
-pub record Holds (f : Form) (out : List ℕ) (count k p : ℕ) : Type 0 where
+pub record HoldsPlace (f : Form) (out : List ℕ) (count k p : ℕ) : Type 0 where
   pub below : k < count
   pub there : bitAt (maskAt f out k) p ≡ 1
 
 -- place p is in exactly one class
 pub record InOneClass (f : Form) (out : List ℕ) (count p : ℕ) : Type 0 where
   pub class : ℕ
-  pub holds : Holds f out count class p
-  pub only : (k : ℕ) → Holds f out count k p → k ≡ class
+  pub holds : HoldsPlace f out count class p
+  pub only : (k : ℕ) → HoldsPlace f out count k p → k ≡ class
 
 -- a place of class k that lies below q
 pub record HoldsBelow (f : Form) (out : List ℕ) (count k q : ℕ) : Type 0 where
   pub place : ℕ
   pub less : place < q
-  pub holds : Holds f out count k place
+  pub holds : HoldsPlace f out count k place
 
 -- the row of the tree t at place p under an assignment: bit j is the bit at p of the j-th smallest variable
 pub record IsRow (t : Tree) (p : ℕ) (vars : List ℕ) (row : ℕ) : Type 0 where
@@ -62,13 +62,13 @@ pub record Columns (f : Form) (out : List ℕ) (count : ℕ) : Type 0 where
   -- masks have w bits, and there are at most w of them, by rising lowest place
   pub mask-lt : (k : ℕ) → k < count → maskAt f out k < 2 ^ f .bitwidth
   pub count-le : count ≤ f .bitwidth
-  pub rising : (k j : ℕ) → k < j → (q : ℕ) → Holds f out count j q → HoldsBelow f out count k q
+  pub rising : (k j : ℕ) → k < j → (q : ℕ) → HoldsPlace f out count j q → HoldsBelow f out count k q
   -- no two classes have the same profile words
   pub distinct : (k j : ℕ) → k < count → j < count
       → ((i : ℕ) → i < length (f .rows) → wordAt f out k i ≡ wordAt f out j i) → k ≡ j
   -- an atom's bit at a place of class k is the bit of its profile word there at the row of the assignment
   pub bit : (i : ℕ) → i < length (f .rows) → isOpaque (atomTree f i) ≡ false
-      → (k p : ℕ) → Holds f out count k p
+      → (k p : ℕ) → HoldsPlace f out count k p
       → (vars : List ℕ) (row : ℕ) → IsRow (atomTree f i) p vars row
       → bitAt (value (f .bitwidth) vars (atomTree f i)) p ≡ bitAt (wordAt f out k i) row
   -- the bits past the last row are 0

@@ -26,7 +26,7 @@ use Rattle.semilinear.proofs.ValidLaws.{atom-parts}
 use Rattle.semilinear_value.proofs.SumLaws.{first-atom-ok, later-atoms-ok, first-tree-sized}
 use Rattle.semilinear.proofs.AcceptLaws.{bytes-tree-span}
 use Rattle.profile.specs.Edges.{atomEdges}
-use Rattle.profile.specs.Index.{atomTrees, treeOf, AtomsValid, atomWords, EntryFor, Indexed}
+use Rattle.profile.specs.Index.{atomTrees, treeOf, AtomsValid, atomWords, EntryFor, AtomsIndexed}
 use Rattle.profile.proofs.EdgesLaws.{edge-start}
 use Rattle.profile.proofs.AtomWordsLaws.{drop-take, length-words, word-edges}
 
@@ -84,7 +84,7 @@ indexing-none f index v =
     }
 
 module _ (f index : List ℕ) (edges at i : ℕ) (h : Indexing f index edges at i) where
-  pub indexing-all : isAtom (drop at f) ≡ false → 9 * length (atomTrees f) ≤ length index → Indexed f index edges
+  pub indexing-all : isAtom (drop at f) ≡ false → 9 * length (atomTrees f) ≤ length index → AtomsIndexed f index edges
   indexing-all e room =
       let none : length (atomTrees (drop at f)) ≡ 0 = ap length (fold-done _ _ (drop at f) e) in
       let all : length (atomTrees f) ≡ i = omega (arith, h .count) in

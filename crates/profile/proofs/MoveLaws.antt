@@ -17,7 +17,7 @@ use Rattle.semilinear.specs.Items.{isAtom, treeSpan, afterAtom}
 use Rattle.semilinear.specs.DecodeForm.{afterTerm, rowAt, rowsOf}
 use Rattle.semilinear.proofs.ItemsLaws.{fold-atom, fold-done, atoms-ind, rows-atom, rows-end}
 use Rattle.partition_laws.specs.Partition.{profileWord}
-use Rattle.partition_laws.specs.Columns.{treeAt}
+use Rattle.partition_laws.specs.Columns.{rowTree}
 use Rattle.profile.specs.Edges.{atomEdges}
 use Rattle.profile.specs.Index.{atomTrees, treeOf}
 use Rattle.profile.specs.Profile.{movedWord, WordsMoved}
@@ -81,20 +81,20 @@ module _ (f : List ℕ) (w p : ℕ) (before : List ℕ) where
 abbrev Same : List ℕ → Type 0
 Same r =
     (i : ℕ) (q : List ℕ)
-    → (length (rowsOf i r q) ≡ length (atomTrees r)) × ((j : ℕ) → treeAt (rowsOf i r q) j ≡ treeOf r j)
+    → (length (rowsOf i r q) ≡ length (atomTrees r)) × ((j : ℕ) → rowTree (rowsOf i r q) j ≡ treeOf r j)
 
 rows-none : (r : List ℕ) → isAtom r ≡ false → Same r
-unfolding treeAt
+unfolding rowTree
 rows-none r e i q = rw (rows-end i r q e, fold-done (λ x. []) (λ x l. decode (treeSpan x) ∷ l) r e) (refl, λ j. refl)
 
 rows-more : (r : List ℕ) → isAtom r ≡ true → Same (afterAtom r) → Same r
-unfolding treeAt rowAt
+unfolding rowTree rowAt
 rows-more r e below i q =
     let b = below (i + 1) (afterTerm i q) in
     rw (rows-atom i r q e, fold-atom (λ x. []) (λ x l. decode (treeSpan x) ∷ l) r e) (ap suc (b .0), at (b .1))
   where
-    at : ((j : ℕ) → treeAt (rowsOf (i + 1) (afterAtom r) (afterTerm i q)) j ≡ treeOf (afterAtom r) j) → (j : ℕ)
-        → treeAt (rowAt i r q ∷ rowsOf (i + 1) (afterAtom r) (afterTerm i q)) j
+    at : ((j : ℕ) → rowTree (rowsOf (i + 1) (afterAtom r) (afterTerm i q)) j ≡ treeOf (afterAtom r) j) → (j : ℕ)
+        → rowTree (rowAt i r q ∷ rowsOf (i + 1) (afterAtom r) (afterTerm i q)) j
         ≡ getD (decode (treeSpan r) ∷ atomTrees (afterAtom r)) j (Constant 0)
     at b zero = refl
     at b (suc j) = b j
@@ -106,5 +106,5 @@ module _ (f q : List ℕ) where
   pub rows-length : length (rowsOf 0 f q) ≡ length (atomTrees f)
   rows-length = rows-same f 0 q .0
 
-  pub rows-tree : (j : ℕ) → treeAt (rowsOf 0 f q) j ≡ treeOf f j
+  pub rows-tree : (j : ℕ) → rowTree (rowsOf 0 f q) j ≡ treeOf f j
   rows-tree = rows-same f 0 q .1

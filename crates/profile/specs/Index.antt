@@ -49,12 +49,12 @@ pub record EntryFor (f index : List ℕ) (i : ℕ) (t : Tree) : Type 0 where
   pub words : take 9 (drop (9 * i) index) ≡ atomWords at t
 
 -- the index has the words of all atoms at the front of f
-pub record Readable (f index : List ℕ) : Type 0 where
+pub record IndexReadable (f index : List ℕ) : Type 0 where
   pub room : 9 * length (atomTrees f) ≤ length index
   pub entry : (i : ℕ) → i < length (atomTrees f) → EntryFor f index i (treeOf f i)
 
 -- and `edges` has all their edges
-pub record Indexed (f index : List ℕ) (edges : ℕ) : Type 0 where
-  pub readable : Readable f index
+pub record AtomsIndexed (f index : List ℕ) (edges : ℕ) : Type 0 where
+  pub readable : IndexReadable f index
   pub start : 0 < length (atomTrees f) → bitAt edges 0 ≡ 1
   pub covers : (i : ℕ) → i < length (atomTrees f) → (p : ℕ) → bitAt edges p ≡ 0 → bitAt (atomEdges (treeOf f i)) p ≡ 0

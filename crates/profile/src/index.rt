@@ -11,7 +11,7 @@ ghost use lib.ListN.{length};
 ghost use Rattle.record.specs.Span.{sized};
 ghost use Rattle.record.specs.Decode.{decode};
 ghost use Rattle.semilinear.specs.Items.{atomCount};
-ghost use Rattle.profile.specs.Index.{AtomsValid, atomWords, Indexed};
+ghost use Rattle.profile.specs.Index.{AtomsValid, atomWords, AtomsIndexed};
 
 pub const ATOM_WORDS: usize = 9;
 
@@ -63,7 +63,7 @@ fn atom_words(t: &[u8], at: u64) -> [u64; 9]
 // The words of all atoms at the front of f; returns the places at which a word may change.
 pub fn put_index(f: &[u8], index: &mut [u64]) -> u64
     requires { ⌜ AtomsValid (now f) × (9 * atomCount (now f) ≤ length (now index)) ⌝ }
-    ensures { λ r. ⌜ Indexed (now (f .entry)) (now (index .exit)) r ⌝ }
+    ensures { λ r. ⌜ AtomsIndexed (now (f .entry)) (now (index .exit)) r ⌝ }
 {
     let mut edges: u64 = 0;
     let mut at = 0;

@@ -7,12 +7,12 @@ ghost use mathlib.Core.Path.{_≡_};
 ghost use Prim.Native.Nat.{ℕ, _<_};
 ghost use lib.ListN.{length};
 ghost use Rattle.partition_laws.specs.Partition.{profileWord};
-ghost use Rattle.profile.specs.Index.{atomTrees, treeOf, Readable};
+ghost use Rattle.profile.specs.Index.{atomTrees, treeOf, IndexReadable};
 ghost use Rattle.profile.specs.Profile.{WordsMoved};
 
 // The profile word of atom i at place p of w.
 fn profile_word(f: &[u8], index: &[u64], i: usize, p: u32, w: u32) -> u64
-    requires { ⌜ Readable (now f) (now index) × (i < length (atomTrees (now f))) ⌝ }
+    requires { ⌜ IndexReadable (now f) (now index) × (i < length (atomTrees (now f))) ⌝ }
     ensures { λ r. ⌜ r ≡ profileWord w p i (treeOf (now (f .entry)) i) ⌝ }
 {
     let from = index::ATOM_WORDS * i;
@@ -30,7 +30,7 @@ fn profile_word(f: &[u8], index: &[u64], i: usize, p: u32, w: u32) -> u64
 // The profile of place p of w, made from that of the place before: the word of an atom is made anew
 // where it may have changed.
 pub fn move_profile(f: &[u8], index: &[u64], p: u32, w: u32, profile: &mut [u64])
-    requires { ⌜ Readable (now f) (now index)
+    requires { ⌜ IndexReadable (now f) (now index)
         × (length (now profile) ≡ length (atomTrees (now f))) ⌝ }
     ensures { λ _. ⌜ WordsMoved (now (f .entry)) w p (now (profile .entry))
         (now (profile .exit)) ⌝ }

@@ -7,7 +7,8 @@ ghost use mathlib.Core.Path.{_≡_};
 ghost use Prim.Native.Nat.{ℕ, _+_, _-_, _*_, _^_, _<_, _≤_};
 ghost use lib.ListN.{length};
 ghost use Rattle.base.specs.Lists.{eqList};
-ghost use Rattle.record.specs.Fields.{u16, u32, u64, kind, byte1, varIndex, amount, size, width, spare, literal, arity};
+ghost use Rattle.record.specs.Fields.{u16, u32, u64, kind, byte1, varIndex, amount, size};
+ghost use Rattle.record.specs.Fields.{width, spare, literal, arity};
 ghost use Rattle.record.specs.Span.{cut, body, left, right};
 ghost use Rattle.base.specs.Limits.{recordLength, varLimit};
 

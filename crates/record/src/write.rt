@@ -1,4 +1,4 @@
-// Writers into lent bytes: zeros, a copy, a record, and the record of a variable.
+// Writers of records into lent bytes: any record, and that of a variable.
 use base::write;
 ghost use mathlib.Core.Path.{_≡_};
 ghost use Prim.Native.Nat.{_+_, _%_, _<_, _≤_};

@@ -1,5 +1,5 @@
--- Laws of `recoverPair`, `recoverAt` and `recoverGroup` (specs/RecoverStructure.antt) by the tests that the code makes:
--- each of them is one step, or none.
+-- Laws of `recoverPair`, `recoverAt` and `recoverGroup` (structure_laws/specs/RecoverStructure.antt) by the tests that
+-- the code makes: each of them is one step, or none.
 use mathlib.Core.Path.{_≡_, refl, ap, ap₂, sym, subst, _∙_}
 use mathlib.Core.Logic.{_≢_}
 use Prim.Native.Nat.{ℕ, zero, suc, _+_, _-_, _/_, _%_, _^_, _≤_, _<_}

@@ -22,7 +22,7 @@ use Rattle.made.specs.Rows.{createRow}
 use Rattle.made.specs.Made.{tableOf, Room}
 use Rattle.structure_laws.specs.RecoverStructure.{Recovery, rowWith, withBare, recoverXor, eliminateMask}
 use Rattle.structure_laws.specs.RecoverStructure.{countOnes, recoverPair, partnerOf, recoverAt, recoverGroup}
-use Rattle.recover_pair.specs.Recovering.{Stands, Turned, Recovers, Recovered}
+use Rattle.recover_pair.specs.Recovering.{StandsRecovery, Turned, Recovers, Recovered}
 
 -- what holds below i, and of i, holds below i + 1
 pub below-more : (P : ℕ → Type 0) (i : ℕ) → ((k : ℕ) → k < i → P k) → P i → (k : ℕ) → k < i + 1 → P k
@@ -83,7 +83,7 @@ module _ (w : ℕ) (t : Tree) where
 
 -- ---- turns
 
-pub recovers-of : {w : ℕ} {g : Group} {made out : List ℕ} {x : Recovery} → Stands w g made out x
+pub recovers-of : {w : ℕ} {g : Group} {made out : List ℕ} {x : Recovery} → StandsRecovery w g made out x
     → Recovers w g made out x
 recovers-of s = record { stands = λ _. s; past = s .held .holds .past }
 
@@ -118,10 +118,10 @@ module _ (w : ℕ) (t : Tree) {g : Group} {made out : List ℕ} where
         }
 
     module _ {n : ℕ} (en : n ≡ g .len) (le : i ≤ n) (few : n ≤ 256) where
-      len-of : (x : Recovery) → Stands w g made out x → n ≡ x .group .len
+      len-of : (x : Recovery) → StandsRecovery w g made out x → n ≡ x .group .len
       len-of x s = en ∙ ap (λ (k : Group). k .len) (s .same)
 
-      group-of : (x : Recovery) → Stands w g made out x → turns w t n x ≡ recoverGroup w t x
+      group-of : (x : Recovery) → StandsRecovery w g made out x → turns w t n x ≡ recoverGroup w t x
       unfolding recoverGroup
       group-of x s = ap (λ (k : ℕ). turns w t k x) (len-of x s)
 

@@ -17,7 +17,7 @@ use Rattle.made.specs.Rows.{createRow}
 use Rattle.made.specs.Made.{tableOf, Room, Held, Grew}
 use Rattle.group.proofs.DropLaws.{mk, mk-eq}
 use Rattle.structure_laws.specs.RecoverStructure.{Recovery, rowWith, withBare, recoverXor, eliminateMask}
-use Rattle.recover_pair.specs.Recovering.{xorTree, Stands, Turned, recovery}
+use Rattle.recover_pair.specs.Recovering.{xorTree, StandsRecovery, Turned, recovery}
 use Rattle.bare.specs.Showing.{BareFound}
 use Rattle.bare.proofs.ConstantLaws.{word-kept, room-kept, held-kept}
 
@@ -26,7 +26,7 @@ use Rattle.bare.proofs.ConstantLaws.{word-kept, room-kept, held-kept}
 -- for every rows that the table holds
 turned-of : {w n : ℕ} {f : Recovery → Recovery} {g r : Group} {made out made′ out′ : List ℕ} → Room made′ out′
     → getD made′ 4 0 ≤ getD made 4 0 + n → length out′ ≡ length out → r .len ≡ g .len
-    → ((l : List Row) → Held w made out l → Stands w r made′ out′ (f (recovery g l (getD made 5 0))))
+    → ((l : List Row) → Held w made out l → StandsRecovery w r made′ out′ (f (recovery g l (getD made 5 0))))
     → Turned w n f g made out r made′ out′
 turned-of {w} {f = f} {g} {r} {made} {made′ = made′} {out′ = out′} room le long len k =
     record {
@@ -35,7 +35,7 @@ turned-of {w} {f = f} {g} {r} {made} {made′ = made′} {out′ = out′} room 
       long = long;
       len = len;
       stands = λ x s.
-          subst (λ (y : Recovery). Stands w r made′ out′ (f y))
+          subst (λ (y : Recovery). StandsRecovery w r made′ out′ (f y))
           (ap₂ (λ (h : Group) (c : ℕ). recovery h (x .rows) c) (s .same) (s .constant)) (k (x .rows) (s .held));
     }
 
@@ -100,7 +100,7 @@ module _ (w : ℕ) (t : Tree) (src dst : ℕ) (apart : dst ≢ src) where
       (omega (arith, word-kept made′ v 4 (omega arith), grew .later .rows-le))
       (grew .long) (ap (λ (x : Group). x .len) e)
       (λ l held.
-      subst (Stands w r (set made′ 5 v) out′) (sym (xor-is g l (getD made 5 0)))
+      subst (StandsRecovery w r (set made′ 5 v) out′) (sym (xor-is g l (getD made 5 0)))
       (record {
         same = e ∙ ap₂ (xorGroup g src dst) ef (held .rows);
         held = held-kept made′ v (grew .held l held);
@@ -132,7 +132,7 @@ module _ (w : ℕ) (t : Tree) (d i j : ℕ) (apart : j ≢ i) where
   eliminate-turned {g} {r} {made} {made′ = made′} {out′ = out′} ef more bare e =
       turned-of (bare .room) (bare .later .rows-le) (bare .long) (ap (λ (x : Group). x .len) e)
       (λ l held.
-      subst (Stands w r made′ out′) (sym (eliminate-is g l (getD made 5 0)))
+      subst (StandsRecovery w r made′ out′) (sym (eliminate-is g l (getD made 5 0)))
       (record {
         same = e ∙ ap₂ (widened g d i j) ef (bare .found more l held);
         held = bare .held more l held;

@@ -1,2 +1,2 @@
--- The definitions of this crate.
+-- Recovering through entries and groups, as the code goes.
 pub mod Recovering

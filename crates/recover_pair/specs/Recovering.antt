@@ -1,6 +1,6 @@
 -- How recovering goes through the entries of a group and through the groups (src/pair.rt, src/recover.rt): what a turn
 -- makes of the group, of the words of the table with the constant, and of the bytes. Where the table is full the rows
--- pass a limit, and nothing else is said of them (specs/Showing.antt).
+-- pass a limit, and nothing else is said of them (bare/specs/Showing.antt).
 use mathlib.Core.Path.{_≡_}
 use Prim.Native.Nat.{ℕ, _+_, _-_, _≤_, _<_}
 use mathlib.Core.List.{List, [], _∷_}
@@ -42,7 +42,7 @@ NoPartner full masks marks n = (i : ℕ) → i < n → n ≤ partnerIn (full - g
 -- ---- steps of a group beside the table and the constant
 
 -- a group, the words and the bytes stand for x
-pub record Stands (w : ℕ) (g : Group) (made out : List ℕ) (x : Recovery) : Type 0 where
+pub record StandsRecovery (w : ℕ) (g : Group) (made out : List ℕ) (x : Recovery) : Type 0 where
   pub same : g ≡ x .group
   pub held : Held w made out (x .rows)
   pub constant : getD made 5 0 ≡ x .constant
@@ -54,11 +54,11 @@ pub record Turned (w n : ℕ) (f : Recovery → Recovery) (g : Group) (made out 
   pub rows-le : getD made′ 4 0 ≤ getD made 4 0 + n
   pub long : length out′ ≡ length out
   pub len : r .len ≡ g .len
-  pub stands : (x : Recovery) → Stands w g made out x → Stands w r made′ out′ (f x)
+  pub stands : (x : Recovery) → StandsRecovery w g made out x → StandsRecovery w r made′ out′ (f x)
 
 -- they stand for x, or the table is full and the rows of x pass a limit
 pub record Recovers (w : ℕ) (g : Group) (made out : List ℕ) (x : Recovery) : Type 0 where
-  pub stands : tableOf made .full ≡ false → Stands w g made out x
+  pub stands : tableOf made .full ≡ false → StandsRecovery w g made out x
   pub past : tableOf made .full ≡ true → fitsTable (x .rows) ≡ false
 
 -- steps after which it may be
@@ -68,7 +68,7 @@ pub record Recovered (w n : ℕ) (f : Recovery → Recovery) (g : Group) (made o
   pub rows-le : getD made′ 4 0 ≤ getD made 4 0 + n
   pub long : length out′ ≡ length out
   pub len : r .len ≡ g .len
-  pub recovers : (x : Recovery) → Stands w g made out x → Recovers w r made′ out′ (f x)
+  pub recovers : (x : Recovery) → StandsRecovery w g made out x → Recovers w r made′ out′ (f x)
 
 -- ---- the groups in turn
 
@@ -103,11 +103,11 @@ pub record GroupRecovered (w n : ℕ) (t : Tree) (g : Group) (made out coeffs ma
 abbrev pub oneRecovered : ℕ → List Row → Tree → List Row → ℕ → Recovery
 oneRecovered w before b l c = recoverGroup w b (recovery (groupOf anyBasis w b 0 before emptyGroup) l c)
 
-unfoldable pub AllFair : ℕ → List Row → List Tree → List Row → ℕ → Type 0
-AllFair w before [] l c = Unit {0}
-AllFair w before (b ∷ bs) l c =
+unfoldable pub AllFairRecovery : ℕ → List Row → List Tree → List Row → ℕ → Type 0
+AllFairRecovery w before [] l c = Unit {0}
+AllFairRecovery w before (b ∷ bs) l c =
     FairRecovery l (oneRecovered w before b l c)
-    × AllFair w before bs (settledForm w (oneRecovered w before b l c) .rows) (oneRecovered w before b l c .constant)
+    × AllFairRecovery w before bs (settledForm w (oneRecovered w before b l c) .rows) (oneRecovered w before b l c .constant)
 
 -- all groups recovered
 pub record AllRecovered (w : ℕ) (before : List Row) (bases : List Tree) (made out coeffs made′ out′ coeffs′ : List ℕ)
@@ -115,7 +115,7 @@ pub record AllRecovered (w : ℕ) (before : List Row) (bases : List Tree) (made 
   pub room : Room made′ out′
   pub long : length out′ ≡ length out
   pub wide : length coeffs′ ≡ length coeffs
-  pub shown : (l : List Row) → AllFair w before bases l (getD made 5 0) → Shown w made out coeffs l
+  pub shown : (l : List Row) → AllFairRecovery w before bases l (getD made 5 0) → Shown w made out coeffs l
       → ShowsForm w made′ out′ coeffs′ (recoverAll w before bases l (getD made 5 0))
 
 -- the form of these rows recovered: for a table that holds them, where recovering them is fair
@@ -126,5 +126,5 @@ pub record RowsRecovered (w : ℕ) (rows : List Row) (made out made′ out′ co
   pub room : Room made′ out′
   pub long : length out′ ≡ length out
   pub wide : length coeffs′ ≡ groupEntries
-  pub shown : AllFair w rows (basesOf anyBasis w rows []) (ungrouped anyBasis w rows) (getD made 5 0)
+  pub shown : AllFairRecovery w rows (basesOf anyBasis w rows []) (ungrouped anyBasis w rows) (getD made 5 0)
       → Held w made out rows → ShowsForm w made′ out′ coeffs′ (rowsRecovered w rows (getD made 5 0))

@@ -28,14 +28,14 @@ use Rattle.atom_table.specs.Table.{Placed, storeOf, atomSpan, fitsMore, moreAto
 use Rattle.atom_table.proofs.TableLaws.{length-atom-span, create-cases, fits-more-parts, room-atom, clean-create}
 use Rattle.atom_table.proofs.HoldsLaws.{holds-accepted, holds-bare}
 use Rattle.normalizer_laws.specs.Register.{detectProvenance, addRow}
-use Rattle.descent.specs.Spots.{spanOf}
-use Rattle.register.specs.Index.{rowAt, rowsIn, EntryOk, Indexed, RoomMore, Registers, emitted}
-use Rattle.register.specs.Index.{rowOf}
+use Rattle.ways.specs.Spans.{spanOf}
+use Rattle.register.specs.Index.{entryRow, indexRows, EntryOk, Indexed, RoomMore, Registers, emitted}
+use Rattle.register.specs.Index.{appendedRow}
 use Rattle.register.proofs.IndexLaws.{length-rows-in, rows-in-more, rows-in-same, rows-in-add}
 use Rattle.register.proofs.IndexLaws.{entry-kept, entry-later, entry-set-kept}
-use Rattle.register.proofs.EntryLaws.{entryWords, take-entry, entry-row, entry-ok}
+use Rattle.register.proofs.EntryLaws.{wordsOfEntry, take-entry, entry-row, entry-ok}
 use Rattle.register.proofs.RegisteredLaws.{bare-add-row}
-use Rattle.descent.proofs.PutSpanLaws.{take-put-front, span-put-piece}
+use Rattle.ways.proofs.PutSpanLaws.{take-put-front, span-put-piece}
 
 -- the tree in the bytes of its atom
 span-atom : (w p : ℕ) (t : List ℕ) → spanOf (atomSpan w p t) 16 (16 + length t) ≡ t
@@ -74,19 +74,19 @@ module _ (w : ℕ) (tab : Table) (index out : List ℕ) (h : Indexed w tab index
 
   pub registers-add : (new : Row) (j : ℕ) → j < tab .count → {after : List ℕ}
       → after ≡ set index (11 * j) (modAdd (getD index (11 * j) 0) (new .coeff) w)
-      → Registers w (addRow w new j (rowsIn index out (tab .count))) after out tab
+      → Registers w (addRow w new j (indexRows index out (tab .count))) after out tab
   registers-add new j lt {after} e =
       let n : ℕ = tab .count in
       let v : ℕ = modAdd (getD index (11 * j) 0) (new .coeff) w in
-      let rows : rowsIn after out n ≡ addRow w new j (rowsIn index out n) =
-      ap (λ (l : List ℕ). rowsIn l out n) e ∙ rows-in-add w index out j new n lt index-room in
-      let low : j < length (rowsIn index out n) = omega (arith, length-rows-in index out n) in
+      let rows : indexRows after out n ≡ addRow w new j (indexRows index out n) =
+      ap (λ (l : List ℕ). indexRows l out n) e ∙ rows-in-add w index out j new n lt index-room in
+      let low : j < length (indexRows index out n) = omega (arith, length-rows-in index out n) in
       record {
         rows-are = λ _. rows;
         indexed = λ f.
             record {
               more = f;
-              holds = rw rows (holds-bare _ _ (bare-add-row w new j (rowsIn index out n) low) w tab out (h .holds));
+              holds = rw rows (holds-bare _ _ (bare-add-row w new j (indexRows index out n) low) w tab out (h .holds));
               clean = h .clean;
               entries = λ k l. rw e (entry-set-kept index out j v k w (tab .at) (h .entries k l));
               room = rw e (omega (arith, length-set index (11 * j) v, h .room));
@@ -100,10 +100,10 @@ module _ (w : ℕ) (tab : Table) (index out : List ℕ) (h : Indexed w tab index
       (hp : p ≡ detectProvenance (decode t)) {r : Table} {wrote : List ℕ}
       (made : storeOf r wrote ≡ createAtom w p t (storeOf tab out)) where
     abbrev rows : List Row
-    rows = rowsIn index out (tab .count)
+    rows = indexRows index out (tab .count)
 
     abbrev longer : List Row
-    longer = rows ++ (rowOf (emitted c t) ∷ [])
+    longer = rows ++ (appendedRow (emitted c t) ∷ [])
 
     appended-holds : Holds w r wrote longer
     appended-holds = rw hp at (holds-accepted w p c t tab out rows (h .holds) bytes ok made)
@@ -133,7 +133,7 @@ module _ (w : ℕ) (tab : Table) (index out : List ℕ) (h : Indexed w tab index
       n = tab .count
 
       abbrev after : List ℕ
-      after = put index (11 * n) (entryWords c hash (tab .at + 16) (r .at) key)
+      after = put index (11 * n) (wordsOfEntry c hash (tab .at + 16) (r .at) key)
 
       m : AtomMade w p t tab out r wrote
       m = made-here left
@@ -169,10 +169,10 @@ module _ (w : ℕ) (tab : Table) (index out : List ℕ) (h : Indexed w tab index
           entry-ok index n c hash (tab .at + 16) (r .at) key seven room-words wrote w (r .at) (omega (arith, end-is))
           (omega arith) (rw span-is ok) (rw span-is hh) (rw span-is hk)
 
-      row-last : rowAt after wrote n ≡ rowOf (emitted c t)
+      row-last : entryRow after wrote n ≡ appendedRow (emitted c t)
       row-last =
           entry-row index n c hash (tab .at + 16) (r .at) key seven room-words wrote
-          ∙ ap (λ (s : List ℕ). rowOf (emitted c s)) span-is
+          ∙ ap (λ (s : List ℕ). appendedRow (emitted c s)) span-is
 
       words-before : take (11 * n) after ≡ take (11 * n) index
       words-before = take-entry index n c hash (tab .at + 16) (r .at) key seven room-words
@@ -180,9 +180,9 @@ module _ (w : ℕ) (tab : Table) (index out : List ℕ) (h : Indexed w tab index
       bytes-before : take (tab .at) wrote ≡ take (tab .at) out
       bytes-before = ap (take (tab .at)) (m .bytes-are) ∙ take-put-front out (tab .at) (atomSpan w p t) room-bytes
 
-      rows-more : rowsIn after wrote (r .count) ≡ longer
+      rows-more : indexRows after wrote (r .count) ≡ longer
       rows-more =
-          ap (rowsIn after wrote) count-is
+          ap (indexRows after wrote) count-is
           ∙ rows-in-more after wrote n
           ∙ ap₂ (λ (l : List Row) (x : Row). l ++ (x ∷ []))
           (rows-in-same index out after wrote n (tab .at) words-before bytes-before (λ j l. h .entries j l .rising)
@@ -199,11 +199,11 @@ module _ (w : ℕ) (tab : Table) (index out : List ℕ) (h : Indexed w tab index
           go (no k) = let e : j ≡ n = omega (arith, count-is) in rw e entry-last
 
       room-after : 11 * r .count ≤ length after
-      unfolding entryWords
+      unfolding wordsOfEntry
       room-after =
           omega (
             arith,
-            length-put index (11 * n) (entryWords c hash (tab .at + 16) (r .at) key) (omega (arith, seven, room-words)),
+            length-put index (11 * n) (wordsOfEntry c hash (tab .at + 16) (r .at) key) (omega (arith, seven, room-words)),
             count-is,
             room-words,
           )

@@ -1,5 +1,5 @@
--- The tree of a spot as bytes at the start of a lent slice (specs/Spots.antt, `Built` of specs/Index.antt): a copy of
--- the subtree, or that and the records of a literal and of an And.
+-- The tree of a spot as bytes at the start of a lent slice (descent/specs/Spots.antt, `Built` of specs/Index.antt): a
+-- copy of the subtree, or that and the records of a literal and of an And.
 use mathlib.Core.Path.{_≡_, refl, ap, sym, _∙_}
 use Prim.Native.Nat.{ℕ, _+_, _^_, _≤_, _<_}
 use native.Mathlib.Omega.{arith}

@@ -13,24 +13,24 @@ use Rattle.expr_refusal.specs.Refusal.{treeRefusal}
 use Rattle.expr.specs.Hash.{structuralHash}
 use Rattle.truth.specs.Key.{keyOf}
 use Rattle.normalizer_laws.specs.Register.{detectProvenance}
-use Rattle.descent.specs.Spots.{spanOf}
-use Rattle.register.specs.Index.{entrySpan, rowAt, EntryOk}
-use Rattle.descent.proofs.PutSpanLaws.{take-put-front, span-put-piece}
+use Rattle.ways.specs.Spans.{spanOf}
+use Rattle.register.specs.Index.{entrySpan, entryRow, EntryOk}
+use Rattle.ways.proofs.PutSpanLaws.{take-put-front, span-put-piece}
 
 -- the words of an atom
-unfoldable pub entryWords : ℕ → ℕ → ℕ → ℕ → List ℕ → List ℕ
-entryWords c hash start end key = c ∷ hash ∷ start ∷ end ∷ key
+unfoldable pub wordsOfEntry : ℕ → ℕ → ℕ → ℕ → List ℕ → List ℕ
+wordsOfEntry c hash start end key = c ∷ hash ∷ start ∷ end ∷ key
 
 module _ (index : List ℕ) (n c hash start end : ℕ) (key : List ℕ) (seven : length key ≡ 7)
     (room : 11 * n + 11 ≤ length index) where
   abbrev words : List ℕ
-  words = entryWords c hash start end key
+  words = wordsOfEntry c hash start end key
 
   abbrev more : List ℕ
   more = put index (11 * n) words
 
   words-length : length words ≡ 11
-  unfolding entryWords
+  unfolding wordsOfEntry
   words-length = omega (arith, seven)
 
   fits : 11 * n + length words ≤ length index
@@ -45,23 +45,23 @@ module _ (index : List ℕ) (n c hash start end : ℕ) (key : List ℕ) (seven :
   getD-entry i h = getD-put-in index (11 * n) words fits i (omega (arith, words-length))
 
   span-entry : spanOf more (11 * n + 4) (11 * n + 11) ≡ key
-  unfolding spanOf entryWords
+  unfolding spanOf wordsOfEntry
   span-entry =
       span-put-piece index (11 * n) words fits 4 11 (omega arith) (omega (arith, words-length))
       ∙ take-all 7 key (omega (arith, seven))
 
   module _ (out : List ℕ) where
     entry-span-is : entrySpan more out n ≡ spanOf out start end
-    unfolding entrySpan entryWords
+    unfolding entrySpan wordsOfEntry
     entry-span-is = ap₂ (spanOf out) (getD-entry 2 (omega arith)) (getD-entry 3 (omega arith))
 
-    pub entry-row : rowAt more out n
+    pub entry-row : entryRow more out n
         ≡ record {
           provenance = detectProvenance (decode (spanOf out start end));
           tree = decode (spanOf out start end);
           coeff = c;
         }
-    unfolding rowAt entryWords
+    unfolding entryRow wordsOfEntry
     entry-row =
         let coeff : getD more (11 * n) 0 ≡ c =
         ap (λ (k : ℕ). getD more k 0) (omega arith) ∙ getD-entry 0 (omega arith) in
@@ -71,7 +71,7 @@ module _ (index : List ℕ) (n c hash start end : ℕ) (key : List ℕ) (seven :
     pub entry-ok : (w top : ℕ) → start ≤ end → end ≤ top → treeRefusal w (spanOf out start end) ≡ 0
         → hash ≡ structuralHash (decode (spanOf out start end)) → key ≡ keyOf (decode (spanOf out start end))
         → EntryOk w more out top n
-    unfolding entryWords
+    unfolding wordsOfEntry
     entry-ok w top rising inside tree hash-is key-is =
         record {
           rising = rw (getD-entry 2 (omega arith), getD-entry 3 (omega arith)) rising;

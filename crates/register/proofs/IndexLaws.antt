@@ -12,46 +12,46 @@ use Rattle.arith.specs.Width.{modAdd}
 use Rattle.expr_refusal.proofs.RefusalLaws.{sized-accepted}
 use Rattle.semilinear.specs.Form.{Row}
 use Rattle.normalizer_laws.specs.Register.{addRow}
-use Rattle.descent.specs.Spots.{spanOf}
-use Rattle.register.specs.Index.{entrySpan, rowAt, rowsIn, EntryOk, Searchable}
-use Rattle.descent.proofs.PartLaws.{getD-same, span-same, span-set-before, span-set-behind}
+use Rattle.ways.specs.Spans.{spanOf}
+use Rattle.register.specs.Index.{entrySpan, entryRow, indexRows, EntryOk, Searchable}
+use Rattle.ways.proofs.PartLaws.{getD-same, span-same, span-set-before, span-set-behind}
 
 -- ---- one row more
 
 pub rows-in-more : (index out : List ℕ) (n : ℕ)
-    → rowsIn index out (n + 1) ≡ rowsIn index out n ++ (rowAt index out n ∷ [])
-unfolding rowsIn
+    → indexRows index out (n + 1) ≡ indexRows index out n ++ (entryRow index out n ∷ [])
+unfolding indexRows
 rows-in-more index out n = rw add-one refl
 
-pub length-rows-in : (index out : List ℕ) (n : ℕ) → length (rowsIn index out n) ≡ n
-unfolding rowsIn
+pub length-rows-in : (index out : List ℕ) (n : ℕ) → length (indexRows index out n) ≡ n
+unfolding indexRows
 length-rows-in index out zero = refl
 length-rows-in index out (suc n) =
-    length-append (rowsIn index out n) (rowAt index out n ∷ []) ∙ rw (length-rows-in index out n) (omega arith)
+    length-append (indexRows index out n) (entryRow index out n ∷ []) ∙ rw (length-rows-in index out n) (omega arith)
 
 -- ---- the rows from one number on
 
 -- the n rows from number a on
 unfoldable pub rowsFrom : List ℕ → List ℕ → ℕ → ℕ → List Row
 rowsFrom index out zero a = []
-rowsFrom index out (suc n) a = rowAt index out a ∷ rowsFrom index out n (a + 1)
+rowsFrom index out (suc n) a = entryRow index out a ∷ rowsFrom index out n (a + 1)
 
 module _ (index out : List ℕ) where
   rows-from-more : (n a b : ℕ) → a + n ≡ b
-      → rowsFrom index out (suc n) a ≡ rowsFrom index out n a ++ (rowAt index out b ∷ [])
+      → rowsFrom index out (suc n) a ≡ rowsFrom index out n a ++ (entryRow index out b ∷ [])
   unfolding rowsFrom
-  rows-from-more zero a b e = let f : a ≡ b = omega arith in ap (λ (k : ℕ). rowAt index out k ∷ []) f
+  rows-from-more zero a b e = let f : a ≡ b = omega arith in ap (λ (k : ℕ). entryRow index out k ∷ []) f
   rows-from-more (suc n) a b e =
-      ap (λ (l : List Row). rowAt index out a ∷ l) (rows-from-more n (a + 1) b (omega arith))
+      ap (λ (l : List Row). entryRow index out a ∷ l) (rows-from-more n (a + 1) b (omega arith))
 
-  pub rows-from : (n : ℕ) → rowsIn index out n ≡ rowsFrom index out n 0
-  unfolding rowsIn rowsFrom
+  pub rows-from : (n : ℕ) → indexRows index out n ≡ rowsFrom index out n 0
+  unfolding indexRows rowsFrom
   rows-from zero = refl
   rows-from (suc n) = rw (rows-from n) (sym (rows-from-more n 0 n (omega arith)))
 
 -- the same rows one by one are the same rows
 module _ (index out index' out' : List ℕ) where
-  rows-from-ext : (n a : ℕ) → ((j : ℕ) → a ≤ j → j < a + n → rowAt index' out' j ≡ rowAt index out j)
+  rows-from-ext : (n a : ℕ) → ((j : ℕ) → a ≤ j → j < a + n → entryRow index' out' j ≡ entryRow index out j)
       → rowsFrom index' out' n a ≡ rowsFrom index out n a
   unfolding rowsFrom
   rows-from-ext zero a same = refl
@@ -59,8 +59,8 @@ module _ (index out index' out' : List ℕ) where
       ap₂ _∷_ (same a (omega arith) (omega arith))
       (rows-from-ext n (a + 1) (λ j h k. same j (omega arith) (omega arith)))
 
-  rows-in-ext : (n : ℕ) → ((j : ℕ) → j < n → rowAt index' out' j ≡ rowAt index out j)
-      → rowsIn index' out' n ≡ rowsIn index out n
+  rows-in-ext : (n : ℕ) → ((j : ℕ) → j < n → entryRow index' out' j ≡ entryRow index out j)
+      → indexRows index' out' n ≡ indexRows index out n
   rows-in-ext n same =
       rows-from index' out' n
       ∙ rows-from-ext n 0 (λ j h k. same j (omega arith))
@@ -87,8 +87,8 @@ module _ (index out index' out' : List ℕ) (j : ℕ) (same : SameEntry index ou
         key = rw (same .key, same .span) (ok .key);
       }
 
-  same-entry-row : getD index' (11 * j) 0 ≡ getD index (11 * j) 0 → rowAt index' out' j ≡ rowAt index out j
-  unfolding rowAt
+  same-entry-row : getD index' (11 * j) 0 ≡ getD index (11 * j) 0 → entryRow index' out' j ≡ entryRow index out j
+  unfolding entryRow
   same-entry-row e = rw (same .span, e) refl
 
 -- an entry stands before every later top
@@ -123,7 +123,7 @@ module _ (index out index' out' : List ℕ) (n top : ℕ) (hi : take (11 * n) in
       }
 
   pub rows-in-same : ((j : ℕ) → j < n → getD index (11 * j + 2) 0 ≤ getD index (11 * j + 3) 0)
-      → ((j : ℕ) → j < n → getD index (11 * j + 3) 0 ≤ top) → rowsIn index' out' n ≡ rowsIn index out n
+      → ((j : ℕ) → j < n → getD index (11 * j + 3) 0 ≤ top) → indexRows index' out' n ≡ indexRows index out n
   rows-in-same rising inside =
       rows-in-ext index out index' out' n
       (λ j h.
@@ -159,7 +159,7 @@ module _ (index out : List ℕ) (b v k : ℕ) where
   pub entry-set-kept : (w top : ℕ) → EntryOk w index out top k → EntryOk w (set index (11 * b) v) out top k
   entry-set-kept w top ok = same-entry-ok index out (set index (11 * b) v) out k set-entry w top ok
 
-  set-row : (k ≡ b → ⊥) → rowAt (set index (11 * b) v) out k ≡ rowAt index out k
+  set-row : (k ≡ b → ⊥) → entryRow (set index (11 * b) v) out k ≡ entryRow index out k
   set-row d =
       same-entry-row index out (set index (11 * b) v) out k set-entry
       (getD-set-other index (11 * b) (11 * k) v 0 (omega arith))
@@ -169,13 +169,13 @@ module _ (w : ℕ) (index out : List ℕ) (b : ℕ) (new : Row) where
   added = set index (11 * b) (modAdd (getD index (11 * b) 0) (new .coeff) w)
 
   added-row : 11 * b < length index
-      → rowAt added out b
+      → entryRow added out b
       ≡ record {
-        provenance = rowAt index out b .provenance;
-        tree = rowAt index out b .tree;
-        coeff = modAdd (rowAt index out b .coeff) (new .coeff) w;
+        provenance = entryRow index out b .provenance;
+        tree = entryRow index out b .tree;
+        coeff = modAdd (entryRow index out b .coeff) (new .coeff) w;
       }
-  unfolding rowAt
+  unfolding entryRow
   added-row h =
       let v : ℕ = modAdd (getD index (11 * b) 0) (new .coeff) w in
       rw (set-entry index out b v b .span, getD-set-same index (11 * b) v 0 h) refl
@@ -194,7 +194,7 @@ module _ (w : ℕ) (index out : List ℕ) (b : ℕ) (new : Row) where
       (rows-from-add n (a + 1) j (omega arith) (omega arith) (omega arith))
 
   pub rows-in-add : (n : ℕ) → b < n → 11 * n ≤ length index
-      → rowsIn added out n ≡ addRow w new b (rowsIn index out n)
+      → indexRows added out n ≡ addRow w new b (indexRows index out n)
   rows-in-add n h room =
       rows-from added out n
       ∙ rows-from-add n 0 b (omega arith) h (omega arith)

@@ -1,5 +1,5 @@
--- All atoms registered one by one (specs/Register.antt, specs/Index.antt): what holds after the first i spots, and that
--- a table that is full before the end is so with all spots too.
+-- All atoms registered one by one (normalizer_laws/specs/Register.antt, specs/Index.antt): what holds after the first i
+-- spots, and that a table that is full before the end is so with all spots too.
 use mathlib.Core.Path.{_≡_, refl, ap, sym, _∙_}
 use Prim.Native.Nat.{ℕ, _+_, _*_, _≤_, _<_, min}
 use native.Mathlib.Omega.{arith}
@@ -15,14 +15,14 @@ use Rattle.atom_table.proofs.HoldsLaws.{holds-empty}
 use Rattle.normalizer_laws.specs.Collect.{Emitted}
 use Rattle.normalizer_laws.specs.Register.{registerAtom, registerAll}
 use Rattle.descent.specs.Spots.{spotAt, spotsIn}
-use Rattle.register.specs.Index.{rowsIn, Indexed, RoomMore, Registers, Built, emitted}
+use Rattle.register.specs.Index.{indexRows, Indexed, RoomMore, Registers, Built, emitted}
 use Rattle.register.proofs.RegisteredLaws.{spotRows, spot-rows-more, spot-rows-le, past-spots}
 use Rattle.register.proofs.IndexLaws.{length-rows-in}
 
 -- the table without atoms, beside a slice of zeros
 indexed-empty : (w : ℕ) (index out : List ℕ) → out ≡ padded 57360 []
     → Indexed w emptyTable index out
-unfolding emptyTable rowsIn
+unfolding emptyTable indexRows
 indexed-empty w index out e =
     let len : length out ≡ 57360 = ap length e ∙ length-padded 57360 [] (omega arith) in
     record {
@@ -44,12 +44,12 @@ emitted-spot w file spots i b = rw (b .tree-is) refl
 pub record Reached (w : ℕ) (file spots : List ℕ) (n i : ℕ) (tab : Table) (index out : List ℕ) : Type 0 where
   pub inside : i ≤ n
   pub indexed : Indexed w tab index out
-  pub rows-are : rowsIn index out (tab .count) ≡ spotRows w file spots i
+  pub rows-are : indexRows index out (tab .count) ≡ spotRows w file spots i
 
 module _ (w : ℕ) (file spots : List ℕ) (n : ℕ) where
   pub reached-start : (index out : List ℕ) → out ≡ padded 57360 [] → {tab : Table}
       → tab ≡ emptyTable → Reached w file spots n 0 tab index out
-  unfolding emptyTable rowsIn spotsIn registerAll
+  unfolding emptyTable indexRows spotsIn registerAll
   reached-start index out e f =
       rw f (record { inside = omega arith; indexed = indexed-empty w index out e; rows-are = refl })
 
@@ -72,7 +72,7 @@ module _ (w : ℕ) (file spots : List ℕ) (n : ℕ) where
 
     -- the next spot
     module _ (l : i < n) {e : Emitted} (spot : e ≡ spotAt file spots i) {after wrote : List ℕ} {r : Table}
-        (g : Registers w (registerAtom w e (rowsIn index out (tab .count))) after wrote r) where
+        (g : Registers w (registerAtom w e (indexRows index out (tab .count))) after wrote r) where
       next : Registers w (spotRows w file spots (i + 1)) after wrote r
       next = rw (spot, h .rows-are, ← spot-rows-more w file spots i) at g
 

@@ -1,5 +1,5 @@
--- Laws of registering (specs/Register.antt): families of trees, what a row more and a row's coefficient change, and
--- that rows past a limit stay past it.
+-- Laws of registering (normalizer_laws/specs/Register.antt): families of trees, what a row more and a row's coefficient
+-- change, and that rows past a limit stay past it.
 use mathlib.Core.Path.{_≡_, refl, ap, sym, _∙_}
 use Prim.Native.Nat.{ℕ, zero, suc, _+_, _≤_, _<_}
 use native.Mathlib.Omega.{arith}
@@ -21,7 +21,7 @@ use Rattle.normalizer_laws.specs.Collect.{Emitted}
 use Rattle.normalizer_laws.specs.Register.{familyOf, joinProvenance, detectProvenance, sharedRow, addRow}
 use Rattle.normalizer_laws.specs.Register.{registerAtom, registerAll}
 use Rattle.descent.specs.Spots.{spotAt, spotsIn}
-use Rattle.register.specs.Index.{rowOf}
+use Rattle.register.specs.Index.{appendedRow}
 
 -- ---- the family of a root
 
@@ -94,16 +94,16 @@ module _ (w : ℕ) (new : Row) where
 
 register-le : (w : ℕ) (e : Emitted) (l : List Row) → length (registerAtom w e l) ≤ length l + 1
 unfolding registerAtom
-register-le w e l = add-row-le w (rowOf e) (sharedRow w (e .tree) l) l
+register-le w e l = add-row-le w (appendedRow e) (sharedRow w (e .tree) l) l
 
 -- a tree that shares row j, or none
 module _ (w : ℕ) (e : Emitted) (l : List Row) {j : ℕ} (shared : sharedRow w (e .tree) l ≡ j) where
-  pub register-shared : registerAtom w e l ≡ addRow w (rowOf e) j l
+  pub register-shared : registerAtom w e l ≡ addRow w (appendedRow e) j l
   unfolding registerAtom
   register-shared = rw shared
 
-  pub register-more : length l ≤ j → registerAtom w e l ≡ l ++ (rowOf e ∷ [])
-  register-more h = register-shared ∙ add-row-last w (rowOf e) j l h
+  pub register-more : length l ≤ j → registerAtom w e l ≡ l ++ (appendedRow e ∷ [])
+  register-more h = register-shared ∙ add-row-last w (appendedRow e) j l h
 
 -- ---- rows past a limit
 
@@ -126,7 +126,7 @@ past-register : (w : ℕ) (e : Emitted) (l : List Row) → fitsTable l ≡ false
 unfolding registerAtom
 past-register w e l =
     let j : ℕ = sharedRow w (e .tree) l in
-    past-least l (addRow w (rowOf e) j l) (length-add-row w (rowOf e) j l) (records-add-row w (rowOf e) j l)
+    past-least l (addRow w (appendedRow e) j l) (length-add-row w (appendedRow e) j l) (records-add-row w (appendedRow e) j l)
 
 -- ---- all that was emitted
 

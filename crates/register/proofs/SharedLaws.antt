@@ -1,5 +1,5 @@
--- What the two searches of specs/Index.antt mean: together they find the row that a tree shares (specs/Register.antt),
--- first by its hash and its bytes, then by its key.
+-- What the two searches of specs/Index.antt mean: together they find the row that a tree shares
+-- (normalizer_laws/specs/Register.antt), first by its hash and its bytes, then by its key.
 use mathlib.Core.Path.{_≡_, refl, ap, ap₂, sym, _∙_}
 use Prim.Native.Nat.{ℕ, zero, suc, _+_, _-_, _≤_, _<_}
 use native.Mathlib.Omega.{arith}
@@ -24,8 +24,8 @@ use Rattle.semilinear.specs.Form.{Row, eqTree}
 use Rattle.base.specs.Loop.{firstF, firstIn}
 use Rattle.normalizer_laws.specs.Register.{sameSlot, newestRow, firstRow, hasTree}
 use Rattle.normalizer_laws.specs.Register.{sharedRow}
-use Rattle.descent.specs.Spots.{spanOf}
-use Rattle.register.specs.Index.{entrySpan, entryTree, rowAt, rowsIn, EntryOk, lastF, slotAt}
+use Rattle.ways.specs.Spans.{spanOf}
+use Rattle.register.specs.Index.{entrySpan, entryTree, entryRow, indexRows, EntryOk, lastF, slotAt}
 use Rattle.register.specs.Index.{newestSlot, rowByHash, rowByKey}
 use Rattle.register.proofs.IndexLaws.{length-rows-in, rowsFrom, rows-from}
 use Rattle.register.proofs.SlotLaws.{keyAt, row-key-none, row-key-search}
@@ -66,24 +66,24 @@ newest-more test i k (y ∷ l) x none e =
 
 module _ (index out : List ℕ) where
   newest-rows : (test : Row → Bool) (n none : ℕ)
-      → newestRow test 0 (rowsIn index out n) none ≡ lastF n (λ j. test (rowAt index out j)) none
-  unfolding newestRow rowsIn lastF
+      → newestRow test 0 (indexRows index out n) none ≡ lastF n (λ j. test (entryRow index out j)) none
+  unfolding newestRow indexRows lastF
   newest-rows test zero none = refl
   newest-rows test (suc n) none =
-      newest-more test 0 n (rowsIn index out n) (rowAt index out n) none (omega (arith, length-rows-in index out n))
-      ∙ ap (λ (k : ℕ). when (test (rowAt index out n)) (λ _. n) (λ _. k)) (newest-rows test n none)
+      newest-more test 0 n (indexRows index out n) (entryRow index out n) none (omega (arith, length-rows-in index out n))
+      ∙ ap (λ (k : ℕ). when (test (entryRow index out n)) (λ _. n) (λ _. k)) (newest-rows test n none)
 
   first-rows : (test : Row → Bool) (n a : ℕ)
-      → firstRow test a (rowsFrom index out n a) ≡ firstF n (λ j. test (rowAt index out j)) a
+      → firstRow test a (rowsFrom index out n a) ≡ firstF n (λ j. test (entryRow index out j)) a
   unfolding firstRow rowsFrom firstF
   first-rows test zero a = refl
   first-rows test (suc n) a =
-      ap (λ (k : ℕ). when (test (rowAt index out a)) (λ _. a) (λ _. k)) (first-rows test n (a + 1))
+      ap (λ (k : ℕ). when (test (entryRow index out a)) (λ _. a) (λ _. k)) (first-rows test n (a + 1))
 
   module _ (w : ℕ) (t : Tree) where
     has-tree-from : (n a j b : ℕ) → a + j ≡ b → j < n
         → hasTree w t j (rowsFrom index out n a) ≡ eqTree w (entryTree index out b) t
-    unfolding hasTree rowsFrom rowAt
+    unfolding hasTree rowsFrom entryRow
     has-tree-from zero a j b e h = absurd (omega arith)
     has-tree-from (suc n) a zero b e h =
         let f : a ≡ b = omega arith in
@@ -91,7 +91,7 @@ module _ (index out : List ℕ) where
     has-tree-from (suc n) a (suc j) b e h = has-tree-from n (a + 1) j b (omega arith) (omega arith)
 
     -- row j has the tree of entry j
-    has-tree-in : (n j : ℕ) → j < n → hasTree w t j (rowsIn index out n) ≡ eqTree w (entryTree index out j) t
+    has-tree-in : (n j : ℕ) → j < n → hasTree w t j (indexRows index out n) ≡ eqTree w (entryTree index out j) t
     has-tree-in n j h = ap (hasTree w t j) (rows-from index out n) ∙ has-tree-from n 0 j j (omega arith) h
 
 has-tree-past : (w : ℕ) (t : Tree) (j : ℕ) (l : List Row) → length l ≤ j → hasTree w t j l ≡ false
@@ -109,7 +109,7 @@ bytes-span l s e h = bytes-take (e - s) _ (bytes-drop s l h)
 module _ (w : ℕ) (index out : List ℕ) (top n : ℕ) (entries : (j : ℕ) → j < n → EntryOk w index out top j)
     (ho : IsBytes out) (t : List ℕ) (ht : IsBytes t) (ok : treeRefusal w t ≡ 0) where
   abbrev rows : List Row
-  rows = rowsIn index out n
+  rows = indexRows index out n
 
   abbrev newest : ℕ
   newest = newestSlot n (structuralHash (decode t)) (decode t) index out
@@ -118,7 +118,7 @@ module _ (w : ℕ) (index out : List ℕ) (top n : ℕ) (entries : (j : ℕ) →
   found = rowByHash n (structuralHash (decode t)) t index out
 
   newest-is : newestRow (λ x. sameSlot (x .tree) (decode t)) 0 rows (length rows) ≡ newest
-  unfolding newestSlot slotAt sameSlot rowAt
+  unfolding newestSlot slotAt sameSlot entryRow
   newest-is =
       ap (newestRow (λ x. sameSlot (x .tree) (decode t)) 0 rows) (length-rows-in index out n)
       ∙ newest-rows index out (λ x. sameSlot (x .tree) (decode t)) n n
@@ -167,7 +167,7 @@ module _ (w : ℕ) (index out : List ℕ) (top n : ℕ) (entries : (j : ℕ) →
 
   shared-first : found ≡ n
       → sharedRow w (decode t) rows ≡ firstF n (λ j. sameTable (entryTree index out j) (decode t)) 0
-  unfolding rowAt
+  unfolding entryRow
   shared-first e =
       shared-has false (not-has e)
       ∙ ap (firstRow (λ x. sameTable (x .tree) (decode t)) 0) (rows-from index out n)

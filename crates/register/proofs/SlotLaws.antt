@@ -16,10 +16,10 @@ use Rattle.expr.specs.Vars.{support, sameVars}
 use Rattle.truth.specs.Key.{notPure}
 use Rattle.base.specs.Loop.{firstIn}
 use Rattle.base.proofs.LoopLaws.{when-both}
-use Rattle.descent.specs.Spots.{spanOf}
+use Rattle.ways.specs.Spans.{spanOf}
 use Rattle.register.specs.Index.{entrySpan, lastF, slotAt, newestSlot, rowByHash, rowByKey}
 use Rattle.register.specs.Index.{Searchable}
-use Rattle.descent.proofs.PartLaws.{length-span, getD-span}
+use Rattle.ways.proofs.PartLaws.{length-span, getD-span}
 
 -- ---- the last number that passes a test
 

@@ -14,7 +14,7 @@ use Rattle.truth.specs.Key.{keyOf}
 use Rattle.atom_table.specs.declared.table.Table.{Table}
 use Rattle.semilinear.specs.Form.{Row}
 use Rattle.normalizer_laws.specs.Register.{sharedRow, registerAtom}
-use Rattle.register.specs.Index.{rowsIn, Indexed, Registers, Searchable, emitted, rowOf, rowByHash}
+use Rattle.register.specs.Index.{indexRows, Indexed, Registers, Searchable, emitted, appendedRow, rowByHash}
 use Rattle.register.specs.Index.{rowByKey}
 use Rattle.register.proofs.SlotLaws.{row-by-hash-le}
 use Rattle.register.proofs.IndexLaws.{length-rows-in, searchable}
@@ -33,7 +33,7 @@ module _ (w : ℕ) (tab : Table) (index out : List ℕ) (h : Indexed w tab index
     n = tab .count
 
     abbrev rows : List Row
-    rows = rowsIn index out n
+    rows = indexRows index out n
 
     abbrev next : List Row
     next = registerAtom w (emitted c t) rows
@@ -46,7 +46,7 @@ module _ (w : ℕ) (tab : Table) (index out : List ℕ) (h : Indexed w tab index
         → Registers w next after out tab
     registers-grown j l shared e =
         rw (register-shared w (emitted c t) rows shared)
-        (registers-add w tab index out h (rowOf (emitted c t)) j l e)
+        (registers-add w tab index out h (appendedRow (emitted c t)) j l e)
 
     module _ {hash : ℕ} (hh : hash ≡ structuralHash (decode t)) {same : ℕ} (hs : same ≡ rowByHash n hash t index out)
       where
@@ -70,6 +70,6 @@ module _ (w : ℕ) (tab : Table) (index out : List ℕ) (h : Indexed w tab index
           registers-by-key l = registers-grown found l shared-is
 
           pub registers-new : n ≤ found → {after wrote : List ℕ} {r : Table}
-              → Registers w (rows ++ (rowOf (emitted c t) ∷ [])) after wrote r → Registers w next after wrote r
+              → Registers w (rows ++ (appendedRow (emitted c t) ∷ [])) after wrote r → Registers w next after wrote r
           registers-new l g =
               rw (register-more w (emitted c t) rows shared-is (omega (arith, length-rows-in index out n))) g

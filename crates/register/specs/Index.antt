@@ -22,7 +22,7 @@ use Rattle.atom_table.specs.Table.{Holds, Clean}
 use Rattle.base.specs.Loop.{firstIn}
 use Rattle.normalizer_laws.specs.Collect.{Emitted}
 use Rattle.normalizer_laws.specs.Register.{detectProvenance}
-use Rattle.descent.specs.Spots.{spanOf}
+use Rattle.ways.specs.Spans.{spanOf}
 use Rattle.base.specs.Limits.{atomLimit}
 
 -- the words of an entry
@@ -38,8 +38,8 @@ abbrev pub entryTree : List ℕ → List ℕ → ℕ → Tree
 entryTree index out j = decode (entrySpan index out j)
 
 -- the row of atom j
-unfoldable pub rowAt : List ℕ → List ℕ → ℕ → Row
-rowAt index out j =
+unfoldable pub entryRow : List ℕ → List ℕ → ℕ → Row
+entryRow index out j =
     record {
       provenance = detectProvenance (entryTree index out j);
       tree = entryTree index out j;
@@ -47,9 +47,9 @@ rowAt index out j =
     }
 
 -- the rows of the first n atoms
-unfoldable pub rowsIn : List ℕ → List ℕ → ℕ → List Row
-rowsIn index out zero = []
-rowsIn index out (suc n) = rowsIn index out n ++ (rowAt index out n ∷ [])
+unfoldable pub indexRows : List ℕ → List ℕ → ℕ → List Row
+indexRows index out zero = []
+indexRows index out (suc n) = indexRows index out n ++ (entryRow index out n ∷ [])
 
 -- the words of atom j say what its tree is, which stands before `top`
 pub record EntryOk (w : ℕ) (index out : List ℕ) (top j : ℕ) : Type 0 where
@@ -62,7 +62,7 @@ pub record EntryOk (w : ℕ) (index out : List ℕ) (top j : ℕ) : Type 0 where
 -- a table that is not full, beside its index
 pub record Indexed (w : ℕ) (tab : Table) (index out : List ℕ) : Type 0 where
   pub more : tab .full ≡ false
-  pub holds : Holds w tab out (rowsIn index out (tab .count))
+  pub holds : Holds w tab out (indexRows index out (tab .count))
   pub clean : Clean tab out
   pub entries : (j : ℕ) → j < tab .count → EntryOk w index out (tab .at) j
   pub room : entryWords * tab .count ≤ length index
@@ -73,7 +73,7 @@ RoomMore tab index = tab .count < atomLimit → entryWords * tab .count + entryW
 
 -- a step from one table to another makes the rows of it; where it is full, they pass a limit
 pub record Registers (w : ℕ) (rows : List Row) (index out : List ℕ) (r : Table) : Type 0 where
-  pub rows-are : r .full ≡ false → rowsIn index out (r .count) ≡ rows
+  pub rows-are : r .full ≡ false → indexRows index out (r .count) ≡ rows
   pub indexed : r .full ≡ false → Indexed w r index out
   pub past : r .full ≡ true → fitsTable rows ≡ false
 
@@ -82,8 +82,8 @@ abbrev pub emitted : ℕ → List ℕ → Emitted
 emitted c t = record { coeff = c; tree = decode t }
 
 -- the row of an atom that shares none
-abbrev pub rowOf : Emitted → Row
-rowOf e = record { provenance = detectProvenance (e .tree); tree = e .tree; coeff = e .coeff }
+abbrev pub appendedRow : Emitted → Row
+appendedRow e = record { provenance = detectProvenance (e .tree); tree = e .tree; coeff = e .coeff }
 
 -- the first r bytes of a slice are an accepted tree of width w: the tree t
 pub record Built (w : ℕ) (t : Tree) (before after : List ℕ) (r : ℕ) : Type 0 where

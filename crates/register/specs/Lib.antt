@@ -1,2 +1,2 @@
--- The definitions of this crate.
+-- The table of atoms in the words of an index.
 pub mod Index

@@ -9,7 +9,7 @@ ghost use lib.ListN.{length};
 ghost use Rattle.base.specs.Lists.{eqList};
 ghost use Rattle.record.specs.Span.{sized};
 ghost use Rattle.record.specs.Decode.{decode};
-ghost use Rattle.descent.specs.Spots.{spanOf};
+ghost use Rattle.ways.specs.Spans.{spanOf};
 ghost use Rattle.register.specs.Index.{entryWords, slotAt, newestSlot, Searchable};
 ghost use Rattle.register.specs.Index.{rowByHash, rowByKey};
 

@@ -24,10 +24,11 @@ ghost use Rattle.semilinear.specs.Form.{mixedFamily};
 ghost use Rattle.normalizer_laws.specs.Register.{familyOf, joinProvenance};
 ghost use Rattle.normalizer_laws.specs.Register.{detectProvenance, registerAtom};
 ghost use Rattle.normalizer_laws.specs.Register.{registerAll};
-ghost use Rattle.descent.specs.Spots.{Accepted, SpotsOk, spotTree, spotAt};
+ghost use Rattle.ways.specs.Spans.{Accepted};
+ghost use Rattle.descent.specs.Spots.{SpotsOk, spotTree, spotAt};
 ghost use Rattle.descent.specs.Spots.{spotsIn};
 ghost use Rattle.register.specs.Index.{entryWords, Indexed, RoomMore, Registers, Built};
-ghost use Rattle.register.specs.Index.{rowsIn, emitted, rowOf};
+ghost use Rattle.register.specs.Index.{indexRows, emitted, appendedRow};
 ghost use Rattle.base.specs.Limits.{atomLimit, formBytes};
 
 // Whether a child of family x belongs to the family f or is Mixed.
@@ -162,8 +163,8 @@ fn append_atom(
     requires { ⌜ Indexed w table (now index) (now out) × (treeRefusal w (now t) ≡ 0)
         × (hash ≡ structuralHash (decode (now t))) × (now key ≡ keyOf (decode (now t)))
         × RoomMore table (now index) ⌝ }
-    ensures { λ r. ⌜ Registers w (rowsIn (now (index .entry)) (now (out .entry)) (table .count)
-        ++ (rowOf (emitted c (now (t .entry))) ∷ [])) (now (index .exit)) (now (out .exit)) r ⌝ }
+    ensures { λ r. ⌜ Registers w (indexRows (now (index .entry)) (now (out .entry)) (table .count)
+        ++ (appendedRow (emitted c (now (t .entry))) ∷ [])) (now (index .exit)) (now (out .exit)) r ⌝ }
 {
     let n = table.count as usize;
     let start = table.at as u64 + limits::RECORD_LENGTH_U64;
@@ -181,7 +182,7 @@ fn register_atom(table: Table, c: u64, t: &[u8], w: u8, index: &mut [u64], out: 
     requires { ⌜ Indexed w table (now index) (now out) × (treeRefusal w (now t) ≡ 0)
         × RoomMore table (now index) ⌝ }
     ensures { λ r. ⌜ Registers w (registerAtom w (emitted c (now (t .entry)))
-        (rowsIn (now (index .entry)) (now (out .entry)) (table .count)))
+        (indexRows (now (index .entry)) (now (out .entry)) (table .count)))
         (now (index .exit)) (now (out .exit)) r ⌝ }
 {
     let n = table.count as usize;

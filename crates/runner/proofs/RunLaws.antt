@@ -13,13 +13,13 @@ use Rattle.semilinear.specs.Answers.{GivesForm}
 use Rattle.semilinear.proofs.EncodeFormLaws.{form-decode}
 use Rattle.claims.specs.Calls.{Call, afterCall, inUse}
 use Rattle.runner.specs.RunPasses.{callOf, callsOf, isList, bytesOutcome}
-use Rattle.runner.specs.Placed.{Lies, bytesIn, Placed}
+use Rattle.runner.specs.Placed.{Lies, bytesIn, InSlices}
 use Rattle.runner.proofs.ListLaws.{Next, calls-turn, list-next}
 use Rattle.runner.proofs.TurnLaws.{slice-length, moved, bytes-in}
 
 -- the bytes in use are read off where they lie
-pub placed-again : {t : List ℕ} {first : Bool} {used terms : ℕ} {a b : List ℕ} → Placed t first used terms a b
-    → Placed (bytesIn first used a b) first used terms a b
+pub placed-again : {t : List ℕ} {first : Bool} {used terms : ℕ} {a b : List ℕ} → InSlices t first used terms a b
+    → InSlices (bytesIn first used a b) first used terms a b
 placed-again p = rw (bytes-in p) p
 
 -- what holds before the call at the words from i on: the bytes t lie in the slice, and the rest of the list makes of
@@ -31,7 +31,7 @@ pub record Running (words first : List ℕ) (len spare-len : ℕ) (sheet spare :
   pub sheet-length : length sheet ≡ len
   pub spare-length : length spare ≡ spare-len
   pub bytes : List ℕ
-  pub lies : Placed bytes first-slice used terms sheet spare
+  pub lies : InSlices bytes first-slice used terms sheet spare
   pub same : inUse (callsOf (drop i words)) bytes ≡ inUse (callsOf words) first
 
 module _ {words first : List ℕ} {len spare-len : ℕ} {sheet spare : List ℕ} {one : Bool} {used terms i : ℕ}
@@ -39,14 +39,14 @@ module _ {words first : List ℕ} {len spare-len : ℕ} {sheet spare : List ℕ}
   pub running-next : i < length words → Next words i len spare-len
   running-next h = list-next words i len spare-len h (v .list)
 
-  pub running-lies : Placed (bytesIn one used sheet spare) one used terms sheet spare
+  pub running-lies : InSlices (bytesIn one used sheet spare) one used terms sheet spare
   running-lies = placed-again (v .lies)
 
   abbrev next-call : Call
   next-call = callOf (getD words i 0) (getD words (i + 1) 0)
 
   pub running-turn : i < length words → {sheet′ spare′ : List ℕ} {one′ : Bool} {used′ terms′ : ℕ}
-      → Placed (afterCall next-call (bytesIn one used sheet spare)) one′ used′ terms′ sheet′ spare′
+      → InSlices (afterCall next-call (bytesIn one used sheet spare)) one′ used′ terms′ sheet′ spare′
       → length sheet′ ≡ length sheet → length spare′ ≡ length spare
       → Running words first len spare-len sheet′ spare′ one′ used′ terms′ (i + 2)
   unfolding inUse
@@ -65,7 +65,7 @@ module _ {words first : List ℕ} {len spare-len : ℕ} {sheet spare : List ℕ}
             ∙ v .same;
       }
 
-  pub running-end : length words ≤ i → Placed (inUse (callsOf words) first) one used terms sheet spare
+  pub running-end : length words ≤ i → InSlices (inUse (callsOf words) first) one used terms sheet spare
   unfolding inUse callsOf
   running-end h =
       let e : v .bytes ≡ inUse (callsOf words) first =
@@ -73,13 +73,13 @@ module _ {words first : List ℕ} {len spare-len : ℕ} {sheet spare : List ℕ}
       rw (sym e) (v .lies)
 
 -- settled, the bytes are the list's
-pub placed-bytes : {t : List ℕ} {first : Bool} {used terms : ℕ} {a b l : List ℕ} → Placed t first used terms a b
+pub placed-bytes : {t : List ℕ} {first : Bool} {used terms : ℕ} {a b l : List ℕ} → InSlices t first used terms a b
     → Lies (bytesIn first used a b) used terms l → Lies t used terms l
 placed-bytes p h = rw (sym (bytes-in p)) h
 
 -- what lies in a whole slice is placed in it
 pub lies-placed : {used terms : ℕ} {a : List ℕ} (b : List ℕ) → Lies (take used a) used terms a
-    → Placed (bytesIn true used a b) true used terms a b
+    → InSlices (bytesIn true used a b) true used terms a b
 lies-placed {a = a} b h =
     let all : take 57360 a ≡ a = ap (λ (k : ℕ). take k a) (sym (slice-length h)) ∙ take-length a in
     record { lies = moved h all }

@@ -20,7 +20,7 @@ use Rattle.semilinear.proofs.FormLaws.{length-form-le}
 use Rattle.atom_table.proofs.MadeLaws.{Made, made, not-made}
 use Rattle.claims.specs.Calls.{Pass, Call, passGives, useOf, afterCall}
 use Rattle.claims.proofs.CallsLaws.{pass-keeps, pass-two}
-use Rattle.runner.specs.Placed.{Lies, bytesIn, Placed}
+use Rattle.runner.specs.Placed.{Lies, bytesIn, InSlices}
 
 module _ {t slice : List ℕ} {used terms : ℕ} (h : Lies t used terms slice) where
   pub used-le : used ≤ 57360
@@ -137,7 +137,7 @@ moved h e =
       written = e ∙ h .written;
     }
 
-pub bytes-in : {t : List ℕ} {first : Bool} {used terms : ℕ} {a b : List ℕ} → Placed t first used terms a b
+pub bytes-in : {t : List ℕ} {first : Bool} {used terms : ℕ} {a b : List ℕ} → InSlices t first used terms a b
     → bytesIn first used a b ≡ t
 bytes-in {first = first} {a = a} {b = b} p = bytes-lies (when first (λ _. a) (λ _. b)) (p .lies)
 
@@ -145,53 +145,53 @@ differ : {A : Type 0} → false ≡ true → A
 differ h = let z : _≡_ {A = ℕ} 0 1 = cc in absurd (omega (arith, z))
 
 module _ (c : Call) {used terms : ℕ} {a b : List ℕ} (r : Answer) (d : List ℕ) where
-  pub first-refused : {first : Bool} → first ≡ true → Placed (bytesIn first used a b) first used terms a b
+  pub first-refused : {first : Bool} → first ≡ true → InSlices (bytesIn first used a b) first used terms a b
       → GivesForm (passGives (c .pass) (take used a) (c .len)) (c .len) r (take (c .len) d) → (r .refusal ≡ 0 → ⊥)
-      → Placed (afterCall c (bytesIn first used a b)) first used terms a d
+      → InSlices (afterCall c (bytesIn first used a b)) first used terms a d
   first-refused {first = false} e h g nz = differ e
   first-refused {first = true} e h g nz = rw (turn-refused c (h .lies) r _ g nz) (record { lies = h .lies })
 
-  pub first-accepted : {first : Bool} → first ≡ true → Placed (bytesIn first used a b) first used terms a b
+  pub first-accepted : {first : Bool} → first ≡ true → InSlices (bytesIn first used a b) first used terms a b
       → GivesForm (passGives (c .pass) (take used a) (c .len)) (c .len) r (take (c .len) d) → r .refusal ≡ 0
-      → Placed (afterCall c (bytesIn first used a b)) false (r .used) (r .terms) a d
+      → InSlices (afterCall c (bytesIn first used a b)) false (r .used) (r .terms) a d
   first-accepted {first = false} e h g z = differ e
   first-accepted {first = true} e h g z =
       let x = turn-accepted c (h .lies) r _ g z in
       record { lies = moved (x .lies) (ap (λ (n : ℕ). take n d) (sym (x .whole))) }
 
-  pub second-refused : {first : Bool} → first ≡ false → Placed (bytesIn first used a b) first used terms a b
+  pub second-refused : {first : Bool} → first ≡ false → InSlices (bytesIn first used a b) first used terms a b
       → GivesForm (passGives (c .pass) (take used b) (c .len)) (c .len) r (take (c .len) d) → (r .refusal ≡ 0 → ⊥)
-      → Placed (afterCall c (bytesIn first used a b)) first used terms d b
+      → InSlices (afterCall c (bytesIn first used a b)) first used terms d b
   second-refused {first = true} e h g nz = differ (sym e)
   second-refused {first = false} e h g nz = rw (turn-refused c (h .lies) r _ g nz) (record { lies = h .lies })
 
-  pub second-accepted : {first : Bool} → first ≡ false → Placed (bytesIn first used a b) first used terms a b
+  pub second-accepted : {first : Bool} → first ≡ false → InSlices (bytesIn first used a b) first used terms a b
       → GivesForm (passGives (c .pass) (take used b) (c .len)) (c .len) r (take (c .len) d) → r .refusal ≡ 0
-      → Placed (afterCall c (bytesIn first used a b)) true (r .used) (r .terms) d b
+      → InSlices (afterCall c (bytesIn first used a b)) true (r .used) (r .terms) d b
   second-accepted {first = true} e h g z = differ (sym e)
   second-accepted {first = false} e h g z =
       let x = turn-accepted c (h .lies) r _ g z in
       record { lies = moved (x .lies) (ap (λ (n : ℕ). take n d) (sym (x .whole))) }
 
 module _ {t : List ℕ} {used terms : ℕ} {a b : List ℕ} where
-  pub first-asks : {first : Bool} → first ≡ true → Placed t first used terms a b → used ≤ length a
+  pub first-asks : {first : Bool} → first ≡ true → InSlices t first used terms a b → used ≤ length a
   first-asks {first = false} e h = differ e
   first-asks {first = true} e h = used-room a (h .lies)
 
-  pub second-asks : {first : Bool} → first ≡ false → Placed t first used terms a b → used ≤ length b
+  pub second-asks : {first : Bool} → first ≡ false → InSlices t first used terms a b → used ≤ length b
   second-asks {first = true} e h = differ (sym e)
   second-asks {first = false} e h = used-room b (h .lies)
 
-  pub second-room : {first : Bool} → first ≡ false → Placed t first used terms a b → 57360 ≤ length b
+  pub second-room : {first : Bool} → first ≡ false → InSlices t first used terms a b → 57360 ≤ length b
   second-room {first = true} e h = differ (sym e)
   second-room {first = false} e h = room b (h .lies)
 
-  pub settled-first : {first : Bool} → first ≡ true → length a ≡ 57360 → Placed t first used terms a b
+  pub settled-first : {first : Bool} → first ≡ true → length a ≡ 57360 → InSlices t first used terms a b
       → Lies t used terms a
   settled-first {first = false} e n h = differ e
   settled-first {first = true} e n h = moved (h .lies) (sym (ap (λ (k : ℕ). take k a) (sym n) ∙ take-length a))
 
-  pub settled-second : {first : Bool} → first ≡ false → length a ≡ 57360 → Placed t first used terms a b
+  pub settled-second : {first : Bool} → first ≡ false → length a ≡ 57360 → InSlices t first used terms a b
       → (l : List ℕ) → l ≡ put a 0 (take (length a) b) → Lies t used terms l
   settled-second {first = true} e n h l w = differ (sym e)
   settled-second {first = false} e n h l w =

@@ -23,5 +23,5 @@ abbrev pub bytesIn : Bool → ℕ → List ℕ → List ℕ → List ℕ
 bytesIn first used a b = take used (when first (λ _. a) (λ _. b))
 
 -- the bytes t lie in the first 57,360 bytes of the one slice or of the other
-pub record Placed (t : List ℕ) (first : Bool) (used terms : ℕ) (a b : List ℕ) : Type 0 where
+pub record InSlices (t : List ℕ) (first : Bool) (used terms : ℕ) (a b : List ℕ) : Type 0 where
   pub lies : Lies t used terms (take formBytes (when first (λ _. a) (λ _. b)))

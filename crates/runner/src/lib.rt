@@ -6,8 +6,9 @@ ghost use Prim.Native.Nat.{_≤_};
 ghost use lib.ListN.{length, take};
 ghost use Rattle.semilinear.specs.Answers.{GivesForm};
 ghost use Rattle.claims.specs.Calls.{passGives, afterCall, inUse};
-ghost use Rattle.runner.specs.RunPasses.{passAt, isPass, callOf, callsOf, isList, bytesOutcome, runPasses};
-ghost use Rattle.runner.specs.Placed.{Lies, bytesIn, Placed};
+ghost use Rattle.runner.specs.RunPasses.{passAt, isPass, callOf, callsOf, isList};
+ghost use Rattle.runner.specs.RunPasses.{bytesOutcome, runPasses};
+ghost use Rattle.runner.specs.Placed.{Lies, bytesIn, InSlices};
 ghost use Rattle.base.specs.Limits.{formBytes};
 
 // The form in use: whether it is in the first slice, how many bytes it has, and its count of terms.
@@ -69,7 +70,7 @@ fn make_call(pass: u64, s: &[u8], out: &mut [u8]) -> Answer
     if pass == 4 {
         return flatten::flatten_complex_atoms(s, out);
     }
-    atom_table::compact::compact_atom_table(s, out)
+    compaction::compact_atom_table(s, out)
 }
 
 // One call: it reads the first used bytes of from and writes the first len bytes of to.
@@ -84,9 +85,9 @@ fn call_part(pass: u64, from: &[u8], used: usize, to: &mut [u8], len: usize) -> 
 // One call on the form in use, into the other slice.
 fn turn(pass: u64, len: usize, x: InUse, sheet: &mut [u8], spare: &mut [u8]) -> InUse
     requires { ⌜ (len ≤ length (now sheet)) × (len ≤ length (now spare))
-        × Placed (bytesIn (x .first) (x .used) (now sheet) (now spare)) (x .first) (x .used) (x .terms)
+        × InSlices (bytesIn (x .first) (x .used) (now sheet) (now spare)) (x .first) (x .used) (x .terms)
         (now sheet) (now spare) ⌝ }
-    ensures { λ r. ⌜ Placed
+    ensures { λ r. ⌜ InSlices
         (afterCall (callOf pass len) (bytesIn (x .first) (x .used) (now (sheet .entry)) (now (spare .entry))))
         (r .first) (r .used) (r .terms) (now (sheet .exit)) (now (spare .exit)) ⌝ }
 {
@@ -116,9 +117,9 @@ fn turn(pass: u64, len: usize, x: InUse, sheet: &mut [u8], spare: &mut [u8]) -> 
 // Each call of the list, one after the other.
 fn run_list(calls: &[u64], start: InUse, sheet: &mut [u8], spare: &mut [u8]) -> InUse
     requires { ⌜ (isList (length (now sheet)) (length (now spare)) (now calls) ≡ true)
-        × Placed (bytesIn (start .first) (start .used) (now sheet) (now spare)) (start .first) (start .used)
+        × InSlices (bytesIn (start .first) (start .used) (now sheet) (now spare)) (start .first) (start .used)
         (start .terms) (now sheet) (now spare) ⌝ }
-    ensures { λ r. ⌜ Placed
+    ensures { λ r. ⌜ InSlices
         (inUse (callsOf (now (calls .entry)))
         (bytesIn (start .first) (start .used) (now (sheet .entry)) (now (spare .entry))))
         (r .first) (r .used) (r .terms) (now (sheet .exit)) (now (spare .exit)) ⌝ }
@@ -137,7 +138,7 @@ fn run_list(calls: &[u64], start: InUse, sheet: &mut [u8], spare: &mut [u8]) -> 
 // The form in use is left in sheet.
 fn settle(first: bool, used: usize, terms: u64, sheet: &mut [u8], spare: &[u8])
     requires { ⌜ (length (now sheet) ≡ formBytes)
-        × Placed (bytesIn first used (now sheet) (now spare)) first used terms (now sheet) (now spare) ⌝ }
+        × InSlices (bytesIn first used (now sheet) (now spare)) first used terms (now sheet) (now spare) ⌝ }
     ensures { λ _. ⌜ Lies (bytesIn first used (now (sheet .entry)) (now (spare .entry))) used terms
         (now (sheet .exit)) ⌝ }
 {

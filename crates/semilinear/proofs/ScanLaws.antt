@@ -44,17 +44,17 @@ leb-bitmask x w h = go (decLt 64 w) (decLt x (2 ^ w))
 -- ---- atoms
 
 -- the bytes f after atoms of `at` bytes, so many of them, with so many tree records
-pub record Passed (f : List ℕ) (at count records : ℕ) : Type 0 where
+pub record Scanned (f : List ℕ) (at count records : ℕ) : Type 0 where
   pub inside : at ≤ length f
   pub bytes : at ≡ 16 * (count + records)
   pub number : atomCount f ≡ count + atomCount (drop at f)
   pub trees : atomRecords f ≡ records + atomRecords (drop at f)
   pub rest : afterAtoms f ≡ afterAtoms (drop at f)
 
-pub passed-none : (f : List ℕ) → Passed f 0 0 0
+pub passed-none : (f : List ℕ) → Scanned f 0 0 0
 passed-none f = record { inside = omega arith; bytes = refl; number = omega arith; trees = omega arith; rest = refl }
 
-pub passed-table : (f : List ℕ) (at count records : ℕ) → Passed f at count records → isAtom (drop at f) ≡ false
+pub passed-table : (f : List ℕ) (at count records : ℕ) → Scanned f at count records → isAtom (drop at f) ≡ false
     → IsAtomTable f (record { at = at; count = count; records = records })
 passed-table f at count records h e =
     record {
@@ -91,8 +91,8 @@ module _ (f : List ℕ) (at : ℕ) (r : List ℕ) (er : r ≡ drop at f) (ea : i
   records-next =
       ap atomRecords (sym er) ∙ fold-atom _ _ r ea ∙ ap (λ (l : List ℕ). frontNumber r + atomRecords l) after-at
 
-  pub passed-atom : (count records : ℕ) → Passed f at count records
-      → Passed f (at + atomLength r) (count + 1) (records + frontNumber r)
+  pub passed-atom : (count records : ℕ) → Scanned f at count records
+      → Scanned f (at + atomLength r) (count + 1) (records + frontNumber r)
   unfolding atomLength
   passed-atom count records h =
       record {

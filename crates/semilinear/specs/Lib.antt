@@ -1,4 +1,4 @@
--- The semilinear form (document 01: sheet): its meaning, its bytes, its validity, and what is made of it.
+-- The semilinear form (document 01: sheet): its meaning, its bytes, its validity, and what a pass gives.
 pub mod Form
 pub mod Items
 pub mod Valid

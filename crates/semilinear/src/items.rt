@@ -4,7 +4,9 @@ ghost use mathlib.Core.Path.{_≡_};
 ghost use mathlib.Core.Bool.{true};
 ghost use Prim.Native.Nat.{ℕ, _+_, _*_, _^_, _<_, _≤_};
 ghost use lib.ListN.{length, drop};
-ghost use Rattle.semilinear.specs.Items.{frontKind, provenance, frontNumber, frontWidth, frontSpare, frontWord, atomLength, isAtom, treeSpan, isTerm};
+ghost use Rattle.semilinear.specs.Items.{frontKind, provenance, frontNumber, frontWidth};
+ghost use Rattle.semilinear.specs.Items.{frontSpare, frontWord, atomLength, isAtom, treeSpan};
+ghost use Rattle.semilinear.specs.Items.{isTerm};
 ghost use Rattle.semilinear.specs.DecodeForm.{hasTerm};
 ghost use Rattle.base.specs.Limits.{recordLength};
 

@@ -6,7 +6,8 @@ ghost use mathlib.Core.Bool.{true};
 ghost use Prim.Native.Nat.{ℕ, _^_};
 ghost use lib.Dec.{ltb};
 ghost use Rattle.semilinear.specs.Items.{isAtom, isTerm};
-ghost use Rattle.semilinear.specs.Valid.{treeOk, atomOk, atomsOk, termOk, termsOk, sumOk, frontOk};
+ghost use Rattle.semilinear.specs.Valid.{treeOk, atomOk, atomsOk, termOk, termsOk, sumOk};
+ghost use Rattle.semilinear.specs.Valid.{frontOk};
 ghost use Rattle.semilinear.specs.Scan.{AtomsEnd, IsAtomTable};
 ghost use Rattle.semilinear.specs.Valid.{isSemilinear, lengthRefused, semilinearRefusal};
 

@@ -1,5 +1,3 @@
--- The laws of the definitions; those that other crates use are public.
--- The laws that the proofs of the code cite: the marks, the sides of a root, the descent, the index, registering, the
--- form.
+-- The laws that the proofs of the entry point cite: the whole tree, and the form that is written.
 pub mod WrittenLaws
 pub mod WholeTreeLaws

@@ -1,5 +1,5 @@
--- Normalising a whole accepted file (specs/Normalize.antt): the descent from its root with the coefficient 1 collects
--- what the definition says, and the refusals 7 and 8 are found where they are defined.
+-- Normalising a whole accepted file (normalizer_laws/specs/Normalize.antt): the descent from its root with the
+-- coefficient 1 collects what the definition says, and the refusals 7 and 8 are found where they are defined.
 use mathlib.Core.Path.{_≡_, refl, ap, ap₂, sym, _∙_}
 use Prim.Native.Nat.{ℕ, _+_, _*_, _^_, _≤_, _<_, min}
 use native.Mathlib.Omega.{arith}
@@ -26,17 +26,18 @@ use Rattle.semilinear.specs.declared.outcome.Answer.{Answer}
 use Rattle.base.specs.Outcome.{refused}
 use Rattle.semilinear.specs.Answers.{GivesForm}
 use Rattle.atom_table.proofs.PassLaws.{gives-same}
-use Rattle.descent.specs.declared.side.Spot.{Spot}
+use Rattle.ways.specs.declared.side.Spot.{Spot}
 use Rattle.descent.specs.declared.collect.Descent.{Descent}
 use Rattle.normalizer_laws.specs.Collect.{Collected, nonlinear, linear, joinCollected, collectTerms}
-use Rattle.descent.specs.Marks.{marksOf, Marked}
-use Rattle.descent.specs.Spots.{spanOf, spotsIn, collectedIn, SpotsOk, Collects, Ready}
-use Rattle.descent.specs.Sides.{treeAt, AtSpot}
+use Rattle.ways.specs.Marks.{marksOf, Marked}
+use Rattle.ways.specs.Spans.{spanOf}
+use Rattle.descent.specs.Spots.{spotsIn, collectedIn, SpotsOk, Collects, Ready}
+use Rattle.ways.specs.Sides.{treeAt, AtSpot}
 use Rattle.normalizer_laws.specs.Normalize.{collectedOutcome, normalizeTree, normalizeToSemilinear}
 use Rattle.normalizer_laws.proofs.EmittedLaws.{GoodCollected, collect-good}
 use Rattle.normalizer_laws.proofs.NormalizeLaws.{tree-collected, tree-seven, file-tree}
-use Rattle.descent.proofs.MarksLaws.{length-marks}
-use Rattle.descent.proofs.SpanOfLaws.{size-sized}
+use Rattle.ways.proofs.MarksLaws.{length-marks}
+use Rattle.ways.proofs.SpanOfLaws.{size-sized}
 use Rattle.descent.proofs.SpotsLaws.{collected-linear, collected-nonlinear}
 
 -- refusal 7 as the walk over the marks finds it

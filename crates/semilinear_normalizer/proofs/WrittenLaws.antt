@@ -14,16 +14,16 @@ use Rattle.atom_table.specs.Terms.{coeffsOf, coeffsIn, Ends, Finished}
 use Rattle.atom_table.proofs.TermsLaws.{coeffs-append}
 use Rattle.normalizer_laws.specs.Collect.{Emitted, linear}
 use Rattle.normalizer_laws.specs.Register.{registerAll}
-use Rattle.register.specs.Index.{rowAt, rowsIn, Registers}
+use Rattle.register.specs.Index.{entryRow, indexRows, Registers}
 use Rattle.normalizer_laws.specs.Normalize.{collectedForm, collectedOutcome}
 use Rattle.register.proofs.IndexLaws.{length-rows-in}
 
 -- the index has the coefficients of its rows, eleven words apart
-coeffs-rows-in : (index out : List ℕ) (n : ℕ) → coeffsOf (rowsIn index out n) ≡ coeffsIn 11 index n
-unfolding rowsIn rowAt coeffsIn coeffsOf
+coeffs-rows-in : (index out : List ℕ) (n : ℕ) → coeffsOf (indexRows index out n) ≡ coeffsIn 11 index n
+unfolding indexRows entryRow coeffsIn coeffsOf
 coeffs-rows-in index out zero = refl
 coeffs-rows-in index out (suc n) =
-    coeffs-append (rowsIn index out n) _ ∙ rw (coeffs-rows-in index out n) refl
+    coeffs-append (indexRows index out n) _ ∙ rw (coeffs-rows-in index out n) refl
 
 module _ (w : ℕ) (l : List Emitted) {index out : List ℕ} {tab : Table}
     (reg : Registers w (registerAll w l []) index out tab) where

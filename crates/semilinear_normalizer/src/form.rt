@@ -9,7 +9,7 @@ ghost use lib.ListN.{length};
 ghost use Rattle.semilinear.specs.Answers.{GivesForm};
 ghost use Rattle.normalizer_laws.specs.Collect.{linear};
 ghost use Rattle.descent.specs.Spots.{SpotsOk, spotsIn};
-ghost use Rattle.register.specs.Index.{entryWords, rowsIn};
+ghost use Rattle.register.specs.Index.{entryWords, indexRows};
 ghost use Rattle.normalizer_laws.specs.Normalize.{collectedOutcome};
 ghost use Rattle.base.specs.Limits.{atomLimit, formBytes};
 

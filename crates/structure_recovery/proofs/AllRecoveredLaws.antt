@@ -1,5 +1,5 @@
--- Laws of the loop over the groups (specs/Recovering.antt): after k groups the table shows some rows, of which the other
--- groups make what all groups make of the first ones, or it is full and those pass a limit.
+-- Laws of the loop over the groups (recover_pair/specs/Recovering.antt): after k groups the table shows some rows, of
+-- which the other groups make what all groups make of the first ones, or it is full and those pass a limit.
 use mathlib.Core.Path.{_≡_, refl, ap, sym, subst, _∙_}
 use Prim.Native.Nat.{ℕ, _+_, _*_, _≤_}
 use native.Mathlib.Omega.{arith}
@@ -23,7 +23,7 @@ use Rattle.group.proofs.ShownLaws.{settle-fits}
 use Rattle.views.proofs.SplitLaws.{only-any}
 use Rattle.structure_laws.specs.RecoverStructure.{Recovery, recoverAll}
 use Rattle.recover_pair.specs.Recovering.{recovery, settledForm, ShowsForm, GroupRecovered, oneRecovered}
-use Rattle.recover_pair.specs.Recovering.{AllFair, AllRecovered, RowsRecovered}
+use Rattle.recover_pair.specs.Recovering.{AllFairRecovery, AllRecovered, RowsRecovered}
 use Rattle.recover_pair.proofs.RecoveredLaws.{past-group}
 
 settled-constant : (w : ℕ) {k : ℕ} (x : Recovery) → k ≡ settledForm w x .constant → k ≡ x .constant
@@ -53,7 +53,7 @@ module _ (w : ℕ) (before : List Row) where
     pub record Still (k : ℕ) (l : List Row) (c : ℕ) (made out coeffs : List ℕ) : Type 0 where
       pub rows : List Row
       pub shown : Shown w made out coeffs rows
-      pub fair : AllFair w before (drop k bases) rows (getD made 5 0)
+      pub fair : AllFairRecovery w before (drop k bases) rows (getD made 5 0)
       pub same : recoverAll w before (drop k bases) rows (getD made 5 0) ≡ recoverAll w before bases l c
 
     pub record Going (k : ℕ) (made₀ out₀ coeffs₀ made out coeffs : List ℕ) : Type 0 where
@@ -61,9 +61,9 @@ module _ (w : ℕ) (before : List Row) where
       pub rows-le : getD made 4 0 ≤ getD made₀ 4 0 + k * 256
       pub long : length out ≡ length out₀
       pub wide : length coeffs ≡ length coeffs₀
-      pub still : (l : List Row) → AllFair w before bases l (getD made₀ 5 0) → Shown w made₀ out₀ coeffs₀ l
+      pub still : (l : List Row) → AllFairRecovery w before bases l (getD made₀ 5 0) → Shown w made₀ out₀ coeffs₀ l
           → tableOf made .full ≡ false → Still k l (getD made₀ 5 0) made out coeffs
-      pub past : (l : List Row) → AllFair w before bases l (getD made₀ 5 0) → Shown w made₀ out₀ coeffs₀ l
+      pub past : (l : List Row) → AllFairRecovery w before bases l (getD made₀ 5 0) → Shown w made₀ out₀ coeffs₀ l
           → tableOf made .full ≡ true → fitsTable (recoverAll w before bases l (getD made₀ 5 0) .rows) ≡ false
 
     pub going-start : (made out coeffs : List ℕ) → Room made out → Going 0 made out coeffs made out coeffs
@@ -89,11 +89,11 @@ module _ (w : ℕ) (before : List Row) where
         record One (rows : List Row) (f : Form) : Type 0 where
           one : Recovery
           form : ShowsForm w made′ out′ coeffs′ (settledForm w one)
-          fair : AllFair w before rest (settledForm w one .rows) (one .constant)
+          fair : AllFairRecovery w before rest (settledForm w one .rows) (one .constant)
           same : recoverAll w before rest (settledForm w one .rows) (one .constant) ≡ f
 
         turn : {l : List Row} {c : ℕ} → Still k l c made out coeffs → One l (recoverAll w before bases l c)
-        unfolding AllFair
+        unfolding AllFairRecovery
         turn {l} {c} s =
             let fair′ = rw next at (s .fair) in
             let same′ = rw next at (s .same) in
@@ -119,7 +119,7 @@ module _ (w : ℕ) (before : List Row) where
                   record {
                     rows = rows;
                     shown = t .form .shows .shown more′;
-                    fair = subst (AllFair w before rest rows) (sym c) (t .fair);
+                    fair = subst (AllFairRecovery w before rest rows) (sym c) (t .fair);
                     same = ap (recoverAll w before rest rows) c ∙ t .same;
                   };
               past = λ l fair shown full.

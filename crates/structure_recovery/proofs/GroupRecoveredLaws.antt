@@ -1,5 +1,5 @@
--- Laws of a group recovered and settled (specs/Recovering.antt): a group without partners, and what the table shows
--- afterwards, full or not.
+-- Laws of a group recovered and settled (recover_pair/specs/Recovering.antt): a group without partners, and what the
+-- table shows afterwards, full or not.
 use mathlib.Core.Path.{_≡_, refl, ap, sym, subst, _∙_}
 use Prim.Native.Nat.{ℕ, _+_, _-_, _^_, _≤_, _<_}
 use native.Mathlib.Omega.{arith}
@@ -20,7 +20,7 @@ use Rattle.group.proofs.SettleWordsLaws.{length-settle}
 use Rattle.group.proofs.ShownLaws.{settle-fits, shown-settle}
 use Rattle.lone.proofs.LoneLaws.{lone-len, settle-lone}
 use Rattle.structure_laws.specs.RecoverStructure.{Recovery, recoverGroup}
-use Rattle.recover_pair.specs.Recovering.{partnerFits, NoPartner, Stands, Recovers, Recovered}
+use Rattle.recover_pair.specs.Recovering.{partnerFits, NoPartner, StandsRecovery, Recovers, Recovered}
 use Rattle.recover_pair.specs.Recovering.{recovery, FairRecovery}
 use Rattle.recover_pair.specs.Recovering.{settledForm, ShowsForm, GroupRecovered}
 use Rattle.recover_pair.proofs.PairingLaws.{group-alone}
@@ -54,7 +54,7 @@ module _ {w : ℕ} (t : Tree) {g r : Group} {made out made′ out′ : List ℕ}
   abbrev begun : List Row → Recovery
   begun l = recovery g l (getD made 5 0)
 
-  begins : {coeffs : List ℕ} (l : List Row) → Shown w made out coeffs l → Stands w g made out (begun l)
+  begins : {coeffs : List ℕ} (l : List Row) → Shown w made out coeffs l → StandsRecovery w g made out (begun l)
   begins l shown = record { same = refl; held = shown .held; constant = refl }
 
   -- a full table

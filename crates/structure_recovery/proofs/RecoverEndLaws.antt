@@ -1,5 +1,5 @@
--- The begin and the end of recovering (specs/Recovering.antt): the words of the copied table hold the rows of the form,
--- and what the end of a pass gives of the recovered rows is the recovered form, or 9.
+-- The begin and the end of recovering (recover_pair/specs/Recovering.antt): the words of the copied table hold the rows
+-- of the form, and what the end of a pass gives of the recovered rows is the recovered form, or 9.
 use mathlib.Core.Path.{_≡_, refl, ap, ap₂, sym, _∙_}
 use Prim.Native.Nat.{ℕ, _*_, _≤_}
 use native.Mathlib.Omega.{arith}

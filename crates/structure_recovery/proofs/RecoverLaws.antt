@@ -1,5 +1,5 @@
--- Recovering structure (specs/RecoverStructure.antt) keeps the value of a form, and gives a valid form where its table
--- keeps the limits.
+-- Recovering structure (structure_laws/specs/RecoverStructure.antt) keeps the value of a form, and gives a valid form
+-- where its table keeps the limits.
 use mathlib.Core.Path.{_≡_, refl, ap, sym, subst, _∙_}
 use Prim.Native.Nat.{ℕ, _+_, _%_, _^_, _≤_, _<_}
 use native.Mathlib.Omega.{arith}
@@ -28,7 +28,7 @@ use Rattle.group.proofs.WorkLaws.{Extends, extends-trans}
 use Rattle.group.proofs.ExtendsLaws.{ungrouped-extends}
 use Rattle.group.proofs.FitsLaws.{fits-fresh}
 use Rattle.structure_laws.specs.RecoverStructure.{Recovery, recoverAll, recoverForm}
-use Rattle.recover_pair.specs.Recovering.{FairRecovery, settledForm, oneRecovered, AllFair}
+use Rattle.recover_pair.specs.Recovering.{FairRecovery, settledForm, oneRecovered, AllFairRecovery}
 use Rattle.structure_laws.proofs.HeldLaws.{notRewritten, KeptRecovery, owedSum, kept-start}
 use Rattle.structure_laws.proofs.RecoverGroupLaws.{recover-group-keeps}
 use Rattle.structure_laws.proofs.FreshLaws.{owed-total}
@@ -89,8 +89,8 @@ module _ (w : ℕ) (hw : w ≤ 64) (vars : List ℕ) (before : List Row) (ok : r
       }
 
   fair-all : (l : List Tree) (n : ℕ) → risingFrom n l ≡ true → (rows : List Row) (c : ℕ) → c < 2 ^ w
-      → Extends w vars before rows → AllFair w before l rows c
-  unfolding AllFair settledForm
+      → Extends w vars before rows → AllFairRecovery w before l rows c
+  unfolding AllFairRecovery settledForm
   fair-all [] n up rows c hc x = tt
   fair-all (b ∷ l) n up rows c hc x =
       let p = risen n b l up in
@@ -176,7 +176,7 @@ width-recover f e = recover-ends [] f e .width
 
 -- recovering is fair to the rows of a valid form
 pub all-fair : (f : Form) → validForm f ≡ true
-    → AllFair (f .bitwidth) (f .rows) (basesOf anyBasis (f .bitwidth) (f .rows) [])
+    → AllFairRecovery (f .bitwidth) (f .rows) (basesOf anyBasis (f .bitwidth) (f .rows) [])
     (ungrouped anyBasis (f .bitwidth) (f .rows)) (f .constant)
 all-fair f e =
     let v = form-parts f e in

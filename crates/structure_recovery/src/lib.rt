@@ -1,2 +1,2 @@
-// Recovering structure, coalescing and flattening.
+// Recovering structure: the groups of a form in turn.
 pub mod recover;

@@ -13,14 +13,14 @@ use Rattle.views.specs.Grouping.{anyBasis}
 use Rattle.made.specs.Made.{Room}
 use Rattle.made.specs.Shown.{Shown}
 use Rattle.term_refiner.specs.RefineTerms.{refineAll}
-use Rattle.term_refiner.specs.Refining.{settledRows, GroupRefined, oneRefined, AllFair, AllRefined}
+use Rattle.term_refiner.specs.Refining.{settledRows, GroupRefined, oneRefined, AllFairWork, AllRefined}
 
 module _ (w : ℕ) (before : List Row) (bases : List Tree) where
   -- the table shows rows of which the groups from k on make what all make of l
   pub record Still (k : ℕ) (l : List Row) (made out coeffs : List ℕ) : Type 0 where
     pub rows : List Row
     pub shown : Shown w made out coeffs rows
-    pub fair : AllFair w before (drop k bases) rows
+    pub fair : AllFairWork w before (drop k bases) rows
     pub same : refineAll w before (drop k bases) rows ≡ refineAll w before bases l
 
   pub record Going (k : ℕ) (made₀ out₀ coeffs₀ made out coeffs : List ℕ) : Type 0 where
@@ -28,7 +28,7 @@ module _ (w : ℕ) (before : List Row) (bases : List Tree) where
     pub rows-le : getD made 4 0 ≤ getD made₀ 4 0 + k * 262144
     pub long : length out ≡ length out₀
     pub wide : length coeffs ≡ length coeffs₀
-    pub still : (l : List Row) → AllFair w before bases l → Shown w made₀ out₀ coeffs₀ l → Still k l made out coeffs
+    pub still : (l : List Row) → AllFairWork w before bases l → Shown w made₀ out₀ coeffs₀ l → Still k l made out coeffs
 
   pub going-start : (made out coeffs : List ℕ) → Room made out → Going 0 made out coeffs made out coeffs
   going-start made out coeffs room =
@@ -46,7 +46,7 @@ module _ (w : ℕ) (before : List Row) (bases : List Tree) where
         → h ≡ groupOf anyBasis w b 0 before emptyGroup
         → GroupRefined w 262144 b h made out coeffs made′ out′ coeffs′
         → Going (k + 1) made₀ out₀ coeffs₀ made′ out′ coeffs′
-    unfolding AllFair refineAll settledRows
+    unfolding AllFairWork refineAll settledRows
     going-next {b} {h} next own r =
         record {
           room = r .room;

@@ -1,4 +1,4 @@
--- Laws of the merges of specs/Steps.antt: the entries of one coefficient, and pairs. Each join is of live entries
+-- Laws of the merges of group/specs/Steps.antt: the entries of one coefficient, and pairs. Each join is of live entries
 -- without a bit in common, at a coefficient that both may have.
 use mathlib.Core.Path.{_≡_, refl, ap, sym, subst}
 use Prim.Native.Nat.{ℕ, _+_, _*_, _^_, _≤_, _<_}

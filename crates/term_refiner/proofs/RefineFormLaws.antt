@@ -28,7 +28,7 @@ use Rattle.group.proofs.WorkLaws.{Extends, extends-trans, Added, added-refl, ad
 use Rattle.group.proofs.ExtendsLaws.{ungrouped-extends}
 use Rattle.group.proofs.FitsLaws.{AllFit, fits-fresh}
 use Rattle.term_refiner.specs.RefineTerms.{refineGroup, refineAll, refineForm}
-use Rattle.term_refiner.specs.Refining.{FairWork, settledRows, oneRefined, AllFair}
+use Rattle.term_refiner.specs.Refining.{FairWork, settledRows, oneRefined, AllFairWork}
 use Rattle.term_refiner.proofs.KeptLaws.{anyEntry, KeptWork, kept-start}
 use Rattle.term_refiner.proofs.RefineLaws.{refine-keeps}
 
@@ -96,8 +96,8 @@ module _ (w : ℕ) (hw : w ≤ 64) (vars : List ℕ) (before : List Row) (most :
       }
 
   fair-steps : (bases : List Tree) (n : ℕ) → risingFrom n bases ≡ true → (rows : List Row) → Extends w vars before rows
-      → AllFair w before bases rows
-  unfolding AllFair settledRows
+      → AllFairWork w before bases rows
+  unfolding AllFairWork settledRows
   fair-steps [] n r rows e = tt
   fair-steps (b ∷ l) n r rows e =
       let p = risen n b l r in
@@ -141,7 +141,7 @@ module _ (f : Form) (e : validForm f ≡ true) where
       )
 
   -- refining is fair to the rows of a valid form
-  pub all-fair : AllFair (f .bitwidth) (f .rows) (basesOf anyBasis (f .bitwidth) (f .rows) [])
+  pub all-fair : AllFairWork (f .bitwidth) (f .rows) (basesOf anyBasis (f .bitwidth) (f .rows) [])
       (ungrouped anyBasis (f .bitwidth) (f .rows))
   all-fair =
       let v = form-parts f e in

@@ -1,5 +1,5 @@
--- Laws of specs/Steps.antt: the cut of masks, the changes of coefficients and the join of two entries keep the sum of
--- the live entries modulo 2 ^ w, and what else `KeptWork` says.
+-- Laws of group/specs/Steps.antt: the cut of masks, the changes of coefficients and the join of two entries keep the
+-- sum of the live entries modulo 2 ^ w, and what else `KeptWork` says.
 use mathlib.Core.Path.{_≡_, refl, ap₂, sym, subst, _∙_}
 use Prim.Native.Nat.{ℕ, _+_, _-_, _*_, _^_, _≤_, _<_}
 use native.Mathlib.Omega.{arith}

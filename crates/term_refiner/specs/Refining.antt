@@ -36,10 +36,10 @@ pub record GroupRefined (w n : ℕ) (t : Tree) (g : Group) (made out coeffs made
 abbrev pub oneRefined : ℕ → List Row → Tree → List Row → Work
 oneRefined w before b l = refineGroup w b (work (groupOf anyBasis w b 0 before emptyGroup) l)
 
-unfoldable pub AllFair : ℕ → List Row → List Tree → List Row → Type 0
-AllFair w before [] l = Unit {0}
-AllFair w before (b ∷ bs) l =
-    FairWork l (oneRefined w before b l) × AllFair w before bs (settledRows w (oneRefined w before b l))
+unfoldable pub AllFairWork : ℕ → List Row → List Tree → List Row → Type 0
+AllFairWork w before [] l = Unit {0}
+AllFairWork w before (b ∷ bs) l =
+    FairWork l (oneRefined w before b l) × AllFairWork w before bs (settledRows w (oneRefined w before b l))
 
 -- all groups refined
 pub record AllRefined (w : ℕ) (before : List Row) (bases : List Tree) (made out coeffs made′ out′ coeffs′ : List ℕ)
@@ -47,7 +47,7 @@ pub record AllRefined (w : ℕ) (before : List Row) (bases : List Tree) (made ou
   pub room : Room made′ out′
   pub long : length out′ ≡ length out
   pub wide : length coeffs′ ≡ length coeffs
-  pub shown : (l : List Row) → AllFair w before bases l → Shown w made out coeffs l
+  pub shown : (l : List Row) → AllFairWork w before bases l → Shown w made out coeffs l
       → Shown w made′ out′ coeffs′ (refineAll w before bases l)
 
 -- the rows of a form refined: for a table that holds them, where refining them is fair
@@ -55,5 +55,5 @@ pub record RowsRefined (w : ℕ) (rows : List Row) (made out made′ out′ coef
   pub room : Room made′ out′
   pub long : length out′ ≡ length out
   pub wide : length coeffs′ ≡ atomLimit
-  pub shown : AllFair w rows (basesOf anyBasis w rows []) (ungrouped anyBasis w rows) → Held w made out rows
+  pub shown : AllFairWork w rows (basesOf anyBasis w rows []) (ungrouped anyBasis w rows) → Held w made out rows
       → Shown w made′ out′ coeffs′ (refineAll w rows (basesOf anyBasis w rows []) (ungrouped anyBasis w rows))

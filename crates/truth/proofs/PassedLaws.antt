@@ -28,19 +28,19 @@ abbrev pub rowsOf : List ℕ → List ℕ → ℕ → ℕ
 rowsOf vs s n = tableF 64 (n / 4294967296) (n % 4294967296) vs (decode s)
 
 -- from the span t at n to the span s at m
-pub record Passed (vs t : List ℕ) (n : ℕ) (s : List ℕ) (m : ℕ) (b : Bool) : Type 0 where
+pub record ChainPassed (vs t : List ℕ) (n : ℕ) (s : List ℕ) (m : ℕ) (b : Bool) : Type 0 where
   pub ok : sized s ≡ true
   pub fits : m < 2 ^ 64
   pub falls : size s ≤ size t
   pub rows : {x : ℕ} → x ≡ rowsOf vs s m → flipped b x ≡ rowsOf vs t n
 
-pub passed-none : (vs t : List ℕ) (n : ℕ) → n < 2 ^ 64 → sized t ≡ true → Passed vs t n t n false
+pub passed-none : (vs t : List ℕ) (n : ℕ) → n < 2 ^ 64 → sized t ≡ true → ChainPassed vs t n t n false
 passed-none vs t n hn h = record { ok = h; fits = hn; falls = omega arith; rows = λ e. e }
 
 -- past a root with one child
-module _ {vs t : List ℕ} {n : ℕ} {s : List ℕ} {m : ℕ} {b : Bool} (p : Passed vs t n s m b) {j : ℕ}
+module _ {vs t : List ℕ} {n : ℕ} {s : List ℕ} {m : ℕ} {b : Bool} (p : ChainPassed vs t n s m b) {j : ℕ}
     (ej : j ≡ arity (kind s)) (one : j ≡ 1) where
-  pub passed-not : kind s ≡ 7 → {r : List ℕ} → r ≡ body s → Passed vs t n r m (not b)
+  pub passed-not : kind s ≡ 7 → {r : List ℕ} → r ≡ body s → ChainPassed vs t n r m (not b)
   passed-not hk {r} er =
       let child = child-body s (p .ok) ej one er in
       record {
@@ -56,7 +56,7 @@ module _ {vs t : List ℕ} {n : ℕ} {s : List ℕ} {m : ℕ} {b : Bool} (p : Pa
 
   module _ (shift : kind s ≡ 7 → ⊥) where
     pub passed-shift : (a : ℕ) → a ≡ amount s → m % 4294967296 + a < m / 4294967296
-        → {r : List ℕ} → r ≡ body s → Passed vs t n r (m + a) b
+        → {r : List ℕ} → r ≡ body s → ChainPassed vs t n r (m + a) b
     passed-shift a ea h {r} er =
         let child = child-body s (p .ok) ej one er in
         let placed = halves-shift m a (omega (arith, p .fits)) in

@@ -25,7 +25,7 @@ use Rattle.expr.specs.Vars.{occurs, support, sameVars}
 use Rattle.expr.proofs.ValueLaws.{value-lt}
 use Rattle.expr.proofs.IsExprLaws.{occurs-lt}
 use Rattle.expr.proofs.SupportLaws.{support-occurs}
-use Rattle.truth.specs.Truth.{hasShift, bitOf, rowBits, rowOf, tableF, table}
+use Rattle.truth.specs.Truth.{hasShift, bitOf, rowBits, rowNumber, tableF, table}
 use Rattle.truth.specs.Key.{sharedVars, isPure, sameTable}
 use Rattle.truth.proofs.BitwiseLaws.{Bitwise, bitwise-of-no-shift}
 use Rattle.truth.proofs.BitOfLaws.{bit-value, bit-of-agree, bit-of-place, bit-of-lt}
@@ -83,22 +83,22 @@ module _ (w p : ℕ) (vs : List ℕ) (t : Tree) where
 -- ---- the row of an assignment
 
 module _ (b : ℕ → ℕ) (hb : (v : ℕ) → b v < 2) where
-  pub row-of-lt : (vs : List ℕ) → rowOf b vs < 2 ^ length vs
-  unfolding rowOf
+  pub row-of-lt : (vs : List ℕ) → rowNumber b vs < 2 ^ length vs
+  unfolding rowNumber
   row-of-lt [] = omega arith
   row-of-lt (x ∷ l) = go (length l) (row-of-lt l)
     where
-      go : (n : ℕ) → rowOf b l < 2 ^ n → b x + 2 * rowOf b l < 2 ^ suc n
+      go : (n : ℕ) → rowNumber b l < 2 ^ n → b x + 2 * rowNumber b l < 2 ^ suc n
       go n h = omega (arith, hb x)
 
-  pub row-of-bit : (vs : List ℕ) (j : ℕ) → j < length vs → bitAt (rowOf b vs) j ≡ b (getD vs j 0)
-  unfolding rowOf
+  pub row-of-bit : (vs : List ℕ) (j : ℕ) → j < length vs → bitAt (rowNumber b vs) j ≡ b (getD vs j 0)
+  unfolding rowNumber
   row-of-bit [] j h = absurd (omega arith)
-  row-of-bit (x ∷ l) zero h = bit-zero (b x + 2 * rowOf b l) ∙ omega (arith, hb x)
+  row-of-bit (x ∷ l) zero h = bit-zero (b x + 2 * rowNumber b l) ∙ omega (arith, hb x)
   row-of-bit (x ∷ l) (suc j) h =
-      bit-suc (b x + 2 * rowOf b l) j ∙ ap (λ (y : ℕ). bitAt y j) halved ∙ row-of-bit l j (omega arith)
+      bit-suc (b x + 2 * rowNumber b l) j ∙ ap (λ (y : ℕ). bitAt y j) halved ∙ row-of-bit l j (omega arith)
     where
-      halved : (b x + 2 * rowOf b l) / 2 ≡ rowOf b l
+      halved : (b x + 2 * rowNumber b l) / 2 ≡ rowNumber b l
       halved = omega (arith, hb x)
 
 -- an assignment whose bits are b gives each variable of the list its bit
@@ -197,7 +197,7 @@ module _ (t u : Tree) (parts : SameTable t u) (expr-l : isExpr t ≡ true) (expr
   same-bit : (b : ℕ → ℕ) → ((v : ℕ) → b v < 2) → bitOf 1 0 b t ≡ bitOf 1 0 b u
   same-bit b hb =
       let vs : List ℕ = support t in
-      let i : ℕ = rowOf b vs in
+      let i : ℕ = rowNumber b vs in
       sym (table-row 1 0 vs (length vs) t b i (row-of-lt b hb vs) (row-of-bit b hb vs) (occurs-support t expr-l))
       ∙ ap (λ (x : ℕ). bitAt x i) (parts .tables)
       ∙ table-row 1 0 vs (length vs) u b i (row-of-lt b hb vs) (row-of-bit b hb vs)

@@ -50,9 +50,9 @@ rowBits place [] i v = 0
 rowBits place (x ∷ l) i v = when (eqb x v) (λ _. bitAt i place) (λ _. rowBits (place + 1) l i v)
 
 -- the number of the assignment that gives the variables of the list the bits b: bit j is that of the j-th variable
-unfoldable pub rowOf : (ℕ → ℕ) → List ℕ → ℕ
-rowOf b [] = 0
-rowOf b (x ∷ l) = b x + 2 * rowOf b l
+unfoldable pub rowNumber : (ℕ → ℕ) → List ℕ → ℕ
+rowNumber b [] = 0
+rowNumber b (x ∷ l) = b x + 2 * rowNumber b l
 
 -- the n low rows of the tree's table at place p of w, over the variables vs: bit i is the tree's under assignment i
 unfoldable pub tableF : ℕ → ℕ → ℕ → List ℕ → Tree → ℕ

@@ -1,5 +1,6 @@
--- The groups of a form share it out (specs/Group.antt), by any weight of a row that is 0 where its coefficient is: the
--- sum over all rows is that over the rows in no group and over the groups, each basis once. The value is such a sum.
+-- The groups of a form share it out (specs/Grouping.antt), by any weight of a row that is 0 where its coefficient
+-- is: the sum over all rows is that over the rows in no group and over the groups, each basis once. The value is such a
+-- sum.
 use mathlib.Core.Path.{_≡_, refl, sym, ap, _∙_, subst}
 use Prim.Native.Nat.{ℕ, _+_, _*_, _≤_}
 use native.Mathlib.Omega.{arith}

@@ -1,5 +1,5 @@
--- What a pass that goes through the bases in order knows of the next one: the row that names it, its bytes and its hash,
--- and that its tree is the next of `basesOf` (specs/Group.antt).
+-- What a pass that goes through the bases in order knows of the next one: the row that names it, its bytes and its
+-- hash, and that its tree is the next of `basesOf` (specs/Grouping.antt).
 use mathlib.Core.Path.{_≡_, refl, ap, sym, subst, _∙_}
 use Prim.Native.Nat.{ℕ, zero, suc, _+_, _≤_, _<_}
 use native.Mathlib.Omega.{arith}

@@ -1,5 +1,5 @@
--- Laws of `decomposeAtom` (specs/Decompose.antt) on an atom: the basis is an atom, and the atom's value is the basis's
--- under the mask.
+-- Laws of `decomposeAtom` (decompose/specs/Decompose.antt) on an atom: the basis is an atom, and the atom's value is
+-- the basis's under the mask.
 use mathlib.Core.Path.{_≡_, refl, ap, sym, subst, _∙_}
 use Prim.Native.Nat.{ℕ, _^_, _<_}
 use native.Mathlib.Omega.{arith}

@@ -1,4 +1,4 @@
--- The definitions of this crate.
+-- The bases of a form's rows, and the rows as a pass sees them in lent words.
 pub mod Bases
 pub mod Grouping
 pub mod Views

@@ -1,6 +1,6 @@
 -- `append_atom` meets its contract: the atom's bytes and words are appended, or the table would pass a limit.
 use denote.Ref.{now}
-use Rattle.register.proofs.EntryLaws.{entryWords}
+use Rattle.register.proofs.EntryLaws.{wordsOfEntry}
 use Rattle.expr_refusal.proofs.RefusalLaws.{sized-accepted}
 use Rattle.register.proofs.AppendedLaws.{registers-past, room-more, registers-more}
 use borrow.Author.Needs.{needs}
@@ -58,7 +58,7 @@ same-length-3 : tie.Need-same-length-3
 same-length-3 c = search needs
 
 returns-2 : tie.Need-returns-2
-unfolding entryWords
+unfolding wordsOfEntry
 returns-2 c =
     let at-put-entry = c .before .before in
     let at-if1 = at-put-entry .before .before .before in

@@ -3,8 +3,9 @@ use denote.Ref.{now}
 use Prim.Native.Nat.{_+_, _*_}
 use lib.ListN.{getD}
 use native.Mathlib.Omega.{arith}
-use Rattle.descent.specs.Spots.{spanOf, spotAt}
-use Rattle.descent.proofs.PartLaws.{length-span}
+use Rattle.ways.specs.Spans.{spanOf}
+use Rattle.descent.specs.Spots.{spotAt}
+use Rattle.ways.proofs.PartLaws.{length-span}
 use borrow.Author.Needs.{needs}
 use Rattle.register.proofs.build_tree.Statement.{statement}
 use Rattle.register.proofs.build_tree.Tie as tie

@@ -6,7 +6,7 @@ use Rattle.runner.proofs.make_call.Statement.{statement}
 use Rattle.runner.proofs.make_call.Tie as tie
 use Rattle.runner.proofs.make_call.Reads as reads
 use Rattle.runner.proofs.make_call.Lts as lts
-use Rattle.atom_table.proofs.compact.compact_atom_table.Reads as compact-atom-table-reads
+use Rattle.compaction.proofs.compact_atom_table.Reads as compact-atom-table-reads
 use Rattle.flatten.proofs.flatten_complex_atoms.Reads as flatten-complex-atoms-reads
 use Rattle.term_refiner.proofs.refine_terms.Reads as refine-terms-reads
 

@@ -5,7 +5,7 @@ use Rattle.record.proofs.DecodeLaws.{decode-leaf, decode-two, child-body, child
 use Rattle.record.specs.Fields.{size}
 use Rattle.record.specs.Span.{body}
 use Rattle.truth.proofs.RowsLaws.{rows-join}
-use Rattle.truth.proofs.PassedLaws.{Passed, passed-none, passed-not, passed-shift, passed-past}
+use Rattle.truth.proofs.PassedLaws.{ChainPassed, passed-none, passed-not, passed-shift, passed-past}
 use denote.Ref.{now}
 use mathlib.Core.Path.{refl, sym, _∙_}
 use mathlib.Core.Logic.{⊎-elim}
@@ -39,7 +39,7 @@ abbrev rows-in-below : ℕ → In 2 rows-in-kinds.ps
 rows-in-below t = and 2 rows-in-kinds.ps (falls 2 rows-in-kinds.ps _<_ μ-rows-in t) rows-in.Pre
 
 abbrev rows-in-Inv-loop : rows-in-lts.InvT-loop
-rows-in-Inv-loop t vars at s₀ here₀ flip₀ s here flip = Passed vars t at s here flip
+rows-in-Inv-loop t vars at s₀ here₀ flip₀ s here flip = ChainPassed vars t at s here flip
 
 abbrev rows-in-μ-loop : rows-in-lts.MeasureT-loop
 rows-in-μ-loop t vars at s₀ here₀ flip₀ s here flip = size s

@@ -3,14 +3,14 @@ use Prim.Native.Nat.{_-_, _≤_}
 use mathlib.Core.Path.{_≡_, refl, sym, _∙_}
 use native.Mathlib.Omega.{arith}
 use lib.ListN.{length}
-use Rattle.bit_partitioner.specs.Places.{Placed}
+use Rattle.bit_partitioner.specs.Places.{PlacesJoined}
 use Rattle.bit_partitioner.proofs.PlacesLaws.{placed-none, placed-all}
 use Rattle.bit_partitioner.proofs.places.join_places.Statement.{statement}
 use Rattle.bit_partitioner.proofs.places.join_places.Tie as tie
 
 abbrev Inv-loop : tie.InvT-loop
 Inv-loop f index edges w profile₀ out₀ x₀ profile out x =
-    Placed f w x profile out × (x .place ≤ w) × (length out ≡ length out₀)
+    PlacesJoined f w x profile out × (x .place ≤ w) × (length out ≡ length out₀)
 
 abbrev μ-loop : tie.MeasureT-loop
 μ-loop f index edges w profile₀ out₀ x₀ profile out x = w - x .place

@@ -5,7 +5,8 @@ use denote.Ref.{now}
 use Rattle.collapse_search.specs.Links.{lent}
 use Rattle.collapse_search.proofs.LinksLaws.{fold-below, head-le}
 use Rattle.collapse_search.proofs.ThirdLaws.{third-dead, Chased}
-use Rattle.collapse_search.proofs.ThirdLaws.{chase-start, chase-le, chase-less, chase-here, chase-next, chase-end}
+use Rattle.collapse_search.proofs.ThirdLaws.{chase-start, chase-le, chase-less, chase-here, chase-next}
+use Rattle.collapse_search.proofs.ThirdLaws.{chase-end}
 use Rattle.collapse_search.proofs.links.third_for.Statement.{statement}
 use Rattle.collapse_search.proofs.links.third_for.Tie as tie
 use Rattle.collapse_search.proofs.links.third_for.Reads as reads

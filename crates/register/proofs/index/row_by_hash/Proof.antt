@@ -3,7 +3,7 @@ use mathlib.Core.Path.{sym, _∙_}
 use native.Mathlib.Omega.{arith}
 use denote.Ref.{now}
 use borrow.Author.Needs.{needs}
-use Rattle.descent.specs.Spots.{spanOf}
+use Rattle.ways.specs.Spans.{spanOf}
 use Rattle.register.specs.Index.{entrySpan}
 use Rattle.register.proofs.SlotLaws.{hash-none, hash-found, hash-differs, newest-lt}
 use Rattle.register.proofs.index.row_by_hash.Statement.{statement}

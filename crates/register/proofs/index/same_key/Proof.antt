@@ -5,7 +5,7 @@ use native.Mathlib.Omega.{arith}
 use lib.ListN.{drop}
 use denote.Ref.{now}
 use Rattle.base.specs.Lists.{eqList}
-use Rattle.descent.specs.Spots.{spanOf}
+use Rattle.ways.specs.Spans.{spanOf}
 use Rattle.register.proofs.SlotLaws.{key-differs, key-next, key-end}
 use Rattle.register.proofs.index.same_key.Statement.{statement}
 use Rattle.register.proofs.index.same_key.Tie as tie

@@ -3,7 +3,7 @@ use mathlib.Core.Path.{sym, _∙_}
 use native.Mathlib.Omega.{arith}
 use denote.Ref.{now}
 use borrow.Author.Needs.{needs}
-use Rattle.descent.specs.Spots.{spanOf}
+use Rattle.ways.specs.Spans.{spanOf}
 use Rattle.register.specs.Index.{entrySpan}
 use Rattle.register.proofs.SlotLaws.{slot-other-hash, slot-vars, slot-same}
 use Rattle.register.proofs.index.same_slot.Statement.{statement}

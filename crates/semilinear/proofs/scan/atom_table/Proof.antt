@@ -8,12 +8,12 @@ use lib.ListN.{length}
 use borrow.Author.Tests.{not-true, not-false}
 use Rattle.semilinear.specs.Items.{isAtom}
 use Rattle.semilinear.proofs.ItemsLaws.{atom-room}
-use Rattle.semilinear.proofs.ScanLaws.{Passed, passed-none, passed-table, passed-atom, atom-inside}
+use Rattle.semilinear.proofs.ScanLaws.{Scanned, passed-none, passed-table, passed-atom, atom-inside}
 use Rattle.semilinear.proofs.scan.atom_table.Statement.{statement}
 use Rattle.semilinear.proofs.scan.atom_table.Tie as tie
 
 abbrev Inv-loop : tie.InvT-loop
-Inv-loop f at₀ count₀ records₀ at count records = Passed f at count records
+Inv-loop f at₀ count₀ records₀ at count records = Scanned f at count records
 
 abbrev μ-loop : tie.MeasureT-loop
 μ-loop f at₀ count₀ records₀ at count records = length f - at

@@ -9,7 +9,8 @@ use Rattle.group.proofs.PassLaws.{few-entries}
 use Rattle.structure_laws.specs.RecoverStructure.{recoverGroup}
 use Rattle.recover_pair.specs.Recovering.{Recovered}
 use Rattle.made.proofs.WordsLaws.{is-full}
-use Rattle.structure_recovery.proofs.GroupRecoveredLaws.{recovered-none, recovered-met, group-past, group-settled}
+use Rattle.structure_recovery.proofs.GroupRecoveredLaws.{recovered-none, recovered-met, group-past}
+use Rattle.structure_recovery.proofs.GroupRecoveredLaws.{group-settled}
 use borrow.Author.Needs.{needs}
 use Rattle.structure_recovery.proofs.recover.recover_group.Statement.{statement}
 use Rattle.structure_recovery.proofs.recover.recover_group.Tie as tie

@@ -5,11 +5,12 @@ use Prim.Native.Nat.{ℕ, _<_}
 use native.Mathlib.Omega.{arith}
 use borrow.Author.Tests.{not-true, not-false}
 use Rattle.record.specs.Fields.{kind, size}
-use Rattle.descent.specs.Spots.{spanOf}
-use Rattle.descent.proofs.SpanOfLaws.{span-big, span-end, kind-read}
-use Rattle.descent.proofs.SideLaws.{spot-some}
+use Rattle.ways.specs.Spans.{spanOf}
+use Rattle.ways.proofs.SpanOfLaws.{span-big, span-end, kind-read}
+use Rattle.ways.proofs.SideLaws.{spot-some}
 use Rattle.descent.proofs.DescentLaws.{down-spot, down-falls, down-ready}
-use Rattle.descent.proofs.AddLaws.{left-big, down-right}
+use Rattle.descent.proofs.AddLaws.{down-right}
+use Rattle.ways.proofs.LeftLaws.{left-big}
 use Rattle.descent.proofs.WayDownLaws.{down-ends, down-child, down-stop, down-literal, down-masked}
 use Rattle.descent.proofs.WayDownLaws.{down-ready-literal, Going, going-start, going-child}
 use Rattle.descent.proofs.WayDownLaws.{going-right}
@@ -21,10 +22,10 @@ use Rattle.descent.proofs.collect.Descent.+collect_terms.Lts-collect_te
 use Rattle.record.proofs.kind.Reads as kind-reads
 use Rattle.descent.proofs.collect.Descent.collect_end.Reads as collect-end-reads
 use Rattle.descent.proofs.collect.Descent.collect_masked.Reads as collect-masked-reads
-use Rattle.descent.proofs.side.right_side.Reads as right-side-reads
-use Rattle.descent.proofs.side.side_spot.Reads as side-spot-reads
-use Rattle.descent.proofs.side.span_of.Reads as span-of-reads
-use Rattle.descent.proofs.side.way_down.Reads as way-down-reads
+use Rattle.ways.proofs.side.right_side.Reads as right-side-reads
+use Rattle.ways.proofs.side.side_spot.Reads as side-spot-reads
+use Rattle.ways.proofs.side.span_of.Reads as span-of-reads
+use Rattle.ways.proofs.side.way_down.Reads as way-down-reads
 use Rattle.descent.proofs.collect.Descent.+collect_terms.{statement}
 use Rattle.descent.proofs.collect.Descent.+collect_terms.Tie.{close}
 

@@ -6,8 +6,8 @@ use Rattle.record.specs.Tree.{Tree}
 use Rattle.record.specs.Fields.{kind}
 use Rattle.expr_refusal.proofs.RefusalLaws.{accepted-big}
 use Rattle.normalizer_laws.specs.Collect.{collectAtom, collectNot}
-use Rattle.descent.proofs.SpanOfLaws.{span-end, kind-read}
-use Rattle.descent.proofs.InnerLaws.{not-inner, not-root, not-operand, other-root}
+use Rattle.ways.proofs.SpanOfLaws.{span-end, kind-read}
+use Rattle.ways.proofs.InnerLaws.{not-inner, not-root, not-operand, other-root}
 use Rattle.descent.proofs.AndSideLaws.{and-variable, side-at, side-value-lt, and-no-side}
 use Rattle.descent.proofs.AndSideLaws.{and-plain-side, and-not-side, and-binary}
 use Rattle.descent.proofs.PushLaws.{atom-push, not-push}

@@ -8,11 +8,11 @@ use Rattle.arith.specs.Width.{modMul}
 use Rattle.record.specs.Decode.{decode}
 use Rattle.expr.specs.Value.{value}
 use Rattle.normalizer_laws.specs.Collect.{linear}
-use Rattle.descent.proofs.SpanOfLaws.{span-sized}
-use Rattle.descent.proofs.SideLaws.{spot-some, spot-marks, spot-variable}
+use Rattle.ways.proofs.SpanOfLaws.{span-sized}
+use Rattle.ways.proofs.SideLaws.{spot-some, spot-marks, spot-variable}
 use Rattle.descent.proofs.CollectsLaws.{collects-as, collects-more, collects-none}
 use Rattle.descent.proofs.CollectsLaws.{collects-constant, ready-less}
-use Rattle.descent.proofs.TermsLaws.{terms-zero, terms-constant}
+use Rattle.ways.proofs.TermsLaws.{terms-zero, terms-constant}
 use borrow.Author.Needs.{needs}
 use Rattle.descent.proofs.collect.Descent.collect_end.Statement.{statement}
 use Rattle.descent.proofs.collect.Descent.collect_end.Tie as tie

@@ -3,8 +3,8 @@ use mathlib.Core.Path.{sym, _∙_}
 use native.Mathlib.Omega.{arith}
 use borrow.Author.Tests.{ne-eqb}
 use Rattle.expr_refusal.proofs.RefusalLaws.{accepted-big}
-use Rattle.descent.specs.Spots.{spanOf}
-use Rattle.descent.proofs.SpanOfLaws.{span-end}
+use Rattle.ways.specs.Spans.{spanOf}
+use Rattle.ways.proofs.SpanOfLaws.{span-end}
 use Rattle.descent.proofs.PushLaws.{literal-and-zero, literal-and-plain, literal-and-not}
 use borrow.Author.Needs.{needs}
 use Rattle.descent.proofs.collect.Descent.collect_literal_and.Statement.{statement}

@@ -2,8 +2,8 @@
 use mathlib.Core.Path.{sym, _∙_}
 use native.Mathlib.Omega.{arith}
 use Rattle.expr_refusal.proofs.RefusalLaws.{accepted-big}
-use Rattle.descent.specs.Spots.{spanOf}
-use Rattle.descent.proofs.SideLaws.{spot-some, spot-arith}
+use Rattle.ways.specs.Spans.{spanOf}
+use Rattle.ways.proofs.SideLaws.{spot-some, spot-arith}
 use Rattle.descent.proofs.WholeLaws.{whole-nonlinear, whole-and, whole-atom, is-and, other-kind}
 use Rattle.descent.proofs.PushLaws.{atom-push}
 use Rattle.descent.proofs.CollectsLaws.{collects-as, collects-nonlinear}

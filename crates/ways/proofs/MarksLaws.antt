@@ -1,0 +1,102 @@
+-- Laws of specs/Marks.antt: a tree has as many marks as records, its own mark is the last, and its children's marks
+-- stand before it; the two tests of a mark; and that a mark put at one place is a set element.
+use mathlib.Core.Path.{_≡_, refl, sym, ap, _∙_}
+use Prim.Native.Nat.{ℕ, suc, _+_, _-_, _≤_, _<_}
+use native.Mathlib.Omega.{arith}
+use native.Mathlib.Numerals.{add-one}
+use mathlib.Core.List.{List, [], _∷_, _++_, append-assoc}
+use mathlib.Core.Bool.{Bool, true, false}
+use lib.ListN.{length, getD, take, drop, set, length-append, List·getD-append}
+use lib.Seq.{take-at, drop-at, getD-at, getD-append-add, set-split, append-snoc}
+use Rattle.record.specs.Tree.{Tree, sizeOf}
+use Rattle.record.specs.Tree.Tree.{Constant, Variable, Unary, Binary}
+use Rattle.base.specs.Put.{put}
+use Rattle.record.proofs.EncodeLaws.{sizeOf-pos}
+use Rattle.expr_utils.specs.Utils.{hasVarDep, hasArith}
+use Rattle.ways.specs.Marks.{markNumber, markOf, markVariable, markArith, marksOf}
+
+pub length-marks : (t : Tree) → length (marksOf t) ≡ sizeOf t
+unfolding marksOf sizeOf
+length-marks (Constant v) = refl
+length-marks (Variable i) = refl
+length-marks (Unary k a t) = simp length-append (omega (arith, length-marks t))
+length-marks (Binary k l r) = simp length-append (omega (arith, length-marks l, length-marks r))
+
+-- the last mark is the tree's own; n is its place
+pub root-mark : (t : Tree) (n : ℕ) → n + 1 ≡ sizeOf t → getD (marksOf t) n 0 ≡ markOf t
+unfolding marksOf sizeOf
+root-mark (Constant v) n e = getD-at [] (markOf (Constant v)) [] 0 n (omega arith)
+root-mark (Variable i) n e = getD-at [] (markOf (Variable i)) [] 0 n (omega arith)
+root-mark (Unary k a t) n e =
+    getD-at (marksOf t) (markOf (Unary k a t)) [] 0 n (omega (arith, length-marks t))
+root-mark (Binary k l r) n e =
+    getD-at (marksOf l ++ marksOf r) (markOf (Binary k l r)) [] 0 n
+    (length-append (marksOf l) (marksOf r) ∙ omega (arith, length-marks l, length-marks r))
+
+-- the marks of the only child of a root
+pub body-marks : (k a : ℕ) (t : Tree) (n : ℕ) → n ≡ sizeOf t → take n (marksOf (Unary k a t)) ≡ marksOf t
+unfolding marksOf
+body-marks k a t n e = take-at (marksOf t) (markOf (Unary k a t) ∷ []) n (length-marks t ∙ sym e)
+
+-- the marks of the two children of a root, and their own marks
+module _ (k : ℕ) (l r : Tree) (n : ℕ) where
+  apart : marksOf (Binary k l r) ≡ marksOf l ++ (marksOf r ++ (markOf (Binary k l r) ∷ []))
+  unfolding marksOf
+  apart = append-assoc (marksOf l) (marksOf r) (markOf (Binary k l r) ∷ [])
+
+  pub left-marks : n ≡ sizeOf l → take n (marksOf (Binary k l r)) ≡ marksOf l
+  left-marks e =
+      ap (take n) apart
+      ∙ take-at (marksOf l) (marksOf r ++ (markOf (Binary k l r) ∷ [])) n (length-marks l ∙ sym e)
+
+  pub right-marks : n ≡ sizeOf r → take n (drop (sizeOf l) (marksOf (Binary k l r))) ≡ marksOf r
+  right-marks e =
+      ap (λ (m : List ℕ). take n (drop (sizeOf l) m)) apart
+      ∙ ap (take n) (drop-at (marksOf l) (marksOf r ++ (markOf (Binary k l r) ∷ [])) (sizeOf l) (length-marks l))
+      ∙ take-at (marksOf r) (markOf (Binary k l r) ∷ []) n (length-marks r ∙ sym e)
+
+  pub left-mark : n + 1 ≡ sizeOf l → getD (marksOf (Binary k l r)) n 0 ≡ markOf l
+  left-mark e =
+      ap (λ (m : List ℕ). getD m n 0) apart
+      ∙ List·getD-append (marksOf l) (marksOf r ++ (markOf (Binary k l r) ∷ [])) 0 n (omega (arith, length-marks l))
+      ∙ root-mark l n e
+
+  pub right-mark : n + 1 ≡ sizeOf l + sizeOf r → getD (marksOf (Binary k l r)) n 0 ≡ markOf r
+  right-mark e =
+      let p : 1 ≤ sizeOf r = sizeOf-pos r in
+      let i : ℕ = sizeOf r - 1 in
+      let s : i + 1 ≡ sizeOf r = omega arith in
+      let at : n ≡ length (marksOf l) + i = omega (arith, length-marks l) in
+      ap (λ (m : List ℕ). getD m n 0) apart
+      ∙ ap (λ (j : ℕ). getD (marksOf l ++ (marksOf r ++ (markOf (Binary k l r) ∷ []))) j 0) at
+      ∙ getD-append-add (marksOf l) (marksOf r ++ (markOf (Binary k l r) ∷ [])) i 0
+      ∙ List·getD-append (marksOf r) (markOf (Binary k l r) ∷ []) 0 i (omega (arith, length-marks r))
+      ∙ root-mark r i s
+
+-- the tests of a mark
+number-variable : (a b : Bool) → markVariable (markNumber a b) ≡ a
+unfolding markVariable markNumber
+number-variable true true = refl
+number-variable true false = refl
+number-variable false true = refl
+number-variable false false = refl
+
+number-arith : (a b : Bool) → markArith (markNumber a b) ≡ b
+unfolding markArith markNumber
+number-arith true true = refl
+number-arith true false = refl
+number-arith false true = refl
+number-arith false false = refl
+
+pub mark-variable : (t : Tree) → markVariable (markOf t) ≡ hasVarDep t
+unfolding markOf
+mark-variable t = number-variable (hasVarDep t) (hasArith t)
+
+pub mark-arith : (t : Tree) → markArith (markOf t) ≡ hasArith t
+unfolding markOf
+mark-arith t = number-arith (hasVarDep t) (hasArith t)
+
+-- one element put
+pub put-one : (d : List ℕ) (i x : ℕ) → i < length d → set d i x ≡ put d i (x ∷ [])
+unfolding put
+put-one d i x h = rw add-one (set-split d i x h ∙ sym (append-snoc (take i d) x (drop (suc i) d)))

@@ -1,0 +1,90 @@
+-- `way_on` meets its contract: a Neg, a root with two children, or the end of the descent.
+use mathlib.Core.Path.{ap, sym, _∙_}
+use Prim.Native.Nat.{ℕ}
+use native.Mathlib.Omega.{arith}
+use lib.Dec.{eqb}
+use Rattle.ways.specs.Spans.{spanOf}
+use Rattle.ways.proofs.SpanOfLaws.{span-big, span-end, binary-two}
+use Rattle.ways.proofs.SideLaws.{spot-some}
+use Rattle.ways.proofs.WayLaws.{way-neg, way-end}
+use borrow.Author.Needs.{needs}
+use Rattle.ways.proofs.side.way_on.Statement.{statement}
+use Rattle.ways.proofs.side.way_on.Tie as tie
+
+sub-t : tie.Need-sub-t
+sub-t c = search needs
+
+part-t-start : tie.Need-part-t-start
+part-t-start c = search needs
+
+part-t-end : tie.Need-part-t-end
+part-t-end c = search needs
+
+kind-requires : tie.Need-kind-requires
+unfolding spanOf
+kind-requires c κs = span-big (c .before .before .before .pre .0 .span)
+
+way-neg-requires : tie.Need-way-neg-requires
+way-neg-requires c κs =
+    let at-start = c .before .before .before .before .before in
+    (omega (arith, span-end (at-start .pre .0 .span)), spot-some (at-start .pre .0))
+
+returns : tie.Need-returns
+unfolding spanOf
+returns c =
+    let at-if1 = c .before in
+    let at-start = at-if1 .before .before .before .before .before in
+    rw (c .way-neg .ensures)
+    (way-neg (at-start .pre .0) (at-start .pre .2) (at-start .pre .3)
+    (sym (at-if1 .before .kind .ensures) ∙ at-if1 .if1 .taken))
+
+root-arity-requires : tie.Need-root-arity-requires
+unfolding spanOf
+root-arity-requires c κs = span-big (c .before .before .before .before .before .pre .0 .span)
+
+nowhere-requires : tie.Need-nowhere-requires
+nowhere-requires c κs = search needs
+
+returns-2 : tie.Need-returns-2
+unfolding spanOf
+returns-2 c =
+    let at-if2 = c .before in
+    let at-if1 = at-if2 .before .before in
+    let at-start = at-if1 .before .before .before .before .before in
+    way-end (at-start .pre .0) (at-start .pre .2) (at-start .pre .3)
+    (λ e. at-if1 .if1 .left (at-if1 .before .kind .ensures ∙ e))
+    (λ e. at-if2 .if2 .taken (at-if2 .before .root-arity .ensures ∙ e)) (c .nowhere .ensures)
+
+way-two-requires : tie.Need-way-two-requires
+unfolding spanOf
+way-two-requires c κs =
+    let at-start = c .before .before .before .before .before .before .before in
+    let kind-is = c .before .before .before .kind .ensures in (
+      at-start .pre .0,
+      at-start .pre .1,
+      at-start .pre .2,
+      at-start .pre .3,
+      kind-is,
+      ap (λ (k : ℕ). eqb k 2) kind-is ∙ at-start .pre .4,
+      binary-two (at-start .pre .0 .span) (sym (c .before .root-arity .ensures) ∙ c .if2 .left),
+    )
+
+returns-3 : tie.Need-returns-3
+unfolding spanOf
+returns-3 c = rw (← c .before .before .before .before .kind .ensures) (c .way-two .ensures)
+
+pub way-on-spec : {M : Type 1} → statement M
+way-on-spec =
+    tie.close
+    (tie.spec
+    sub-t
+    part-t-start
+    part-t-end
+    kind-requires
+    way-neg-requires
+    returns
+    root-arity-requires
+    nowhere-requires
+    returns-2
+    way-two-requires
+    returns-3)

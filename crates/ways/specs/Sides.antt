@@ -1,0 +1,150 @@
+-- Where the descent stands in the file and where it can go on from there: a subtree with its marks, the sides of a root
+-- with two children, and how what is collected below makes up what is collected here.
+use mathlib.Core.Path.{_≡_}
+use Prim.Native.Nat.{ℕ, _+_, _-_, _^_, _≤_, _<_}
+use mathlib.Core.List.{List, []}
+use mathlib.Core.Bool.{Bool, true, false}
+use lib.ListN.{length}
+use lib.Dec.{eqb}
+use Rattle.arith.specs.Width.{modMul}
+use Rattle.base.specs.Choice.{when}
+use Rattle.record.specs.Tree.{Tree, sizeOf}
+use Rattle.record.specs.Tree.Tree.{Constant, Variable, Unary, Binary}
+use Rattle.record.specs.Fields.{kind, size}
+use Rattle.record.specs.Span.{cut, left}
+use Rattle.record.specs.Decode.{decode}
+use Rattle.expr_utils.specs.Utils.{hasVarDep, hasArith}
+use Rattle.expr.specs.Value.{value}
+use Rattle.ways.specs.declared.side.Spot.{Spot}
+use Rattle.ways.specs.declared.side.Side.{Side}
+use Rattle.ways.specs.declared.side.Way.{Way}
+use Rattle.normalizer_laws.specs.Collect.{Collected, nonlinear, linear, joinCollected, collectAtom}
+use Rattle.normalizer_laws.specs.Collect.{collectAnd, andCoeff, collectTerms}
+use Rattle.ways.specs.Marks.{marksOf}
+use Rattle.ways.specs.Spans.{spanOf, Accepted}
+use Rattle.base.specs.Limits.{recordLength}
+
+-- ---- where the descent stands
+
+-- the subtree of a spot
+abbrev pub treeAt : List ℕ → Spot → Tree
+treeAt file x = decode (spanOf file (x .start) (x .end))
+
+-- a spot of the file, with its marks
+pub record AtSpot (w : ℕ) (file marks : List ℕ) (x : Spot) : Type 0 where
+  pub span : Accepted w file (x .start) (x .end)
+  pub marks-are : marks ≡ marksOf (treeAt file x)
+
+-- ---- the sides of a root
+
+-- the side b of a root: a part of the file with its marks
+pub record SideAt (w : ℕ) (file marks : List ℕ) (b : Side) : Type 0 where
+  pub span : Accepted w file (b .start) (b .end)
+  pub from-le : b .from ≤ b .to
+  pub to-le : b .to ≤ length marks
+  pub marks-are : spanOf marks (b .from) (b .to) ≡ marksOf (decode (spanOf file (b .start) (b .end)))
+
+-- the tree of a side
+abbrev pub sideTree : List ℕ → Side → Tree
+sideTree file b = decode (spanOf file (b .start) (b .end))
+
+-- what x ^ v and x | v have beside x: the value v of the literal's side, and the And of x and v
+unfoldable pub collectLiteral : ℕ → ℕ → ℕ → Tree → ℕ → Collected
+collectLiteral w k c t v =
+    joinCollected w (linear (modMul c v w) []) (collectAnd w (andCoeff w k c) t (Constant v))
+
+-- the root has two children
+unfoldable pub isBinary : Tree → Bool
+isBinary (Constant v) = false
+isBinary (Variable i) = false
+isBinary (Unary k a t) = false
+isBinary (Binary k l r) = true
+
+-- the left child of a root with two
+unfoldable pub leftOf : Tree → Tree
+leftOf (Constant v) = Constant v
+leftOf (Variable i) = Variable i
+leftOf (Unary k a t) = Unary k a t
+leftOf (Binary k l r) = l
+
+-- the right child of a root with two
+unfoldable pub rightOf : Tree → Tree
+rightOf (Constant v) = Constant v
+rightOf (Variable i) = Variable i
+rightOf (Unary k a t) = Unary k a t
+rightOf (Binary k l r) = r
+
+-- where the left child of a root with two stands in the file, and its marks
+unfoldable pub leftSide : List ℕ → Spot → Side
+leftSide file x =
+    record {
+      found = true;
+      start = x .start;
+      end = x .start + cut (spanOf file (x .start) (x .end));
+      from = 0;
+      to = size (left (spanOf file (x .start) (x .end)));
+      value = 0;
+    }
+
+-- where the right child stands, and its marks
+unfoldable pub rightSide : List ℕ → List ℕ → Spot → Side
+rightSide file marks x =
+    record {
+      found = true;
+      start = x .start + cut (spanOf file (x .start) (x .end));
+      end = x .end - recordLength;
+      from = size (left (spanOf file (x .start) (x .end)));
+      to = length marks - 1;
+      value = 0;
+    }
+
+-- the root is an And
+abbrev pub IsAnd : Tree → Type 0
+IsAnd t = t ≡ Binary 4 (leftOf t) (rightOf t)
+
+-- the side with a variable of a root over l and r, where the other has none
+pub data SideOf (w : ℕ) (file marks : List ℕ) (l r : Tree) (b : Side) : Type 0 where
+  neither : b .found ≡ false → hasVarDep l ≡ true → hasVarDep r ≡ true → SideOf w file marks l r b
+  at-right : b .found ≡ true → hasVarDep l ≡ false → sideTree file b ≡ r → b .value ≡ value w [] l
+      → SideAt w file marks b → SideOf w file marks l r b
+  at-left : b .found ≡ true → hasVarDep l ≡ true → hasVarDep r ≡ false → sideTree file b ≡ l → b .value ≡ value w [] r
+      → SideAt w file marks b → SideOf w file marks l r b
+
+-- what a tree with a variable is collected as where the descent ends at it
+unfoldable pub collectWhole : ℕ → ℕ → Tree → Collected
+collectWhole w c (Constant v) = collectAtom c (Constant v)
+collectWhole w c (Variable i) = collectAtom c (Variable i)
+collectWhole w c (Unary k a t) =
+    when (hasArith (Unary k a t)) (λ _. nonlinear) (λ _. collectAtom c (Unary k a t))
+collectWhole w c (Binary k l r) =
+    when (hasArith (Binary k l r)) (λ _. nonlinear)
+    (λ _. when (eqb k 4) (λ _. collectAnd w c l r) (λ _. collectAtom c (Binary k l r)))
+
+-- how the descent goes on at a tree t of kind k with a variable that is no Add, under a coefficient c other than 0: it
+-- ends there, or goes to one child, or to one child and then to the And of it and a literal
+pub data WayOf (w : ℕ) (file marks : List ℕ) (k c : ℕ) (t : Tree) (b : Way) : Type 0 where
+  ends : b .found ≡ false → collectTerms w c t ≡ collectWhole w c t → WayOf w file marks k c t b
+  goes : b .found ≡ true → b .more ≡ false → SideAt w file marks (b .child)
+      → sizeOf (sideTree file (b .child)) < sizeOf t
+      → collectTerms w c t ≡ collectTerms w (b .coeff) (sideTree file (b .child)) → WayOf w file marks k c t b
+  masks : b .found ≡ true → b .more ≡ true → SideAt w file marks (b .child)
+      → sizeOf (sideTree file (b .child)) < sizeOf t → b .coeff ≡ c → hasVarDep (sideTree file (b .child)) ≡ true
+      → collectTerms w c t
+      ≡ joinCollected w (collectTerms w c (sideTree file (b .child)))
+      (collectLiteral w k c (sideTree file (b .child)) (b .child .value))
+      → b .child .value < 2 ^ w → WayOf w file marks k c t b
+
+-- at a tree with a variable under a coefficient other than 0 the descent ends
+abbrev pub EndsHere : ℕ → ℕ → Tree → Type 0
+EndsHere w c t = eqb c 0 ≡ false → hasVarDep t ≡ true → collectTerms w c t ≡ collectWhole w c t
+
+-- how the descent goes on at any spot: it ends there, or goes to the left side of an Add and then to the right one, or
+-- as at a root that is no Add
+pub data WayDown (w : ℕ) (file marks : List ℕ) (x : Spot) (b : Way) : Type 0 where
+  none : b .found ≡ false → EndsHere w (x .coeff) (treeAt file x) → WayDown w file marks x b
+  sum : kind (spanOf file (x .start) (x .end)) ≡ 2 → eqb (x .coeff) 0 ≡ false → hasVarDep (treeAt file x) ≡ true
+      → b ≡ record { found = true; more = true; coeff = x .coeff; child = leftSide file x } → WayDown w file marks x b
+  other : eqb (kind (spanOf file (x .start) (x .end))) 2 ≡ false → eqb (x .coeff) 0 ≡ false
+      → hasVarDep (treeAt file x) ≡ true
+      → WayOf w file marks (kind (spanOf file (x .start) (x .end))) (x .coeff) (treeAt file x) b
+      → WayDown w file marks x b

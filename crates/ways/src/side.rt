@@ -1,0 +1,282 @@
+// Where the descent stands in the file and where it can go on from there.
+use crate::marks;
+use base::limits;
+ghost use mathlib.Core.Path.{_≡_};
+ghost use mathlib.Core.Bool.{true, false};
+ghost use Prim.Native.Nat.{_-_, _≤_};
+ghost use lib.ListN.{length};
+ghost use lib.Dec.{eqb};
+ghost use Rattle.arith.specs.Width.{modNeg};
+ghost use Rattle.record.specs.Fields.{kind};
+ghost use Rattle.record.specs.Span.{left};
+ghost use Rattle.expr_utils.specs.Utils.{hasVarDep};
+ghost use Rattle.ways.specs.Spans.{spanOf};
+ghost use Rattle.ways.specs.Sides.{treeAt, AtSpot, isBinary, leftOf};
+ghost use Rattle.ways.specs.Sides.{rightOf, leftSide, rightSide, SideOf};
+ghost use Rattle.ways.specs.Sides.{WayOf, WayDown};
+ghost use Rattle.base.specs.Limits.{recordLength};
+
+// A coefficient, and the bytes of the file that hold a subtree.
+pub struct Spot {
+    pub coeff: u64,
+    pub start: usize,
+    pub end: usize,
+}
+
+// The side of a root with two children that has a variable, where the other side has none: its
+// bytes, its marks, and the other side's value.
+pub struct Side {
+    pub found: bool,
+    pub start: usize,
+    pub end: usize,
+    pub from: usize,
+    pub to: usize,
+    pub value: u64,
+}
+
+// Where the descent goes on from a root: to one child with this coefficient, and, where there is
+// more, then to the right side of a sum or to the child and a literal; or nowhere.
+pub struct Way {
+    pub found: bool,
+    pub more: bool,
+    pub coeff: u64,
+    pub child: Side,
+}
+
+// The bytes of the file from start to end.
+pub fn span_of(file: &[u8], start: usize, end: usize) -> &[u8]
+    requires { ⌜ (start ≤ end) × (end ≤ length (now file)) ⌝ }
+    ensures { λ t. ⌜ now t ≡ spanOf (now (file .entry)) start end ⌝ }
+{
+    &file[start..end]
+}
+
+// The left child of a root with two children, and its marks.
+pub fn left_side(x: Spot, file: &[u8]) -> Side
+    requires { ⌜ (x .start ≤ x .end) × (x .end ≤ length (now file))
+        × (recordLength ≤ length (left (spanOf (now file) (x .start) (x .end)))) ⌝ }
+    ensures { λ r. ⌜ r ≡ leftSide (now (file .entry)) x ⌝ }
+{
+    let t = span_of(file, x.start, x.end);
+    Side {
+        found: true,
+        start: x.start,
+        end: x.start + record::cut(t),
+        from: 0,
+        to: record::size(record::left(t)) as usize,
+        value: 0,
+    }
+}
+
+// The right child, and its marks.
+pub fn right_side(x: Spot, file: &[u8], marks: &[u8]) -> Side
+    requires { ⌜ (x .start ≤ x .end) × (x .end ≤ length (now file)) × (1 ≤ length (now marks))
+        × (recordLength ≤ length (left (spanOf (now file) (x .start) (x .end)))) × (recordLength ≤ x .end) ⌝ }
+    ensures { λ r. ⌜ r ≡ rightSide (now (file .entry)) (now (marks .entry)) x ⌝ }
+{
+    let t = span_of(file, x.start, x.end);
+    Side {
+        found: true,
+        start: x.start + record::cut(t),
+        end: x.end - limits::RECORD_LENGTH,
+        from: record::size(record::left(t)) as usize,
+        to: marks.len() - 1,
+        value: 0,
+    }
+}
+
+// A side under a coefficient.
+pub fn side_spot(coeff: u64, side: Side) -> Spot
+    ensures { λ x. ⌜ x ≡ record { coeff = coeff; start = side .start; end = side .end } ⌝ }
+{
+    Spot {
+        coeff: coeff,
+        start: side.start,
+        end: side.end,
+    }
+}
+
+// No side without a variable.
+fn no_side() -> Side
+    ensures { λ b. ⌜ b .found ≡ false ⌝ }
+{
+    Side {
+        found: false,
+        start: 0,
+        end: 0,
+        from: 0,
+        to: 0,
+        value: 0,
+    }
+}
+
+// The sides of a root with two children, one of them with a variable.
+pub fn side_of(x: Spot, file: &[u8], marks: &[u8], w: u32) -> Side
+    requires { ⌜ AtSpot w (now file) (now marks) x × (w ≤ 64)
+        × (isBinary (treeAt (now file) x) ≡ true) ⌝ }
+    ensures { λ b. ⌜ SideOf w (now (file .entry)) (now (marks .entry))
+        (leftOf (treeAt (now (file .entry)) x)) (rightOf (treeAt (now (file .entry)) x)) b ⌝ }
+{
+    let start = x.start;
+    let end = x.end;
+    let t = &file[start..end];
+    let middle = start + record::cut(t);
+    let cut = record::size(record::left(t)) as usize;
+    let last = marks.len() - 1;
+    if !marks::has_variable(marks[cut - 1]) {
+        let value = expr::value::constant_value(record::left(t), w);
+        let stop = end - limits::RECORD_LENGTH;
+        return Side {
+            found: true,
+            start: middle,
+            end: stop,
+            from: cut,
+            to: last,
+            value: value,
+        };
+    }
+    if marks::has_variable(marks[last - 1]) {
+        return no_side();
+    }
+    let value = expr::value::constant_value(record::right(t), w);
+    Side {
+        found: true,
+        start: start,
+        end: middle,
+        from: 0,
+        to: cut,
+        value: value,
+    }
+}
+
+// No way on.
+fn nowhere() -> Way
+    ensures { λ b. ⌜ b .found ≡ false ⌝ }
+{
+    Way {
+        found: false,
+        more: false,
+        coeff: 0,
+        child: no_side(),
+    }
+}
+
+// The way on from a Neg: to its child.
+fn way_neg(x: Spot, marks: &[u8], w: u32) -> Way
+    requires { ⌜ (recordLength ≤ x .end) × (1 ≤ length (now marks)) ⌝ }
+    ensures { λ b. ⌜ b ≡ record {
+      found = true;
+      more = false;
+      coeff = modNeg (x .coeff) w;
+      child = record {
+        found = true;
+        start = x .start;
+        end = x .end - recordLength;
+        from = 0;
+        to = length (now (marks .entry)) - 1;
+        value = 0;
+      };
+    } ⌝ }
+{
+    let stop = x.end - limits::RECORD_LENGTH;
+    let last = marks.len() - 1;
+    let child = Side {
+        found: true,
+        start: x.start,
+        end: stop,
+        from: 0,
+        to: last,
+        value: 0,
+    };
+    Way {
+        found: true,
+        more: false,
+        coeff: arith::mod_neg(x.coeff, w),
+        child: child,
+    }
+}
+
+// The way on from a root with two children that is no Add: a product by a constant, or an Or or
+// Xor with one.
+fn way_two(x: Spot, k: u8, file: &[u8], marks: &[u8], w: u32) -> Way
+    requires { ⌜ AtSpot w (now file) (now marks) x × (w ≤ 64) × (eqb (x .coeff) 0 ≡ false)
+        × (hasVarDep (treeAt (now file) x) ≡ true)
+        × (k ≡ kind (spanOf (now file) (x .start) (x .end))) × (eqb k 2 ≡ false)
+        × (isBinary (treeAt (now file) x) ≡ true) ⌝ }
+    ensures { λ b. ⌜ WayOf w (now (file .entry)) (now (marks .entry)) k (x .coeff)
+        (treeAt (now (file .entry)) x) b ⌝ }
+{
+    if k == 3 {
+        let side = side_of(x, file, marks, w);
+        return Way {
+            found: side.found,
+            more: false,
+            coeff: arith::mod_mul(x.coeff, side.value, w),
+            child: side,
+        };
+    }
+    if k == 4 {
+        return nowhere();
+    }
+    let last = marks.len() - 1;
+    if marks::has_arith(marks[last]) {
+        return nowhere();
+    }
+    let side = side_of(x, file, marks, w);
+    Way {
+        found: side.found,
+        more: true,
+        coeff: x.coeff,
+        child: side,
+    }
+}
+
+// The way on from a root with a variable that is no Add.
+pub fn way_on(x: Spot, file: &[u8], marks: &[u8], w: u32) -> Way
+    requires { ⌜ AtSpot w (now file) (now marks) x × (w ≤ 64) × (eqb (x .coeff) 0 ≡ false)
+        × (hasVarDep (treeAt (now file) x) ≡ true)
+        × (eqb (kind (spanOf (now file) (x .start) (x .end))) 2 ≡ false) ⌝ }
+    ensures { λ b. ⌜ WayOf w (now (file .entry)) (now (marks .entry))
+        (kind (spanOf (now (file .entry)) (x .start) (x .end))) (x .coeff)
+        (treeAt (now (file .entry)) x) b ⌝ }
+{
+    let start = x.start;
+    let end = x.end;
+    let t = &file[start..end];
+    let k = record::kind(t);
+    if k == 8 {
+        return way_neg(x, marks, w);
+    }
+    if record::root_arity(t) != 2 {
+        return nowhere();
+    }
+    way_two(x, k, file, marks, w)
+}
+
+// The way on from any root: none under the coefficient 0 or without a variable, the left side of an
+// Add, and of another root as above.
+pub fn way_down(x: Spot, file: &[u8], marks: &[u8], w: u32) -> Way
+    requires { ⌜ AtSpot w (now file) (now marks) x × (w ≤ 64) ⌝ }
+    ensures { λ b. ⌜ WayDown w (now (file .entry)) (now (marks .entry)) x b ⌝ }
+{
+    let coeff = x.coeff;
+    if coeff == 0 {
+        return nowhere();
+    }
+    let last = marks.len() - 1;
+    if !marks::has_variable(marks[last]) {
+        return nowhere();
+    }
+    let start = x.start;
+    let end = x.end;
+    if record::kind(span_of(file, start, end)) == 2 {
+        let child = left_side(x, file);
+        return Way {
+            found: true,
+            more: true,
+            coeff: coeff,
+            child: child,
+        };
+    }
+    way_on(x, file, marks, w)
+}
