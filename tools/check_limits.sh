@@ -2,13 +2,13 @@
 # Holds each limit to its one place: a number of crates/base/specs/Limits.antt (for code crates/base/src/limits.rt)
 # stands nowhere else in src or specs. Prints one line and ends with 0, or a line for each fault and ends with 1.
 #
-# Left out: comments and `use` lines; powers (2 ^ 16); the programs' texts; `vectors`, which is a test; `claims`, whose
+# Left out: comments and `use` lines; powers (2 ^ 16); the programs' texts; `vectors` and `stored`, which are a test; `claims`, whose
 # examples have coefficients and masks. 16 and 256 have other meanings too, which are listed below with their places.
 set -euo pipefail
 cd -- "$(dirname -- "${BASH_SOURCE[0]}")/.." > /dev/null
 export LC_ALL=C.UTF-8
 
-files=$(find crates -path '*/src/*.rt' -o -path '*/specs/*.antt' | grep -vE '^crates/(vectors|claims)/' \
+files=$(find crates -path '*/src/*.rt' -o -path '*/specs/*.antt' | grep -vE '^crates/(vectors|stored|claims)/' \
     | grep -vE '^crates/base/(specs/Limits\.antt|src/limits\.rt)$' | sort)
 # shellcheck disable=SC2086
 awk '

@@ -1,20 +1,12 @@
 // Type 14: a list of passes from an expression, run on an entry's words and bytes.
-use crate::answer;
-use crate::answer::Answer;
-ghost use mathlib.Core.Path.{_≡_};
-ghost use lib.ListN.{length};
-
-// Room for the second slice.
-fn spare_room() -> [u8; 57376]
-    ensures { λ r. ⌜ 57376 ≡ length r ⌝ }
-{
-    [0; 57376]
-}
+use stored::answer;
+use stored::answer::Answer;
+use stored::result;
 
 // The refusal and the numbers found, over both slices: the second must be left all zeros.
 fn ran(expr: &[u8], calls: &[u64], wanted: &[u8], sheet: &mut [u8], spare: &mut [u8]) -> Answer {
-    answer::fill(sheet);
-    answer::fill(spare);
+    result::fill(sheet);
+    result::fill(spare);
     let mut used = answer::UNWRITTEN;
     let mut terms = answer::UNWRITTEN;
     let refusal = hogzelt::hogzelt_run_passes(expr, calls, sheet, spare, &mut used, &mut terms);
@@ -23,10 +15,10 @@ fn ran(expr: &[u8], calls: &[u64], wanted: &[u8], sheet: &mut [u8], spare: &mut 
         refusal: answer::OTHER_BYTES,
         value,
     };
-    if !answer::result_ok(refusal, sheet, wanted) {
+    if !result::result_ok(refusal, sheet, wanted) {
         return other;
     }
-    if !answer::all_zero(spare) {
+    if !result::all_zero(spare) {
         return other;
     }
     Answer { refusal, value }
@@ -40,7 +32,7 @@ fn with_spare(
     sheet: &mut [u8],
     spare_len: usize,
 ) -> Answer {
-    let mut spare = spare_room();
+    let mut spare = result::spare_room();
     if spare.len() < spare_len {
         return answer::malformed();
     }

@@ -1,10 +1,11 @@
 // Replays the vector file on standard input (docs/VECTORS.md): runs the function that each entry
 // names, compares refusal and value with the expected ones, and prints a line for each type.
-mod answer;
+mod calls;
 mod columns;
-mod entry;
 mod lists;
-mod report;
+mod one_entry;
+
+use stored::report;
 
 // A file of more entries is malformed. The bound makes the loop end on any input.
 const MOST_ENTRIES: u64 = 1_000_000;
@@ -19,7 +20,7 @@ fn replay(
 ) {
     let mut at = 0;
     while at < MOST_ENTRIES {
-        if !entry::step(at, bytes, out, classes, entries, differences) {
+        if !one_entry::step(at, bytes, out, classes, entries, differences) {
             return;
         }
         at += 1;

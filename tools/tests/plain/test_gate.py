@@ -92,7 +92,7 @@ class Gate(unittest.TestCase):
         self.assertEqual(self.run_gate(), (0, [CLEAN], ALL[:5]))
         for name in ("cc", "../calls"):
             os.remove(os.path.join(self.folder, "bin", name))
-        for name in "bash cat dirname env mktemp nproc python3 rm sh tail tee".split():
+        for name in "awk bash cat chmod cp df dirname env mktemp nproc python3 rm sh tail tee true".split():
             found = sys.executable if name == "python3" else shutil.which(name)
             os.symlink(found, os.path.join(self.folder, "bin", name))
         self.assertEqual(self.run_gate(path="/nonexistent"), (0, [CLEAN], ALL[:5]))
