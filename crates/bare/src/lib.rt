@@ -5,12 +5,12 @@ use atom_table::table;
 use semilinear::items;
 ghost use mathlib.Core.Path.{_≡_};
 ghost use mathlib.Core.Bool.{true};
-ghost use Prim.Native.Nat.{_+_, _^_, _<_, _≤_};
+ghost use Prim.Native.Nat.{_+_, _^_, _<_};
 ghost use lib.ListN.{getD};
 ghost use Rattle.record.specs.Decode.{decode};
 ghost use Rattle.semilinear.specs.Items.{isAtom};
 ghost use Rattle.made.specs.Rows.{createRow};
-ghost use Rattle.made.specs.Made.{Room, Grew, Basis};
+ghost use Rattle.made.specs.Made.{Room, Grew, Basis, Makes};
 ghost use Rattle.bare.specs.Search.{atomHas, atomWith};
 ghost use Rattle.bare.specs.Showing.{BareFound};
 
@@ -61,8 +61,7 @@ pub fn create_row(made: &mut [u64], out: &mut [u8], t: &[u8], hash: u64, p: u8, 
 // The number of the first atom with the tree b; a new one where there is none, Mixed. Corresponds to
 // `find_or_create_bare_atom`.
 pub fn find_or_create_bare(made: &mut [u64], out: &mut [u8], b: &[u8], hash: u64, w: u8) -> u64
-    requires { ⌜ Room (now made) (now out) × Basis w hash (now b)
-        × (getD (now made) 4 0 + 1 < 2 ^ 64) × (w ≤ 64) ⌝ }
+    requires { ⌜ Makes w 1 hash (now b) (now made) (now out) ⌝ }
     ensures { λ r. ⌜ BareFound w (decode (now (b .entry))) r
         (now (made .entry)) (now (out .entry)) (now (made .exit)) (now (out .exit)) ⌝ }
 {

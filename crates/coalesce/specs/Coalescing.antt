@@ -2,7 +2,7 @@
 -- in two lent arrays, and what a turn makes of the table, the coefficients and the bytes, said for all rows that they
 -- show.
 use mathlib.Core.Path.{_≡_}
-use Prim.Native.Nat.{ℕ, _+_, _-_, _^_, _≤_}
+use Prim.Native.Nat.{ℕ, _+_, _-_, _^_, _<_, _≤_}
 use mathlib.Core.List.{List, [], _∷_}
 use lib.ListN.{length, getD, take}
 use lib.Dec.{eqb}
@@ -11,7 +11,7 @@ use Rattle.record.specs.Tree.{Tree}
 use Rattle.semilinear.specs.Form.{Row}
 use Rattle.made.specs.Rows.{createMasked, addCoeff}
 use Rattle.views.specs.Grouping.{variableBasis, basesOf, ungrouped}
-use Rattle.made.specs.Made.{Room, Held}
+use Rattle.made.specs.Made.{Room, Held, Makes}
 use Rattle.structure_laws.specs.RecoverStructure.{rowWith, withBare}
 use Rattle.structure_laws.specs.Carried.{Carried}
 use Rattle.structure_laws.specs.CoalesceTerms.{coalesceAll}
@@ -29,6 +29,13 @@ pairs (c ∷ l) (m ∷ bits) = record { coeff = c; mask = m } ∷ pairs l bits
 unfoldable pub carriedIn : ℕ → List ℕ → List ℕ → List Carried
 carriedIn n carried bits = pairs (take n carried) (take n bits)
 
+-- the bit p can be joined to the first `count`: there is room for one more, and their bits are below p
+pub record CarryReady (p count : ℕ) (carried bits : List ℕ) : Type 0 where
+  pub place : p < 64
+  pub carried-room : count < length carried
+  pub bits-room : count < length bits
+  pub below : (k : ℕ) → k < count → getD bits k 0 < 2 ^ p
+
 -- the first r of both are now l
 pub record IsCarried (l : List Carried) (carried bits carried′ bits′ : List ℕ) (r : ℕ) : Type 0 where
   pub count : r ≡ length l
@@ -37,6 +44,12 @@ pub record IsCarried (l : List Carried) (carried bits carried′ bits′ : List 
   pub wide : length bits′ ≡ length bits
 
 -- ---- the table
+
+-- atoms over the basis b can be made for the first `count` of both arrays
+pub record PutReady (w count hash : ℕ) (carried bits b made out : List ℕ) : Type 0 where
+  pub makes : Makes w count hash b made out
+  pub carried-room : count ≤ length carried
+  pub bits-room : count ≤ length bits
 
 -- one new term: c with the bits m
 unfoldable pub carriedRow : ℕ → Tree → ℕ → ℕ → List Row → List Row

@@ -4,14 +4,14 @@ use group::keys;
 use group::settle;
 use views::bases;
 ghost use mathlib.Core.Path.{_≡_};
-ghost use Prim.Native.Nat.{ℕ, _+_, _^_, _<_, _≤_};
-ghost use lib.ListN.{length, getD};
+ghost use Prim.Native.Nat.{_<_, _≤_};
+ghost use lib.ListN.{length};
 ghost use Rattle.record.specs.Decode.{decode};
-ghost use Rattle.made.specs.Made.{Room, Basis};
+ghost use Rattle.made.specs.Made.{Makes};
 ghost use Rattle.structure_laws.specs.Carried.{bitCoeff, carry, carryAt, carriedOf};
 ghost use Rattle.structure_laws.specs.CoalesceTerms.{carriedRows};
-ghost use Rattle.coalesce.specs.Coalescing.{carriedIn, IsCarried};
-ghost use Rattle.coalesce.specs.Coalescing.{carriedRow, Coalesced};
+ghost use Rattle.coalesce.specs.Coalescing.{carriedIn, CarryReady, IsCarried};
+ghost use Rattle.coalesce.specs.Coalescing.{PutReady, carriedRow, Coalesced};
 ghost use Rattle.base.specs.Limits.{groupEntries};
 
 // The sum of the coefficients, of n, whose masks have the bit p. It is cut only in the end.
@@ -38,8 +38,7 @@ fn bit_coeff<'a>(
 
 // The bit p joined to its coefficient c among the first `count`; returns how many there are.
 fn carry(carried: &mut [u64], bits: &mut [u64], count: usize, c: u64, p: u32) -> usize
-    requires { ⌜ (count < length (now carried)) × (count < length (now bits)) × (p < 64)
-        × ((k : ℕ) → k < count → getD (now bits) k 0 < 2 ^ p) ⌝ }
+    requires { ⌜ CarryReady p count (now carried) (now bits) ⌝ }
     ensures { λ r. ⌜ IsCarried (carry c p (carriedIn count (now (carried .entry)) (now (bits .entry))))
         (now (carried .entry)) (now (bits .entry)) (now (carried .exit)) (now (bits .exit)) r ⌝ }
 {
@@ -66,9 +65,7 @@ fn carry_at<'a>(
     bits: &mut [u64],
     count: usize,
 ) -> usize
-    requires { ⌜ (n ≤ groupEntries) × (w ≤ 64) × (p < 64)
-        × (count < length (now carried)) × (count < length (now bits))
-        × ((k : ℕ) → k < count → getD (now bits) k 0 < 2 ^ p) ⌝ }
+    requires { ⌜ (n ≤ groupEntries) × (w ≤ 64) × CarryReady p count (now carried) (now bits) ⌝ }
     ensures { λ r. ⌜ IsCarried (carryAt w (now (coeffs .entry)) (now (masks .entry)) n p
         (carriedIn count (now (carried .entry)) (now (bits .entry))))
         (now (carried .entry)) (now (bits .entry)) (now (carried .exit)) (now (bits .exit)) r ⌝ }
@@ -113,8 +110,7 @@ fn put_term(
     coeffs: &mut [u64],
     out: &mut [u8],
 )
-    requires { ⌜ Room (now made) (now out) × Basis w hash (now b)
-        × (getD (now made) 4 0 + 1 < 2 ^ 64) × (w ≤ 64) ⌝ }
+    requires { ⌜ Makes w 1 hash (now b) (now made) (now out) ⌝ }
     ensures { λ _. ⌜ Coalesced w 0 1 (carriedRow w (decode (now (b .entry))) c m)
         (now (made .entry)) (now (out .entry)) (now (coeffs .entry))
         (now (made .exit)) (now (out .exit)) (now (coeffs .exit)) ⌝ }
@@ -144,9 +140,7 @@ pub fn put_carried(
     coeffs: &mut [u64],
     out: &mut [u8],
 )
-    requires { ⌜ Room (now made) (now out) × Basis w hash (now b)
-        × (getD (now made) 4 0 + count < 2 ^ 64) × (w ≤ 64)
-        × (count ≤ length (now carried)) × (count ≤ length (now bits)) ⌝ }
+    requires { ⌜ PutReady w count hash (now carried) (now bits) (now b) (now made) (now out) ⌝ }
     ensures { λ _. ⌜ Coalesced w 0 count (carriedRows w (decode (now (b .entry)))
         (carriedIn count (now (carried .entry)) (now (bits .entry))))
         (now (made .entry)) (now (out .entry)) (now (coeffs .entry))

@@ -12,21 +12,19 @@ use views::bases;
 ghost use mathlib.Core.Path.{_≡_};
 ghost use mathlib.Core.Bool.{true, false};
 ghost use mathlib.Core.List.{[]};
-ghost use Prim.Native.Nat.{ℕ, _+_, _*_, _^_, _<_, _≤_};
-ghost use lib.ListN.{length, getD};
+ghost use Prim.Native.Nat.{_*_};
+ghost use lib.ListN.{length};
 ghost use Rattle.base.specs.Put.{padded};
 ghost use Rattle.record.specs.Decode.{decode};
 ghost use Rattle.semilinear.specs.Items.{atomCount, afterAtoms};
-ghost use Rattle.semilinear.specs.Valid.{atomsOk, isSemilinear};
+ghost use Rattle.semilinear.specs.Valid.{isSemilinear};
 ghost use Rattle.semilinear.specs.DecodeForm.{rowsOf, readForm};
 ghost use Rattle.semilinear.specs.Answers.{GivesForm};
 ghost use Rattle.semilinear.specs.PassOutcome.{limitOutcome};
-ghost use Rattle.semilinear.specs.Scan.{AtomsEnd};
-ghost use Rattle.made.specs.Made.{Room, Basis};
 ghost use Rattle.views.specs.Grouping.{variableBasis, basesOf};
-ghost use Rattle.views.specs.Views.{viewAt, basisBytes, InGroup, Views, Readable};
-ghost use Rattle.views.specs.Bases.{firstRows, FirstAre};
+ghost use Rattle.views.specs.Views.{viewAt, basisBytes};
 ghost use Rattle.group.specs.Gathered.{gathered};
+ghost use Rattle.group.specs.Ready.{FormReady, RowsReady, AllReady, AtReady, GroupReady};
 ghost use Rattle.structure_laws.specs.CoalesceTerms.{coalesceGroup, coalesceAll};
 ghost use Rattle.structure_laws.specs.CoalesceTerms.{coalesceForm, coalesceTerms};
 ghost use Rattle.coalesce.specs.Coalescing.{Coalesced, RowsCoalesced};
@@ -45,8 +43,7 @@ fn coalesce_group(
     coeffs: &mut [u64],
     out: &mut [u8],
 )
-    requires { ⌜ Room (now made) (now out) × Readable (now f) (now views) n × (n ≤ atomLimit)
-        × Basis w hash (now b) × (getD (now made) 4 0 + 64 < 2 ^ 64) × (w ≤ 64) ⌝ }
+    requires { ⌜ GroupReady w 64 hash (now b) (now f) (now views) n (now made) (now out) ⌝ }
     ensures { λ _. ⌜ Coalesced w n 64 (coalesceGroup w (decode (now (b .entry)))
         (gathered (now (f .entry)) (now (views .entry)) hash (now (b .entry)) n))
         (now (made .entry)) (now (out .entry)) (now (coeffs .entry))
@@ -82,9 +79,7 @@ fn coalesce_at(
     coeffs: &mut [u64],
     out: &mut [u8],
 )
-    requires { ⌜ Room (now made) (now out) × Readable (now f) (now views) n × (first < n) × (n ≤ atomLimit)
-        × InGroup w (now f) (viewAt (now views) first)
-        × (getD (now made) 4 0 + 64 < 2 ^ 64) × (w ≤ 64) ⌝ }
+    requires { ⌜ AtReady w 64 (now f) (now views) first n (now made) (now out) ⌝ }
     ensures { λ _. ⌜ Coalesced w n 64
         (coalesceGroup w (decode (basisBytes (now (f .entry)) (viewAt (now (views .entry)) first)))
         (gathered (now (f .entry)) (now (views .entry)) (viewAt (now (views .entry)) first .hash)
@@ -115,10 +110,7 @@ fn coalesce_all(
     coeffs: &mut [u64],
     out: &mut [u8],
 )
-    requires { ⌜ Room (now made) (now out) × (getD (now made) 4 0 ≤ atomLimit) × (w ≤ 64) × (n ≤ atomLimit)
-        × (n ≡ length (rowsOf 0 (now f) (afterAtoms (now f))))
-        × Views variableBasis w (now f) (now views) (rowsOf 0 (now f) (afterAtoms (now f)))
-        × FirstAre (firstRows (now f) (now views) n) (now bases) (now bases) count ⌝ }
+    requires { ⌜ AllReady variableBasis w (now f) (now views) (now bases) n count (now made) (now out) ⌝ }
     ensures { λ _. ⌜ Coalesced w n (64 * groupEntries)
         (coalesceAll w (rowsOf 0 (now (f .entry)) (afterAtoms (now (f .entry))))
         (basesOf variableBasis w (rowsOf 0 (now (f .entry)) (afterAtoms (now (f .entry)))) []))
@@ -144,10 +136,7 @@ fn coalesce_rows(
     coeffs: &mut [u64],
     out: &mut [u8],
 )
-    requires { ⌜ (w ≤ 64) × (atomsOk w (now f) ≡ true) × AtomsEnd (now f) terms
-        × (5 * atomCount (now f) ≤ length (now views)) × (atomCount (now f) ≤ length (now bases))
-        × (atomCount (now f) ≤ atomLimit) × (now coeffs ≡ padded atomLimit [])
-        × Room (now made) (now out) × (getD (now made) 4 0 ≤ atomLimit) ⌝ }
+    requires { ⌜ RowsReady w (now f) terms (now views) (now bases) (now coeffs) (now made) (now out) ⌝ }
     ensures { λ _. ⌜ RowsCoalesced w (rowsOf 0 (now (f .entry)) (afterAtoms (now (f .entry))))
         (now (made .entry)) (now (out .entry)) (now (made .exit)) (now (out .exit)) (now (coeffs .exit)) ⌝ }
 {
@@ -165,9 +154,7 @@ fn coalesce_short(
     coeffs: &mut [u64],
     out: &mut [u8],
 )
-    requires { ⌜ (w ≤ 64) × (atomsOk w (now f) ≡ true) × AtomsEnd (now f) terms
-        × (atomCount (now f) ≤ shortAtoms) × (now coeffs ≡ padded atomLimit [])
-        × Room (now made) (now out) × (getD (now made) 4 0 ≤ atomLimit) ⌝ }
+    requires { ⌜ FormReady w shortAtoms (now f) terms (now coeffs) (now made) (now out) ⌝ }
     ensures { λ _. ⌜ RowsCoalesced w (rowsOf 0 (now (f .entry)) (afterAtoms (now (f .entry))))
         (now (made .entry)) (now (out .entry)) (now (made .exit)) (now (out .exit)) (now (coeffs .exit)) ⌝ }
 {
@@ -185,9 +172,7 @@ fn coalesce_long(
     coeffs: &mut [u64],
     out: &mut [u8],
 )
-    requires { ⌜ (w ≤ 64) × (atomsOk w (now f) ≡ true) × AtomsEnd (now f) terms
-        × (atomCount (now f) ≤ atomLimit) × (now coeffs ≡ padded atomLimit [])
-        × Room (now made) (now out) × (getD (now made) 4 0 ≤ atomLimit) ⌝ }
+    requires { ⌜ FormReady w atomLimit (now f) terms (now coeffs) (now made) (now out) ⌝ }
     ensures { λ _. ⌜ RowsCoalesced w (rowsOf 0 (now (f .entry)) (afterAtoms (now (f .entry))))
         (now (made .entry)) (now (out .entry)) (now (made .exit)) (now (out .exit)) (now (coeffs .exit)) ⌝ }
 {
@@ -206,9 +191,8 @@ fn coalesce_table(
     coeffs: &mut [u64],
     out: &mut [u8],
 )
-    requires { ⌜ (w ≤ 64) × (atomsOk w (now f) ≡ true) × AtomsEnd (now f) terms
-        × (atomCount (now f) ≡ count) × (count ≤ atomLimit) × (now coeffs ≡ padded atomLimit [])
-        × Room (now made) (now out) × (getD (now made) 4 0 ≤ atomLimit) ⌝ }
+    requires { ⌜ (atomCount (now f) ≡ count)
+        × FormReady w atomLimit (now f) terms (now coeffs) (now made) (now out) ⌝ }
     ensures { λ _. ⌜ RowsCoalesced w (rowsOf 0 (now (f .entry)) (afterAtoms (now (f .entry))))
         (now (made .entry)) (now (out .entry)) (now (made .exit)) (now (out .exit)) (now (coeffs .exit)) ⌝ }
 {

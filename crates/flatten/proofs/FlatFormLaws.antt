@@ -6,7 +6,7 @@ use native.Mathlib.Omega.{arith}
 use native.Mathlib.Nat.{one-mul}
 use mathlib.Core.List.{List, [], _∷_, _++_}
 use mathlib.Core.Bool.{Bool, true, false}
-use lib.ListN.{length, getD, take, drop, length-append}
+use lib.ListN.{length, getD, take, drop, replicate, length-append}
 use lib.Seq.{take-suc, drop-at}
 use Rattle.record.specs.Fields.{width, literal}
 use Rattle.base.specs.Put.{padded}
@@ -17,11 +17,10 @@ use Rattle.semilinear.specs.declared.outcome.Answer.{Answer}
 use Rattle.atom_table.specs.declared.table.Table.{Table}
 use Rattle.semilinear.specs.Form.{Row, Form, atomsBytes, fitsTable}
 use Rattle.semilinear.specs.Items.{afterAtoms}
-use Rattle.semilinear.specs.Valid.{frontOk, isSemilinear}
+use Rattle.semilinear.specs.Valid.{isSemilinear}
 use Rattle.semilinear.specs.DecodeForm.{rowsOf, decodeForm, readForm}
 use Rattle.semilinear.specs.Answers.{GivesForm}
 use Rattle.semilinear.specs.PassOutcome.{limitOutcome}
-use Rattle.semilinear.specs.Scan.{AtomsEnd}
 use Rattle.atom_table.specs.Table.{Placed}
 use Rattle.atom_table.specs.Terms.{coeffsOf, coeffsIn, Copied, Ends, Finished}
 use Rattle.semilinear.proofs.AcceptLaws.{written}
@@ -29,26 +28,29 @@ use Rattle.atom_table.proofs.HoldsLaws.{at-holds}
 use Rattle.atom_table.proofs.PassLaws.{semilinear-front}
 use Rattle.semilinear.proofs.ValidLaws.{semilinear-parts}
 use Rattle.atom_table.proofs.TermsLaws.{length-coeffs}
-use Rattle.made.specs.Made.{tableOf, flagOf, wordsOf, Held}
+use Rattle.made.specs.Made.{tableOf, flagOf, wordsOf}
 use Rattle.group.proofs.ShownLaws.{begun, held-copied, copied-end, shown-ends}
 use Rattle.structure_laws.specs.FlattenComplexAtoms.{flattened, flattenForm}
 use Rattle.made.specs.Shown.{Shown}
-use Rattle.flatten.specs.Flattening.{flatRows, RowsFlattened}
+use Rattle.flatten.specs.Flattening.{FrontReady, flatRows, RowsFlattened}
 
 -- ---- the begin
 
 -- what the rows are flattened with, as the code reads it
 pub flatten-begin : (s : List ℕ) → IsBytes s → isSemilinear s ≡ true → {w k : ℕ} {b : List ℕ} → w ≡ width s → b ≡ body s
     → {tab : Table} {out : List ℕ} → Copied (readForm s) tab out
-    → (w ≤ 64) × (frontOk w b ≡ true) × AtomsEnd b (tab .at)
-    × Held w (begun tab k) out (rowsOf 0 b (afterAtoms b))
+    → FrontReady w b (tab .at) (begun tab k) (replicate 256 0) out
 unfolding decodeForm
 flatten-begin s bytes ok {w} {k} {b} ew eb {tab} {out} h =
     rw (ew, eb) (
-      semilinear-parts s ok .0 .width-le,
-      semilinear-front s ok,
-      copied-end s bytes ok tab out h,
-      held-copied (readForm s) tab out k h,
+    record {
+      width = semilinear-parts s ok .0 .width-le;
+      front-ok = semilinear-front s ok;
+      ends = copied-end s bytes ok tab out h;
+      words = refl;
+      clear = refl;
+      held = held-copied (readForm s) tab out k h;
+    }
     )
 
 -- ---- the end

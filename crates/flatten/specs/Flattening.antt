@@ -1,10 +1,10 @@
 -- How flattening goes over the rows (src/flatten.rt): the words of the table, the bytes of its atoms and the
 -- coefficients beside them show the rows of the form that is being made; a step is said for all rows that they show.
 use mathlib.Core.Path.{_≡_}
-use Prim.Native.Nat.{ℕ, _+_, _-_, _^_, _≤_}
+use Prim.Native.Nat.{ℕ, _+_, _-_, _^_, _<_, _≤_}
 use mathlib.Core.List.{List, [], _∷_, _++_}
 use mathlib.Core.Bool.{Bool, true, false, not, _&&_}
-use lib.ListN.{length, getD, drop}
+use lib.ListN.{length, getD, drop, replicate}
 use lib.Bits.{bitAnd}
 use lib.Dec.{eqb}
 use Rattle.arith.specs.Width.{modAdd, modMul, modNeg}
@@ -13,14 +13,17 @@ use Rattle.record.specs.Tree.{Tree}
 use Rattle.expr_utils.specs.Utils.{hasShr}
 use Rattle.expr.specs.Vars.{nextVar, support}
 use Rattle.semilinear.specs.Form.{Row}
-use Rattle.semilinear.specs.DecodeForm.{rowAt}
-use Rattle.semilinear_value.specs.Running.{RowPassed}
-use Rattle.made.specs.Made.{Room}
+use Rattle.semilinear.specs.Items.{atomCount, afterAtoms}
+use Rattle.semilinear.specs.Valid.{termsOk, frontOk}
+use Rattle.semilinear.specs.DecodeForm.{rowAt, rowsOf}
+use Rattle.semilinear.specs.Scan.{AtomsEnd}
+use Rattle.semilinear_value.specs.Running.{AtRow, RowPassed}
+use Rattle.made.specs.Made.{Room, Held}
 use Rattle.made.specs.Shown.{Shown}
 use Rattle.flatten.specs.declared.Flattening.{Flattening}
 use Rattle.structure_laws.specs.FlattenComplexAtoms.{isPlain, isComplex, atZero, atOnes, Flat, flatRow}
 use Rattle.structure_laws.specs.FlattenComplexAtoms.{flattenRow, flattenRows, keptRows}
-use Rattle.base.specs.Limits.{atomLimit}
+use Rattle.base.specs.Limits.{atomLimit, varLimit}
 
 -- the test of a row to flatten, without that of its coefficient
 unfoldable pub complexTree : ℕ → Tree → Bool
@@ -43,6 +46,33 @@ flatTree w t c l =
 
 unfoldable pub flatConstant : ℕ → Tree → ℕ → ℕ → ℕ
 flatConstant w t c k = modAdd k (modMul c (atZero w t) w) w
+
+-- ---- what is asked
+
+-- n rows of variable v can be made
+pub record VariableReady (w n v : ℕ) (made out : List ℕ) : Type 0 where
+  pub width : w ≤ 64
+  pub within : v < varLimit
+  pub room : Room made out
+  pub more : getD made 4 0 + n < 2 ^ 64
+
+-- x is before an atom, and there is room for its coefficient and two rows more
+pub record RowReady (w : ℕ) (f : List ℕ) (x : Flattening) (made coeffs out : List ℕ) : Type 0 where
+  pub row : AtRow w f (x .at) (x .next)
+  pub number-le : x .number ≤ x .at
+  pub terms-ok : termsOk w (x .number + atomCount (drop (x .at) f)) (x .number) (drop (x .next) f) ≡ true
+  pub coeffs-room : x .number < length coeffs
+  pub room : Room made out
+  pub more : getD made 4 0 + 2 < 2 ^ 64
+
+-- f is atoms and, from `terms` on, terms as they must be; no coefficient is set, and the table holds the rows
+pub record FrontReady (w : ℕ) (f : List ℕ) (terms : ℕ) (made coeffs out : List ℕ) : Type 0 where
+  pub width : w ≤ 64
+  pub front-ok : frontOk w f ≡ true
+  pub ends : AtomsEnd f terms
+  pub words : length made ≡ 6
+  pub clear : coeffs ≡ replicate atomLimit 0
+  pub held : Held w made out (rowsOf 0 f (afterAtoms f))
 
 -- ---- the table with its coefficients
 

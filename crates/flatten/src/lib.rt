@@ -10,25 +10,24 @@ use semilinear::outcome::Answer;
 ghost use mathlib.Core.Path.{_≡_};
 ghost use mathlib.Core.Bool.{true};
 ghost use mathlib.Core.List.{[]};
-ghost use Prim.Native.Nat.{_+_, _-_, _^_, _<_, _≤_};
-ghost use lib.ListN.{length, getD, drop, replicate};
+ghost use Prim.Native.Nat.{_-_, _^_, _<_, _≤_};
+ghost use lib.ListN.{length, getD};
 ghost use lib.Bits.{bitAnd};
 ghost use Rattle.base.specs.Put.{padded};
 ghost use Rattle.record.specs.Span.{sized};
 ghost use Rattle.record.specs.Decode.{decode};
 ghost use Rattle.expr.specs.Vars.{nextVar};
-ghost use Rattle.semilinear.specs.Items.{isAtom, atomCount, afterAtoms};
-ghost use Rattle.semilinear.specs.Valid.{atomsOk, termsOk, frontOk, isSemilinear};
+ghost use Rattle.semilinear.specs.Items.{afterAtoms};
+ghost use Rattle.semilinear.specs.Valid.{isSemilinear};
 ghost use Rattle.semilinear.specs.DecodeForm.{rowsOf, readForm};
 ghost use Rattle.semilinear.specs.Answers.{GivesForm};
 ghost use Rattle.semilinear.specs.PassOutcome.{limitOutcome};
-ghost use Rattle.semilinear.specs.Scan.{AtomsEnd};
-ghost use Rattle.made.specs.Made.{Room, Held};
 ghost use Rattle.structure_laws.specs.FlattenComplexAtoms.{isPlain, atOnes, flatRow, flattened};
 ghost use Rattle.structure_laws.specs.FlattenComplexAtoms.{flattenForm, flattenComplexAtoms};
 ghost use Rattle.flatten.specs.Flattening.{complexTree, flatTree, flatConstant, Extended};
+ghost use Rattle.flatten.specs.Flattening.{VariableReady, RowReady, FrontReady};
 ghost use Rattle.flatten.specs.Flattening.{RowFlattened, RowsFlattened};
-ghost use Rattle.base.specs.Limits.{atomLimit, formBytes, varLimit};
+ghost use Rattle.base.specs.Limits.{formBytes};
 
 // Whether the tree of t is a variable, or a variable under a mask.
 fn is_plain(t: &[u8], w: u32) -> bool
@@ -82,8 +81,7 @@ fn bits_without(a: u64, b: u64, w: u32) -> u64
 
 // A new row for the bits m of variable v, with the coefficient c, unless there are none.
 fn flat_row(v: u64, m: u64, c: u64, w: u8, made: &mut [u64], coeffs: &mut [u64], out: &mut [u8])
-    requires { ⌜ (v < varLimit) × (w ≤ 64) × Room (now made) (now out)
-        × (getD (now made) 4 0 + 1 < 2 ^ 64) ⌝ }
+    requires { ⌜ VariableReady w 1 v (now made) (now out) ⌝ }
     ensures { λ _. ⌜ Extended w 1 (flatRow w v m c) (λ k. k)
         (now (made .entry)) (now (out .entry)) (now (coeffs .entry))
         (now (made .exit)) (now (out .exit)) (now (coeffs .exit)) ⌝ }
@@ -103,8 +101,8 @@ fn flat_row(v: u64, m: u64, c: u64, w: u8, made: &mut [u64], coeffs: &mut [u64],
 
 // The atom with the tree t and the coefficient c, flattened: the bits passed before those inverted.
 fn flatten_atom(t: &[u8], c: u64, w: u8, made: &mut [u64], coeffs: &mut [u64], out: &mut [u8])
-    requires { ⌜ (sized (now t) ≡ true) × (nextVar 0 (decode (now t)) < varLimit) × (w ≤ 64)
-        × Room (now made) (now out) × (getD (now made) 4 0 + 2 < 2 ^ 64) ⌝ }
+    requires { ⌜ (sized (now t) ≡ true)
+        × VariableReady w 2 (nextVar 0 (decode (now t))) (now made) (now out) ⌝ }
     ensures { λ _. ⌜ Extended w 2 (flatTree w (decode (now (t .entry))) c)
         (flatConstant w (decode (now (t .entry))) c)
         (now (made .entry)) (now (out .entry)) (now (coeffs .entry))
@@ -141,13 +139,7 @@ impl Flattening {
         coeffs: &mut [u64],
         out: &mut [u8],
     ) -> Self
-        requires { ⌜ (w ≤ 64) × (self .at ≤ length (now f)) × (self .next ≤ length (now f))
-            × (self .number ≤ self .at) × (self .number < length (now coeffs))
-            × (isAtom (drop (self .at) (now f)) ≡ true)
-            × (atomsOk w (drop (self .at) (now f)) ≡ true)
-            × (termsOk w (self .number + atomCount (drop (self .at) (now f))) (self .number)
-            (drop (self .next) (now f)) ≡ true)
-            × Room (now made) (now out) × (getD (now made) 4 0 + 2 < 2 ^ 64) ⌝ }
+        requires { ⌜ RowReady w (now f) self (now made) (now coeffs) (now out) ⌝ }
         ensures { λ r. ⌜ RowFlattened w (now (f .entry)) self r
             (now (made .entry)) (now (out .entry)) (now (coeffs .entry))
             (now (made .exit)) (now (out .exit)) (now (coeffs .exit)) ⌝ }
@@ -197,9 +189,7 @@ fn flatten_rows(
     coeffs: &mut [u64],
     out: &mut [u8],
 ) -> bool
-    requires { ⌜ (w ≤ 64) × (frontOk w (now f) ≡ true) × AtomsEnd (now f) terms
-        × (length (now made) ≡ 6) × (now coeffs ≡ replicate atomLimit 0)
-        × Held w (now made) (now out) (rowsOf 0 (now f) (afterAtoms (now f))) ⌝ }
+    requires { ⌜ FrontReady w (now f) terms (now made) (now coeffs) (now out) ⌝ }
     ensures { λ r. ⌜ RowsFlattened w (rowsOf 0 (now (f .entry)) (afterAtoms (now (f .entry))))
         (getD (now (made .entry)) 5 0) (length (now (out .entry))) r
         (now (made .exit)) (now (out .exit)) (now (coeffs .exit)) ⌝ }

@@ -1,7 +1,7 @@
 -- What a pass knows on its way to the groups: of the form and its copied table, of the views it has read, of the bases it
 -- has found, and of a table that holds the rows without the terms that are in groups.
 use mathlib.Core.Path.{_≡_, refl, ap, sym, _∙_}
-use Prim.Native.Nat.{ℕ, _*_, _≤_, _<_}
+use Prim.Native.Nat.{ℕ, _+_, _*_, _^_, _≤_, _<_}
 use native.Mathlib.Omega.{arith}
 use mathlib.Core.List.{List, []}
 use mathlib.Core.Bool.{Bool, true, false}
@@ -15,9 +15,8 @@ use Rattle.base.proofs.PutLaws.{length-padded}
 use Rattle.atom_table.specs.declared.table.Table.{Table}
 use Rattle.semilinear.specs.Form.{Row}
 use Rattle.semilinear.specs.Items.{atomCount, afterAtoms}
-use Rattle.semilinear.specs.Valid.{atomsOk, isSemilinear}
+use Rattle.semilinear.specs.Valid.{isSemilinear}
 use Rattle.semilinear.specs.DecodeForm.{rowsOf, decodeForm, readForm}
-use Rattle.semilinear.specs.Scan.{AtomsEnd}
 use Rattle.atom_table.specs.Table.{Placed}
 use Rattle.atom_table.specs.Terms.{coeffsOf, Copied}
 use Rattle.atom_table.proofs.HoldsLaws.{holds-bare}
@@ -28,9 +27,10 @@ use Rattle.group.specs.Group.{emptyGroup, groupOf}
 use Rattle.views.specs.Grouping.{basesOf, ungrouped}
 use Rattle.made.specs.Made.{tableOf, Room, Held, Basis}
 use Rattle.made.specs.Shown.{Shown}
-use Rattle.views.specs.Views.{viewAt, basisBytes, Views, ViewsRead, Readable}
+use Rattle.views.specs.Views.{viewAt, basisBytes, ViewsReady, ViewsRead, Readable}
 use Rattle.views.specs.Bases.{firstRows, FirstAre}
 use Rattle.group.specs.Gathered.{gathered}
+use Rattle.group.specs.Ready.{FormReady, RowsReady, BasesFound, AllReady, AtReady, GroupReady}
 use Rattle.group.proofs.ExtendsLaws.{ungrouped-length, ungrouped-bare}
 use Rattle.views.proofs.FirstRowsLaws.{first-rows}
 use Rattle.group.proofs.GatherLaws.{gather-group, len-gathered}
@@ -50,22 +50,25 @@ module _ (s : List ℕ) (bytes : IsBytes s) (ok : isSemilinear s ≡ true) where
 
   -- what a pass works on, as the code reads it
   pub pass-begin : {w k : ℕ} {b : List ℕ} → w ≡ width s → b ≡ body s → {tab : Table} {out : List ℕ}
-      → Copied (readForm s) tab out
-      → (w ≤ 64) × (atomsOk w b ≡ true) × AtomsEnd b (tab .at) × (atomCount b ≡ tab .count) × (tab .count ≤ 256)
-      × Room (begun tab k) out × (getD (begun tab k) 4 0 ≤ 256)
+      → Copied (readForm s) tab out → {coeffs : List ℕ} → coeffs ≡ padded 256 []
+      → (atomCount b ≡ tab .count) × FormReady w 256 b (tab .at) coeffs (begun tab k) out
   unfolding decodeForm
-  pass-begin {w} {k} {b} ew eb {tab} {out} h =
+  pass-begin {w} {k} {b} ew eb {tab} {out} h clear =
       let parts = semilinear-parts s ok in
       let most : tab .count ≤ 256 = h .holds .placed .atoms-le in
-      let count : tab .count ≡ length (rowsOf 0 (body s) (afterAtoms (body s))) = h .holds .kept (h .more) .count in
+      let count : tab .count ≡ atomCount (body s) =
+      h .holds .kept (h .more) .count ∙ length-rows (body s) 0 (afterAtoms (body s)) in
       rw (ew, eb) (
-        parts .0 .width-le,
-        parts .1 .atoms,
-        copied-end s bytes ok tab out h,
-        sym (count ∙ length-rows (body s) 0 (afterAtoms (body s))),
-        most,
-        record { words = refl; placed = held-form k h .holds .placed },
-        most,
+        sym count,
+        record {
+          width = parts .0 .width-le;
+          atoms-ok = parts .1 .atoms;
+          ends = copied-end s bytes ok tab out h;
+          few = omega (arith, count, most);
+          clear = clear;
+          room = record { words = refl; placed = held-form k h .holds .placed };
+          made-few = most;
+        },
       )
 
 -- and at the end there is room for all terms
@@ -120,25 +123,28 @@ first-same s = record { count = s .count; are = s .are; long = refl }
 
 -- ---- the bases, as the code finds them
 
-module _ (only : Tree → Bool) (w : ℕ) (f views bases : List ℕ) (rows : List Row) (n count : ℕ) (e : n ≡ length rows)
-    (h : Views only w f views rows) (s : FirstAre (firstRows f views n) bases bases count) where
+module _ {only : Tree → Bool} {w : ℕ} {f views bases : List ℕ} {n count : ℕ}
+    (h : BasesFound only w f views bases n count) where
+  abbrev rows : List Row
+  rows = rowsOf 0 f (afterAtoms f)
+
   pub readable-at : Readable f views n
-  readable-at = rw e (readable h)
+  readable-at = rw (h .number) (readable (h .viewed))
 
   pub count-few : count ≤ n
-  count-few = omega (arith, s .count, first-rows f views n .few)
+  count-few = omega (arith, h .first .count, first-rows f views n .few)
 
   pub count-room : count ≤ length bases
-  count-room = omega (arith, s .count, ap length (s .are), length-take count bases)
+  count-room = omega (arith, h .first .count, ap length (h .first .are), length-take count bases)
 
-  found : FirstAre (firstRows f views (length rows)) bases bases count
-  found = rw e at s
+  first-found : FirstAre (firstRows f views (length rows)) bases bases count
+  first-found = rw (h .number) at (h .first)
 
   pub next-at : (k : ℕ) → k < count → NextBasis only w f views rows k (getD bases k 0)
-  next-at k lt = next-basis only w f views rows h found k lt
+  next-at k lt = next-basis only w f views rows (h .viewed) first-found k lt
 
   pub end-at : (k : ℕ) → count ≤ k → drop k (basesOf only w rows []) ≡ []
-  end-at k le = bases-end only w f views rows h found k le
+  end-at k le = bases-end only w f views rows (h .viewed) first-found k le
 
   -- the group of a basis
   pub group-at : (k : ℕ) → k < count
@@ -147,9 +153,61 @@ module _ (only : Tree → Bool) (w : ℕ) (f views bases : List ℕ) (rows : Lis
   group-at k lt =
       let x : ℕ = getD bases k 0 in
       let own : Basis w (viewAt views x .hash) (basisBytes f (viewAt views x)) = next-at k lt .group .basis in
-      ap (gathered f views (viewAt views x .hash) (basisBytes f (viewAt views x))) e
-      ∙ gather-group f views (viewAt views x .hash) (basisBytes f (viewAt views x)) only w rows h own
+      ap (gathered f views (viewAt views x .hash) (basisBytes f (viewAt views x))) (h .number)
+      ∙ gather-group f views (viewAt views x .hash) (basisBytes f (viewAt views x)) only w rows (h .viewed) own
 
 pub few-entries : (f views : List ℕ) (hash : ℕ) (b : List ℕ) (n : ℕ) {g : Group} → g ≡ gathered f views hash b n → n ≤ 256
     → g .len ≤ 256
 few-entries f views hash b n e h = omega (arith, ap (λ (k : Group). k .len) e, len-gathered f views hash b n)
+
+-- ---- what is asked on the way down
+
+pub form-fewer : {w limit : ℕ} {f : List ℕ} {terms : ℕ} {coeffs made out : List ℕ}
+    → FormReady w limit f terms coeffs made out → {n : ℕ} → atomCount f ≤ n → FormReady w n f terms coeffs made out
+form-fewer h le =
+    record {
+      width = h .width;
+      atoms-ok = h .atoms-ok;
+      ends = h .ends;
+      few = le;
+      clear = h .clear;
+      room = h .room;
+      made-few = h .made-few;
+    }
+
+pub rows-views : {w : ℕ} {f : List ℕ} {terms : ℕ} {views bases coeffs made out : List ℕ}
+    → RowsReady w f terms views bases coeffs made out → ViewsReady w f terms views coeffs
+rows-views h =
+    record {
+      width = h .form .width;
+      atoms-ok = h .form .atoms-ok;
+      ends = h .form .ends;
+      views-room = h .views-room;
+      coeffs-room = omega (arith, h .form .few, ap length (h .form .clear) ∙ length-padded 256 [] (omega arith));
+    }
+
+-- row i of the bases, with a table that some rows were added to
+pub all-at : {only : Tree → Bool} {w : ℕ} {f views bases : List ℕ} {n count : ℕ} {made out : List ℕ}
+    → AllReady only w f views bases n count made out → (i : ℕ) → i < count
+    → {k : ℕ} {made′ out′ : List ℕ} → Room made′ out′ → getD made′ 4 0 + k < 2 ^ 64
+    → AtReady w k f views (getD bases i 0) n made′ out′
+all-at h i lt room more =
+    let next = next-at (h .found) i lt in
+    record {
+      width = h .width;
+      readable = readable-at (h .found);
+      few = h .found .few;
+      within = omega (arith, next .below, h .found .number);
+      in-group = next .group;
+      room = room;
+      more = more;
+    }
+
+pub at-group : {w k : ℕ} {f views : List ℕ} {x n : ℕ} {made out : List ℕ} → AtReady w k f views x n made out
+    → GroupReady w k (viewAt views x .hash) (basisBytes f (viewAt views x)) f views n made out
+at-group h =
+    record {
+      makes = record { width = h .width; basis = h .in-group .basis; room = h .room; more = h .more };
+      readable = h .readable;
+      few = h .few;
+    }

@@ -3,6 +3,7 @@ pub mod Group
 pub mod Steps
 pub mod Collapse
 pub mod Made
+pub mod Ready
 pub mod Pair
 pub mod Bucket
 pub mod Stages

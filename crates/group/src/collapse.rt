@@ -2,14 +2,10 @@
 // with a or b, becomes c * (x & (a | m)) + d * (x & (b | m)).
 use crate::Group;
 use entries::CONSUMED;
-ghost use mathlib.Core.Logic.{_≢_};
-ghost use Prim.Native.Nat.{_+_, _^_, _<_, _≤_};
-ghost use lib.ListN.{getD};
 ghost use Rattle.record.specs.Decode.{decode};
 ghost use Rattle.group.specs.Collapse.{collapseAt};
-ghost use Rattle.made.specs.Made.{Room, Basis};
+ghost use Rattle.group.specs.Ready.{CollapseReady};
 ghost use Rattle.group.specs.Made.{Stepped};
-ghost use Rattle.base.specs.Limits.{groupEntries};
 
 impl Group {
     // Entries i and j take the bits of entry k, each with a new atom; k is consumed.
@@ -24,9 +20,7 @@ impl Group {
         made: &mut [u64],
         out: &mut [u8],
     ) -> Self
-        requires { ⌜ Room (now made) (now out) × Basis w hash (now b)
-            × (getD (now made) 4 0 + 2 < 2 ^ 64) × (w ≤ 64)
-            × (i < groupEntries) × (j < groupEntries) × (k < groupEntries) × (k ≢ i) × (k ≢ j) ⌝ }
+        requires { ⌜ CollapseReady w i j k hash (now b) (now made) (now out) ⌝ }
         ensures { λ r. ⌜ Stepped w 2 (collapseAt w (decode (now (b .entry))) i j k)
             self (now (made .entry)) (now (out .entry)) r (now (made .exit)) (now (out .exit)) ⌝ }
     {

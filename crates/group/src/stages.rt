@@ -1,10 +1,8 @@
 // The steps of refining in stages: a test on lent arrays says whether a stage would change the group,
 // so that the group moves only where it does.
 use crate::Group;
-ghost use Prim.Native.Nat.{_+_, _^_, _<_, _≤_};
-ghost use lib.ListN.{getD};
 ghost use Rattle.record.specs.Decode.{decode};
-ghost use Rattle.made.specs.Made.{Room, Basis};
+ghost use Rattle.group.specs.Ready.{StepReady};
 ghost use Rattle.group.specs.Made.{Stepped};
 ghost use Rattle.group.specs.Stages.{cutAndDrop, mergeAll};
 ghost use Rattle.base.specs.Limits.{groupEntries};
@@ -19,8 +17,7 @@ impl Group {
         made: &mut [u64],
         out: &mut [u8],
     ) -> Self
-        requires { ⌜ Room (now made) (now out) × Basis w hash (now b)
-            × (getD (now made) 4 0 + groupEntries < 2 ^ 64) × (w ≤ 64) × (self .len ≤ groupEntries) ⌝ }
+        requires { ⌜ StepReady w groupEntries hash (now b) self (now made) (now out) ⌝ }
         ensures { λ r. ⌜ Stepped w groupEntries (cutAndDrop w (decode (now (b .entry))))
             self (now (made .entry)) (now (out .entry)) r (now (made .exit)) (now (out .exit)) ⌝ }
     {
@@ -30,8 +27,7 @@ impl Group {
 
     // Entries joined, by coefficient and by pairs; then again where coefficients became 2^w - 1.
     pub fn merge_all(mut self, b: &[u8], hash: u64, w: u8, made: &mut [u64], out: &mut [u8]) -> Self
-        requires { ⌜ Room (now made) (now out) × Basis w hash (now b)
-            × (getD (now made) 4 0 + 196608 < 2 ^ 64) × (w ≤ 64) × (self .len ≤ groupEntries) ⌝ }
+        requires { ⌜ StepReady w 196608 hash (now b) self (now made) (now out) ⌝ }
         ensures { λ r. ⌜ Stepped w 196608 (mergeAll w (decode (now (b .entry))))
             self (now (made .entry)) (now (out .entry)) r (now (made .exit)) (now (out .exit)) ⌝ }
     {

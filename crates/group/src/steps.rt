@@ -4,19 +4,17 @@ use crate::Group;
 use entries::CONSUMED;
 use entries::single;
 ghost use mathlib.Core.Path.{_≡_};
-ghost use Prim.Native.Nat.{_+_, _^_, _<_, _≤_};
-ghost use lib.ListN.{getD};
+ghost use Prim.Native.Nat.{_≤_};
 ghost use Rattle.record.specs.Decode.{decode};
 ghost use Rattle.group.specs.Steps.{cutMasks, dropZero, toMinusOne};
-ghost use Rattle.made.specs.Made.{Room, Basis};
+ghost use Rattle.group.specs.Ready.{StepReady};
 ghost use Rattle.group.specs.Made.{Stepped};
 ghost use Rattle.base.specs.Limits.{groupEntries};
 
 impl Group {
     // Each mask is cut to the bits that count; a cut mask gets a new atom.
     pub fn cut_masks(mut self, b: &[u8], hash: u64, w: u8, made: &mut [u64], out: &mut [u8]) -> Self
-        requires { ⌜ Room (now made) (now out) × Basis w hash (now b)
-            × (getD (now made) 4 0 + groupEntries < 2 ^ 64) × (w ≤ 64) × (self .len ≤ groupEntries) ⌝ }
+        requires { ⌜ StepReady w groupEntries hash (now b) self (now made) (now out) ⌝ }
         ensures { λ r. ⌜ Stepped w groupEntries (cutMasks w (decode (now (b .entry))))
             self (now (made .entry)) (now (out .entry)) r (now (made .exit)) (now (out .exit)) ⌝ }
     {

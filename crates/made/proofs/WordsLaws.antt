@@ -22,7 +22,7 @@ use Rattle.atom_table.specs.declared.table.Table.{Table}
 use Rattle.semilinear.specs.Form.{Row, atomsBytes, fitsTable}
 use Rattle.made.specs.Rows.{createRow, maskedTree, createMasked}
 use Rattle.atom_table.specs.Table.{Placed, Holds, Clean, Store, storeOf, atomSpan, fullTable, moreAtoms, createAtom}
-use Rattle.made.specs.Made.{tableOf, flagOf, wordsOf, Room, Later, Held, Grew, Basis}
+use Rattle.made.specs.Made.{tableOf, flagOf, wordsOf, Room, Later, Held, Grew, Basis, Makes}
 use Rattle.atom_table.proofs.TableLaws.{created, create-cases, room-atom, placed-create, clean-create}
 use Rattle.atom_table.proofs.HoldsLaws.{holds-create, full-holds, padded-holds}
 
@@ -285,3 +285,16 @@ module _ (w : ℕ) (made out : List ℕ) (l : List Row) (h : Held w made out l) 
   pub held-bytes : (getD made 3 0 ≡ 1 → ⊥) → out ≡ padded (length out) (atomsBytes w l)
   unfolding tableOf
   held-bytes n = padded-holds w (tableOf made) out l (h .holds) (h .clean) (ne-eqb (getD made 3 0) 1 n)
+
+-- ---- what is asked of a step
+
+-- where n atoms can be made, fewer can, also after rows were added
+module _ {w n hash : ℕ} {b made out : List ℕ} (h : Makes w n hash b made out) where
+  pub makes-fewer : {m : ℕ} → m ≤ n → Makes w m hash b made out
+  makes-fewer le =
+      record { width = h .width; basis = h .basis; room = h .room; more = omega (arith, h .more, le) }
+
+  pub makes-later : {m : ℕ} {made′ out′ : List ℕ} → Room made′ out′ → getD made′ 4 0 + m ≤ getD made 4 0 + n
+      → Makes w m hash b made′ out′
+  makes-later room le =
+      record { width = h .width; basis = h .basis; room = room; more = omega (arith, h .more, le) }

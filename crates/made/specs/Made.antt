@@ -1,6 +1,6 @@
 -- The atom table of a pass in lent words, beside the lent bytes that hold its atoms. The rows of the table without
 -- limits stand in no word: what is done is said for all rows that the words and bytes stand for.
-use Prim.Native.Nat.{ℕ, _+_, _-_, _≤_}
+use Prim.Native.Nat.{ℕ, _+_, _*_, _^_, _<_, _≤_}
 use mathlib.Core.Path.{_≡_}
 use mathlib.Core.List.{List, [], _∷_}
 use mathlib.Core.Bool.{Bool, true, false}
@@ -12,6 +12,7 @@ use Rattle.expr.specs.Hash.{structuralHash}
 use Rattle.atom_table.specs.declared.table.Table.{Table}
 use Rattle.semilinear.specs.Form.{Row}
 use Rattle.atom_table.specs.Table.{Placed, Holds, Clean}
+use Rattle.base.specs.Limits.{recordLength}
 
 -- ---- the words: place, count, records, 1 where full, the rows of a table without limits, the constant
 
@@ -58,3 +59,18 @@ pub record Basis (w hash : ℕ) (b : List ℕ) : Type 0 where
   pub same : encode w (decode b) ≡ b
   pub encodable : Encodable (decode b)
   pub hashed : hash ≡ structuralHash (decode b)
+
+-- ---- what is asked
+
+-- n atoms over the basis b can be made: there is room for them, and their numbers are words
+pub record Makes (w n hash : ℕ) (b made out : List ℕ) : Type 0 where
+  pub width : w ≤ 64
+  pub basis : Basis w hash b
+  pub room : Room made out
+  pub more : getD made 4 0 + n < 2 ^ 64
+
+-- an atom of `size` tree records, the tree b and two more, has room in out from index `at` on
+pub record AtomFits (at size : ℕ) (b out : List ℕ) : Type 0 where
+  pub inside : at + 48 + length b ≤ length out
+  pub size-lt : size < 65536
+  pub size-is : size * recordLength ≡ length b + 32

@@ -4,7 +4,7 @@ use atom_table::table;
 use atom_table::table::Table;
 use base::limits;
 ghost use mathlib.Core.Path.{_≡_};
-ghost use Prim.Native.Nat.{_+_, _*_, _^_, _<_, _≤_};
+ghost use Prim.Native.Nat.{_+_, _^_, _<_};
 ghost use lib.ListN.{length, getD};
 ghost use Rattle.record.specs.Tree.{encode};
 ghost use Rattle.record.specs.Tree.Tree.{Constant, Binary};
@@ -13,8 +13,7 @@ ghost use Rattle.record.specs.Decode.{decode};
 ghost use Rattle.semilinear.specs.Form.{andFamily};
 ghost use Rattle.atom_table.specs.Table.{Placed, storeOf, atomSpan, createAtom};
 ghost use Rattle.made.specs.Rows.{createMasked};
-ghost use Rattle.made.specs.Made.{tableOf, flagOf, wordsOf, Room, Grew, Basis};
-ghost use Rattle.base.specs.Limits.{recordLength};
+ghost use Rattle.made.specs.Made.{tableOf, flagOf, wordsOf, Grew, Basis, Makes, AtomFits};
 
 // The table that the words say.
 pub fn load(made: &[u64]) -> Table
@@ -56,8 +55,7 @@ pub fn store(made: &mut [u64], tab: Table)
 // Puts the atom of the And of the basis b and the literal m into out from index `at` on; it has
 // `size` tree records.
 fn put_masked(out: &mut [u8], at: usize, b: &[u8], m: u64, size: u64, hash: u64, w: u8)
-    requires { ⌜ (at + 48 + length (now b) ≤ length (now out)) × Basis w hash (now b)
-        × (size < 65536) × (size * recordLength ≡ length (now b) + 32) ⌝ }
+    requires { ⌜ AtomFits at size (now b) (now out) × Basis w hash (now b) ⌝ }
     ensures { λ _. ⌜ now (out .exit) ≡ put (now (out .entry)) at
         (atomSpan w andFamily (encode w (Binary 4 (decode (now (b .entry))) (Constant m)))) ⌝ }
 {
@@ -108,8 +106,7 @@ fn create_joined(tab: Table, out: &mut [u8], b: &[u8], m: u64, hash: u64, w: u8)
 
 // Appends basis & mask, or the basis alone under the full mask.
 pub fn create_masked(made: &mut [u64], out: &mut [u8], b: &[u8], hash: u64, mask: u64, w: u8)
-    requires { ⌜ Room (now made) (now out) × Basis w hash (now b)
-        × (getD (now made) 4 0 + 1 < 2 ^ 64) × (w ≤ 64) ⌝ }
+    requires { ⌜ Makes w 1 hash (now b) (now made) (now out) ⌝ }
     ensures { λ _. ⌜ Grew w 1 (createMasked w (decode (now (b .entry))) mask)
         (now (made .entry)) (now (out .entry)) (now (made .exit)) (now (out .exit)) ⌝ }
 {

@@ -14,12 +14,18 @@ use Rattle.semilinear.specs.Form.{xorFamily, Row}
 use Rattle.group.specs.declared.Group.{Group}
 use Rattle.group.specs.Group.{at, putEntry, consumed}
 use Rattle.made.specs.Rows.{createRow}
-use Rattle.made.specs.Made.{tableOf, Room, Held, Grew}
+use Rattle.made.specs.Made.{tableOf, Room, Held, Grew, Makes}
 use Rattle.group.proofs.DropLaws.{mk, mk-eq}
 use Rattle.structure_laws.specs.RecoverStructure.{Recovery, rowWith, withBare, recoverXor, eliminateMask}
-use Rattle.recover_pair.specs.Recovering.{xorTree, StandsRecovery, Turned, recovery}
+use Rattle.recover_pair.specs.Recovering.{xorTree, XorMakes, StandsRecovery, Turned, recovery}
 use Rattle.bare.specs.Showing.{BareFound}
 use Rattle.bare.proofs.ConstantLaws.{word-kept, room-kept, held-kept}
+
+-- ---- what a step asks
+
+pub xor-makes : {w hash : ℕ} {b made out : List ℕ} → Makes w 1 hash b made out → XorMakes w b made out
+xor-makes h =
+    record { same = h .basis .same; encodable = h .basis .encodable; room = h .room; more = h .more }
 
 -- ---- steps
 

@@ -2,20 +2,22 @@
 -- makes of the group, of the words of the table with the constant, and of the bytes. Where the table is full the rows
 -- pass a limit, and nothing else is said of them (bare/specs/Showing.antt).
 use mathlib.Core.Path.{_≡_}
-use Prim.Native.Nat.{ℕ, _+_, _-_, _≤_, _<_}
+use mathlib.Core.Logic.{_≢_}
+use Prim.Native.Nat.{ℕ, _+_, _-_, _^_, _≤_, _<_}
 use mathlib.Core.List.{List, [], _∷_}
 use mathlib.Core.Bool.{Bool, true, false, _&&_}
 use lib.ListN.{length, getD}
 use lib.Dec.{eqb}
 use Rattle.base.specs.Loop.{firstIn}
-use Rattle.record.specs.Tree.{Tree}
+use Rattle.record.specs.Tree.{Tree, encode, Encodable}
 use Rattle.record.specs.Tree.Tree.{Constant, Binary}
+use Rattle.record.specs.Decode.{decode}
 use Rattle.semilinear.specs.Form.{Row, Form, fitsTable}
 use Rattle.group.specs.declared.Group.{Group}
 use Rattle.entries.specs.Marks.{liveMark}
 use Rattle.group.specs.Group.{emptyGroup, groupOf, settle}
 use Rattle.views.specs.Grouping.{anyBasis, basesOf, ungrouped}
-use Rattle.made.specs.Made.{tableOf, Room, Held}
+use Rattle.made.specs.Made.{tableOf, Room, Held, Makes}
 use Rattle.made.specs.Shown.{Shown}
 use Rattle.group.specs.Fair.{Fair}
 use Rattle.structure_laws.specs.RecoverStructure.{Recovery, recoverGroup, recoverAll}
@@ -38,6 +40,38 @@ partnerIn m masks marks a n = firstIn (partnerFits m masks marks) a n
 -- no entry, of n, has a partner
 abbrev pub NoPartner : ℕ → List ℕ → List ℕ → ℕ → Type 0
 NoPartner full masks marks n = (i : ℕ) → i < n → n ≤ partnerIn (full - getD masks i 0) masks marks (i + 1) n
+
+-- ---- what a step asks
+
+-- the Xor of a literal and the tree of the bytes b can be made
+pub record XorMakes (w : ℕ) (b made out : List ℕ) : Type 0 where
+  pub same : encode w (decode b) ≡ b
+  pub encodable : Encodable (decode b)
+  pub room : Room made out
+  pub more : getD made 4 0 + 1 < 2 ^ 64
+
+-- the same for entry src, which consumes entry dst
+pub record XorReady (w src dst : ℕ) (b made out : List ℕ) : Type 0 where
+  pub width : w ≤ 64
+  pub makes : XorMakes w b made out
+  pub src-lt : src < groupEntries
+  pub dst-lt : dst < groupEntries
+  pub apart : dst ≢ src
+
+-- an atom over the basis b can be made for entries i and j, in a table that is not full
+pub record PairReady (w i j hash : ℕ) (b made out : List ℕ) : Type 0 where
+  pub makes : Makes w 1 hash b made out
+  pub i-lt : i < groupEntries
+  pub j-lt : j < groupEntries
+  pub apart : j ≢ i
+  pub not-full : tableOf made .full ≡ false
+
+-- the same for entry i of the group g
+pub record EntryReady (w i hash : ℕ) (b : List ℕ) (g : Group) (made out : List ℕ) : Type 0 where
+  pub makes : Makes w 1 hash b made out
+  pub within : i < g .len
+  pub few : g .len ≤ groupEntries
+  pub not-full : tableOf made .full ≡ false
 
 -- ---- steps of a group beside the table and the constant
 

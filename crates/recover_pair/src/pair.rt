@@ -4,19 +4,17 @@ use bare::constant;
 use base::limits;
 use group::Group;
 ghost use mathlib.Core.Path.{_≡_};
-ghost use mathlib.Core.Logic.{_≢_};
 ghost use mathlib.Core.Bool.{false, _&&_};
-ghost use Prim.Native.Nat.{_+_, _-_, _^_, _<_, _≤_};
-ghost use lib.ListN.{getD};
+ghost use Prim.Native.Nat.{_-_, _≤_};
 ghost use lib.Dec.{eqb, leb};
-ghost use Rattle.record.specs.Tree.{encode, Encodable};
 ghost use Rattle.record.specs.Decode.{decode};
 ghost use Rattle.entries.specs.Marks.{liveMark};
-ghost use Rattle.made.specs.Made.{tableOf, Room, Basis};
+ghost use Rattle.group.specs.Ready.{StepReady};
 ghost use Rattle.structure_laws.specs.RecoverStructure.{recoverXor, eliminateMask};
 ghost use Rattle.structure_laws.specs.RecoverStructure.{countOnes, recoverPair};
 ghost use Rattle.structure_laws.specs.RecoverStructure.{recoverAt, recoverGroup};
 ghost use Rattle.recover_pair.specs.Recovering.{partnerIn, NoPartner, Turned, Recovered};
+ghost use Rattle.recover_pair.specs.Recovering.{XorReady, PairReady, EntryReady};
 ghost use Rattle.base.specs.Limits.{groupEntries};
 
 // What the mask `full` has beside m; 0 where m is above it.
@@ -91,9 +89,7 @@ fn recover_xor(
     made: &mut [u64],
     out: &mut [u8],
 ) -> Group
-    requires { ⌜ Room (now made) (now out) × (encode w (decode (now b)) ≡ now b)
-        × Encodable (decode (now b)) × (getD (now made) 4 0 + 1 < 2 ^ 64) × (w ≤ 64)
-        × (src < groupEntries) × (dst < groupEntries) × (dst ≢ src) ⌝ }
+    requires { ⌜ XorReady w src dst (now b) (now made) (now out) ⌝ }
     ensures { λ r. ⌜ Turned w 1 (recoverXor w (decode (now (b .entry))) src dst)
         group (now (made .entry)) (now (out .entry)) r (now (made .exit)) (now (out .exit)) ⌝ }
 {
@@ -123,9 +119,7 @@ fn eliminate_mask(
     made: &mut [u64],
     out: &mut [u8],
 ) -> Group
-    requires { ⌜ Room (now made) (now out) × Basis w hash (now b)
-        × (getD (now made) 4 0 + 1 < 2 ^ 64) × (w ≤ 64) × (i < groupEntries) × (j < groupEntries) × (j ≢ i)
-        × (tableOf (now made) .full ≡ false) ⌝ }
+    requires { ⌜ PairReady w i j hash (now b) (now made) (now out) ⌝ }
     ensures { λ r. ⌜ Turned w 1 (eliminateMask w (decode (now (b .entry))) diff i j)
         group (now (made .entry)) (now (out .entry)) r (now (made .exit)) (now (out .exit)) ⌝ }
 {
@@ -156,9 +150,7 @@ fn recover_pair(
     made: &mut [u64],
     out: &mut [u8],
 ) -> Group
-    requires { ⌜ Room (now made) (now out) × Basis w hash (now b)
-        × (getD (now made) 4 0 + 1 < 2 ^ 64) × (w ≤ 64) × (i < groupEntries) × (j < groupEntries) × (j ≢ i)
-        × (tableOf (now made) .full ≡ false) ⌝ }
+    requires { ⌜ PairReady w i j hash (now b) (now made) (now out) ⌝ }
     ensures { λ r. ⌜ Turned w 1 (recoverPair w (decode (now (b .entry))) i j)
         g (now (made .entry)) (now (out .entry)) r (now (made .exit)) (now (out .exit)) ⌝ }
 {
@@ -187,9 +179,7 @@ fn recover_entry(
     made: &mut [u64],
     out: &mut [u8],
 ) -> Group
-    requires { ⌜ Room (now made) (now out) × Basis w hash (now b)
-        × (getD (now made) 4 0 + 1 < 2 ^ 64) × (w ≤ 64) × (i < g .len) × (g .len ≤ groupEntries)
-        × (tableOf (now made) .full ≡ false) ⌝ }
+    requires { ⌜ EntryReady w i hash (now b) g (now made) (now out) ⌝ }
     ensures { λ r. ⌜ Turned w 1 (recoverAt w (decode (now (b .entry))) i)
         g (now (made .entry)) (now (out .entry)) r (now (made .exit)) (now (out .exit)) ⌝ }
 {
@@ -218,8 +208,7 @@ pub fn recover_entries(
     made: &mut [u64],
     out: &mut [u8],
 ) -> Group
-    requires { ⌜ Room (now made) (now out) × Basis w hash (now b)
-        × (getD (now made) 4 0 + groupEntries < 2 ^ 64) × (w ≤ 64) × (group .len ≤ groupEntries) ⌝ }
+    requires { ⌜ StepReady w groupEntries hash (now b) group (now made) (now out) ⌝ }
     ensures { λ r. ⌜ Recovered w groupEntries (recoverGroup w (decode (now (b .entry))))
         group (now (made .entry)) (now (out .entry)) r (now (made .exit)) (now (out .exit)) ⌝ }
 {

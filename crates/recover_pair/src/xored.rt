@@ -3,17 +3,16 @@ use atom_table::table;
 use atom_table::table::Table;
 use base::limits;
 ghost use mathlib.Core.Path.{_≡_};
-ghost use Prim.Native.Nat.{_+_, _*_, _^_, _<_, _≤_};
-ghost use lib.ListN.{length, getD, set};
-ghost use Rattle.arith.specs.Width.{modAdd};
+ghost use Prim.Native.Nat.{_+_, _*_, _<_, _≤_};
+ghost use lib.ListN.{length};
 ghost use Rattle.record.specs.Tree.{encode, Encodable};
 ghost use Rattle.base.specs.Put.{put};
 ghost use Rattle.record.specs.Decode.{decode};
 ghost use Rattle.semilinear.specs.Form.{xorFamily};
 ghost use Rattle.atom_table.specs.Table.{Placed, storeOf, atomSpan, createAtom};
 ghost use Rattle.made.specs.Rows.{createRow};
-ghost use Rattle.made.specs.Made.{Room, Grew};
-ghost use Rattle.recover_pair.specs.Recovering.{xorTree};
+ghost use Rattle.made.specs.Made.{Grew, AtomFits};
+ghost use Rattle.recover_pair.specs.Recovering.{xorTree, XorMakes};
 ghost use Rattle.base.specs.Limits.{recordLength};
 
 // Puts the Xor of the literal m and the tree b into out from index `at` on; it has `size` records.
@@ -31,8 +30,8 @@ fn put_tree(out: &mut [u8], at: usize, b: &[u8], m: u64, size: u64, w: u8)
 
 // The same with the atom's head before it.
 fn put_xored(out: &mut [u8], at: usize, b: &[u8], m: u64, size: u64, w: u8)
-    requires { ⌜ (at + 48 + length (now b) ≤ length (now out)) × (encode w (decode (now b)) ≡ now b)
-        × Encodable (decode (now b)) × (size < 65536) × (size * recordLength ≡ length (now b) + 32) ⌝ }
+    requires { ⌜ AtomFits at size (now b) (now out) × (encode w (decode (now b)) ≡ now b)
+        × Encodable (decode (now b)) ⌝ }
     ensures { λ _. ⌜ now (out .exit) ≡ put (now (out .entry)) at
         (atomSpan w xorFamily (encode w (xorTree m (decode (now (b .entry)))))) ⌝ }
 {
@@ -75,8 +74,7 @@ fn join_xored(tab: Table, out: &mut [u8], b: &[u8], m: u64, w: u8) -> Table
 
 // The same among the words of a pass's table.
 pub fn create_xored(made: &mut [u64], out: &mut [u8], b: &[u8], m: u64, w: u8)
-    requires { ⌜ Room (now made) (now out) × (encode w (decode (now b)) ≡ now b)
-        × Encodable (decode (now b)) × (getD (now made) 4 0 + 1 < 2 ^ 64) ⌝ }
+    requires { ⌜ XorMakes w (now b) (now made) (now out) ⌝ }
     ensures { λ _. ⌜ Grew w 1 (createRow xorFamily (xorTree m (decode (now (b .entry)))))
         (now (made .entry)) (now (out .entry)) (now (made .exit)) (now (out .exit)) ⌝ }
 {

@@ -1,14 +1,35 @@
--- What one turn of a walk over atoms and terms, side by side, does: of the walk that adds and of the one that copies.
+-- What one turn of a walk over atoms and terms, side by side, asks and does: of the walk that adds and of the one that
+-- copies.
 use mathlib.Core.Path.{_≡_}
-use Prim.Native.Nat.{ℕ, _+_, _*_, _%_, _^_, _≤_}
+use Prim.Native.Nat.{ℕ, _+_, _*_, _%_, _^_, _<_, _≤_}
+use mathlib.Core.Bool.{true}
 use mathlib.Core.List.{List}
 use lib.ListN.{length, drop}
 use Rattle.record.specs.Decode.{decode}
 use Rattle.expr.specs.Value.{value}
 use Rattle.semilinear_value.specs.declared.Running.{Running}
-use Rattle.semilinear.specs.Items.{treeSpan, afterAtom}
+use Rattle.semilinear.specs.Items.{isAtom, treeSpan, afterAtom}
+use Rattle.semilinear.specs.Valid.{atomsOk}
 use Rattle.semilinear.specs.DecodeForm.{coeffAt, afterTerm}
 use Rattle.base.specs.Limits.{recordLength}
+
+-- ---- what is asked
+
+-- in f the next atom stands at `at`, the atoms from it on as they must be, and the next term, if any, at `next`
+pub record AtRow (w : ℕ) (f : List ℕ) (at next : ℕ) : Type 0 where
+  pub width : w ≤ 64
+  pub inside : at ≤ length f
+  pub terms-inside : next ≤ length f
+  pub atom : isAtom (drop at f) ≡ true
+  pub atoms-ok : atomsOk w (drop at f) ≡ true
+
+-- x is before an atom, and its sum is one of w bits
+pub record AddReady (w : ℕ) (f : List ℕ) (x : Running) : Type 0 where
+  pub row : AtRow w f (x .at) (x .next)
+  pub number-le : x .number ≤ x .at
+  pub fits : x .sum < 2 ^ w
+
+-- ---- what is done
 
 -- the atom at `at` is passed, and its term where it has one: the places and the number after it
 pub record RowPassed (f : List ℕ) (at next number at′ next′ number′ : ℕ) : Type 0 where

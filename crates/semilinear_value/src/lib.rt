@@ -5,13 +5,12 @@ use semilinear::scan;
 ghost use mathlib.Core.Path.{_≡_};
 ghost use mathlib.Core.Bool.{true};
 ghost use Prim.Native.Nat.{ℕ, _+_, _%_, _^_, _<_, _≤_};
-ghost use lib.ListN.{length, drop};
 ghost use Rattle.semilinear.specs.Form.{sumRows};
-ghost use Rattle.semilinear.specs.Items.{isAtom, afterAtoms};
+ghost use Rattle.semilinear.specs.Items.{afterAtoms};
 ghost use Rattle.semilinear.specs.Valid.{atomsOk};
 ghost use Rattle.semilinear.specs.DecodeForm.{rowsOf};
 ghost use Rattle.semilinear.specs.Scan.{AtomsEnd};
-ghost use Rattle.semilinear_value.specs.Running.{RowAdded};
+ghost use Rattle.semilinear_value.specs.Running.{AddReady, RowAdded};
 ghost use Rattle.semilinear_value.specs.Value.{IsSemilinearValue};
 
 // A sum on its way: the places of the next atom and the next term, the atom's number, and the sum so far.
@@ -25,9 +24,7 @@ pub struct Running {
 impl Running {
     // The atom at `at` times its coefficient is added.
     fn add_row(self, f: &[u8], vars: &[u64], w: u32) -> Self
-        requires { ⌜ (w ≤ 64) × (self .at ≤ length (now f)) × (self .next ≤ length (now f))
-            × (self .number ≤ self .at) × (self .sum < 2 ^ w)
-            × (isAtom (drop (self .at) (now f)) ≡ true) × (atomsOk w (drop (self .at) (now f)) ≡ true) ⌝ }
+        requires { ⌜ AddReady w (now f) self ⌝ }
         ensures { λ r. ⌜ RowAdded w (now (vars .entry)) (now (f .entry)) self r ⌝ }
     {
         let at = self.at;

@@ -12,21 +12,18 @@ use views::bases;
 ghost use mathlib.Core.Path.{_≡_};
 ghost use mathlib.Core.Bool.{true, false};
 ghost use mathlib.Core.List.{[]};
-ghost use Prim.Native.Nat.{ℕ, _+_, _*_, _^_, _<_, _≤_};
-ghost use lib.ListN.{length, getD};
+ghost use lib.ListN.{length};
 ghost use Rattle.base.specs.Put.{padded};
 ghost use Rattle.record.specs.Decode.{decode};
 ghost use Rattle.semilinear.specs.Items.{atomCount, afterAtoms};
-ghost use Rattle.semilinear.specs.Valid.{atomsOk, isSemilinear};
+ghost use Rattle.semilinear.specs.Valid.{isSemilinear};
 ghost use Rattle.semilinear.specs.DecodeForm.{rowsOf, readForm};
 ghost use Rattle.semilinear.specs.Answers.{GivesForm};
 ghost use Rattle.semilinear.specs.PassOutcome.{limitOutcome};
-ghost use Rattle.semilinear.specs.Scan.{AtomsEnd};
-ghost use Rattle.made.specs.Made.{Room, Basis};
 ghost use Rattle.views.specs.Grouping.{anyBasis, basesOf};
-ghost use Rattle.views.specs.Views.{viewAt, basisBytes, InGroup, Views, Readable};
-ghost use Rattle.views.specs.Bases.{firstRows, FirstAre};
+ghost use Rattle.views.specs.Views.{viewAt, basisBytes};
 ghost use Rattle.group.specs.Gathered.{gathered};
+ghost use Rattle.group.specs.Ready.{FormReady, RowsReady, AllReady, AtReady, GroupReady};
 ghost use Rattle.term_refiner.specs.RefineTerms.{refineForm, refineTerms};
 ghost use Rattle.term_refiner.specs.Refining.{GroupRefined, AllRefined, RowsRefined};
 ghost use Rattle.base.specs.Limits.{atomLimit, formBytes, shortAtoms};
@@ -45,8 +42,7 @@ fn refine_group(
     coeffs: &mut [u64],
     out: &mut [u8],
 )
-    requires { ⌜ Room (now made) (now out) × Readable (now f) (now views) n × (n ≤ atomLimit)
-        × Basis w hash (now b) × (getD (now made) 4 0 + 262144 < 2 ^ 64) × (w ≤ 64) ⌝ }
+    requires { ⌜ GroupReady w 262144 hash (now b) (now f) (now views) n (now made) (now out) ⌝ }
     ensures { λ _. ⌜ GroupRefined w 262144 (decode (now (b .entry)))
         (gathered (now (f .entry)) (now (views .entry)) hash (now (b .entry)) n)
         (now (made .entry)) (now (out .entry)) (now (coeffs .entry))
@@ -79,9 +75,7 @@ fn refine_at(
     coeffs: &mut [u64],
     out: &mut [u8],
 )
-    requires { ⌜ Room (now made) (now out) × Readable (now f) (now views) n × (first < n) × (n ≤ atomLimit)
-        × InGroup w (now f) (viewAt (now views) first)
-        × (getD (now made) 4 0 + 262144 < 2 ^ 64) × (w ≤ 64) ⌝ }
+    requires { ⌜ AtReady w 262144 (now f) (now views) first n (now made) (now out) ⌝ }
     ensures { λ _. ⌜ GroupRefined w 262144
         (decode (basisBytes (now (f .entry)) (viewAt (now (views .entry)) first)))
         (gathered (now (f .entry)) (now (views .entry)) (viewAt (now (views .entry)) first .hash)
@@ -112,10 +106,7 @@ fn refine_all(
     coeffs: &mut [u64],
     out: &mut [u8],
 )
-    requires { ⌜ Room (now made) (now out) × (getD (now made) 4 0 ≤ atomLimit) × (w ≤ 64) × (n ≤ atomLimit)
-        × (n ≡ length (rowsOf 0 (now f) (afterAtoms (now f))))
-        × Views anyBasis w (now f) (now views) (rowsOf 0 (now f) (afterAtoms (now f)))
-        × FirstAre (firstRows (now f) (now views) n) (now bases) (now bases) count ⌝ }
+    requires { ⌜ AllReady anyBasis w (now f) (now views) (now bases) n count (now made) (now out) ⌝ }
     ensures { λ _. ⌜ AllRefined w (rowsOf 0 (now (f .entry)) (afterAtoms (now (f .entry))))
         (basesOf anyBasis w (rowsOf 0 (now (f .entry)) (afterAtoms (now (f .entry)))) [])
         (now (made .entry)) (now (out .entry)) (now (coeffs .entry))
@@ -140,10 +131,7 @@ fn refine_rows(
     coeffs: &mut [u64],
     out: &mut [u8],
 )
-    requires { ⌜ (w ≤ 64) × (atomsOk w (now f) ≡ true) × AtomsEnd (now f) terms
-        × (5 * atomCount (now f) ≤ length (now views)) × (atomCount (now f) ≤ length (now bases))
-        × (atomCount (now f) ≤ atomLimit) × (now coeffs ≡ padded atomLimit [])
-        × Room (now made) (now out) × (getD (now made) 4 0 ≤ atomLimit) ⌝ }
+    requires { ⌜ RowsReady w (now f) terms (now views) (now bases) (now coeffs) (now made) (now out) ⌝ }
     ensures { λ _. ⌜ RowsRefined w (rowsOf 0 (now (f .entry)) (afterAtoms (now (f .entry))))
         (now (made .entry)) (now (out .entry)) (now (made .exit)) (now (out .exit)) (now (coeffs .exit)) ⌝ }
 {
@@ -154,9 +142,7 @@ fn refine_rows(
 
 // The same for at most 16 atoms. Most forms are so short, and clearing long arrays costs.
 fn refine_short(f: &[u8], terms: usize, w: u8, made: &mut [u64], coeffs: &mut [u64], out: &mut [u8])
-    requires { ⌜ (w ≤ 64) × (atomsOk w (now f) ≡ true) × AtomsEnd (now f) terms
-        × (atomCount (now f) ≤ shortAtoms) × (now coeffs ≡ padded atomLimit [])
-        × Room (now made) (now out) × (getD (now made) 4 0 ≤ atomLimit) ⌝ }
+    requires { ⌜ FormReady w shortAtoms (now f) terms (now coeffs) (now made) (now out) ⌝ }
     ensures { λ _. ⌜ RowsRefined w (rowsOf 0 (now (f .entry)) (afterAtoms (now (f .entry))))
         (now (made .entry)) (now (out .entry)) (now (made .exit)) (now (out .exit)) (now (coeffs .exit)) ⌝ }
 {
@@ -167,9 +153,7 @@ fn refine_short(f: &[u8], terms: usize, w: u8, made: &mut [u64], coeffs: &mut [u
 
 // The same for at most 256 atoms.
 fn refine_long(f: &[u8], terms: usize, w: u8, made: &mut [u64], coeffs: &mut [u64], out: &mut [u8])
-    requires { ⌜ (w ≤ 64) × (atomsOk w (now f) ≡ true) × AtomsEnd (now f) terms
-        × (atomCount (now f) ≤ atomLimit) × (now coeffs ≡ padded atomLimit [])
-        × Room (now made) (now out) × (getD (now made) 4 0 ≤ atomLimit) ⌝ }
+    requires { ⌜ FormReady w atomLimit (now f) terms (now coeffs) (now made) (now out) ⌝ }
     ensures { λ _. ⌜ RowsRefined w (rowsOf 0 (now (f .entry)) (afterAtoms (now (f .entry))))
         (now (made .entry)) (now (out .entry)) (now (made .exit)) (now (out .exit)) (now (coeffs .exit)) ⌝ }
 {
@@ -188,9 +172,8 @@ fn refine_table(
     coeffs: &mut [u64],
     out: &mut [u8],
 )
-    requires { ⌜ (w ≤ 64) × (atomsOk w (now f) ≡ true) × AtomsEnd (now f) terms
-        × (atomCount (now f) ≡ count) × (count ≤ atomLimit) × (now coeffs ≡ padded atomLimit [])
-        × Room (now made) (now out) × (getD (now made) 4 0 ≤ atomLimit) ⌝ }
+    requires { ⌜ (atomCount (now f) ≡ count)
+        × FormReady w atomLimit (now f) terms (now coeffs) (now made) (now out) ⌝ }
     ensures { λ _. ⌜ RowsRefined w (rowsOf 0 (now (f .entry)) (afterAtoms (now (f .entry))))
         (now (made .entry)) (now (out .entry)) (now (made .exit)) (now (out .exit)) (now (coeffs .exit)) ⌝ }
 {

@@ -13,9 +13,12 @@ use Rattle.record.specs.Tree.{Tree}
 use Rattle.record.specs.Tree.Tree.{Constant}
 use Rattle.record.specs.Decode.{decode}
 use Rattle.semilinear.specs.Form.{Row}
+use Rattle.semilinear.specs.Items.{atomCount}
+use Rattle.semilinear.specs.Valid.{atomsOk}
 use Rattle.semilinear.specs.DecodeForm.{rowAt}
+use Rattle.semilinear.specs.Scan.{AtomsEnd}
 use Rattle.decompose.specs.Decompose.{Decomposed, noBasis, masked}
-use Rattle.semilinear_value.specs.Running.{RowPassed}
+use Rattle.semilinear_value.specs.Running.{AtRow, RowPassed}
 use Rattle.atom_table.specs.Terms.{coeffsOf}
 use Rattle.views.specs.declared.View.{View}
 use Rattle.views.specs.declared.Reading.{Reading}
@@ -84,6 +87,20 @@ pub record Views (only : Tree → Bool) (w : ℕ) (f views : List ℕ) (rows : L
   pub each : (i : ℕ) → i < length rows → Viewed only w f (viewAt views i) (getD rows i blankRow)
 
 -- ---- reading
+
+-- x is before an atom, and there is room for the row's view and coefficient
+pub record ReadReady (w : ℕ) (f : List ℕ) (x : Reading) (views coeffs : List ℕ) : Type 0 where
+  pub row : AtRow w f (x .at) (x .next)
+  pub views-room : 5 * x .number + 5 ≤ length views
+  pub coeffs-room : x .number < length coeffs
+
+-- f is atoms as they must be and, from `terms` on, terms, and there is room for all views and coefficients
+pub record ViewsReady (w : ℕ) (f : List ℕ) (terms : ℕ) (views coeffs : List ℕ) : Type 0 where
+  pub width : w ≤ 64
+  pub atoms-ok : atomsOk w f ≡ true
+  pub ends : AtomsEnd f terms
+  pub views-room : 5 * atomCount f ≤ length views
+  pub coeffs-room : atomCount f ≤ length coeffs
 
 -- y is x after the row at x .at, whose view is put into the words; its coefficient is c where it is in no group
 pub record RowRead (only : Tree → Bool) (w : ℕ) (f : List ℕ) (x y : Reading) (views coeffs views′ coeffs′ : List ℕ)

@@ -6,18 +6,15 @@ pub mod bases;
 use base::limits;
 use semilinear::items;
 ghost use mathlib.Core.Path.{_≡_};
-ghost use mathlib.Core.Bool.{true};
-ghost use Prim.Native.Nat.{_+_, _-_, _*_, _<_, _≤_};
+ghost use Prim.Native.Nat.{_+_, _-_, _*_, _≤_};
 ghost use lib.ListN.{length, take, drop};
 ghost use Rattle.base.specs.Put.{put};
 ghost use Rattle.record.specs.Decode.{decode};
 ghost use Rattle.expr_refusal.specs.Refusal.{treeRefusal};
-ghost use Rattle.semilinear.specs.Items.{isAtom, atomCount, afterAtoms};
-ghost use Rattle.semilinear.specs.Valid.{atomsOk};
+ghost use Rattle.semilinear.specs.Items.{afterAtoms};
 ghost use Rattle.semilinear.specs.DecodeForm.{rowsOf};
-ghost use Rattle.semilinear.specs.Scan.{AtomsEnd};
-ghost use Rattle.views.specs.Views.{onlyOf, viewAt, viewWords, keptOf, ViewsTree, RowRead};
-ghost use Rattle.views.specs.Views.{ViewsRead, Readable, hasBasis};
+ghost use Rattle.views.specs.Views.{onlyOf, viewAt, viewWords, keptOf, ViewsTree, ReadReady};
+ghost use Rattle.views.specs.Views.{RowRead, ViewsReady, ViewsRead, Readable, hasBasis};
 
 pub const VIEW_WORDS: usize = 5;
 
@@ -109,10 +106,7 @@ fn put_view(views: &mut [u64], i: usize, v: View)
 impl Reading {
     // The row of the atom at `at`.
     fn read_row(self, f: &[u8], w: u8, only: bool, views: &mut [u64], coeffs: &mut [u64]) -> Self
-        requires { ⌜ (w ≤ 64) × (self .at ≤ length (now f)) × (self .next ≤ length (now f))
-            × (isAtom (drop (self .at) (now f)) ≡ true)
-            × (atomsOk w (drop (self .at) (now f)) ≡ true)
-            × (5 * self .number + 5 ≤ length (now views)) × (self .number < length (now coeffs)) ⌝ }
+        requires { ⌜ ReadReady w (now f) self (now views) (now coeffs) ⌝ }
         ensures { λ r. ⌜ RowRead (onlyOf only) w (now (f .entry)) self r
             (now (views .entry)) (now (coeffs .entry)) (now (views .exit)) (now (coeffs .exit)) ⌝ }
     {
@@ -154,9 +148,7 @@ pub fn read_views(
     views: &mut [u64],
     coeffs: &mut [u64],
 ) -> usize
-    requires { ⌜ (w ≤ 64) × (atomsOk w (now f) ≡ true) × AtomsEnd (now f) terms
-        × (5 * atomCount (now f) ≤ length (now views))
-        × (atomCount (now f) ≤ length (now coeffs)) ⌝ }
+    requires { ⌜ ViewsReady w (now f) terms (now views) (now coeffs) ⌝ }
     ensures { λ r. ⌜ ViewsRead (onlyOf only) w (now (f .entry))
         (rowsOf 0 (now (f .entry)) (afterAtoms (now (f .entry))))
         (now (coeffs .entry)) (now (views .exit)) (now (coeffs .exit)) r ⌝ }

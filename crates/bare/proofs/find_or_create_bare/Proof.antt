@@ -9,10 +9,10 @@ slice-read-at : tie.Need-slice-read-at
 slice-read-at c = search needs
 
 slice-reshare-prefix-row-with : tie.Need-slice-reshare-prefix-row-with
-slice-reshare-prefix-row-with c = atoms-inside (c .before .before .before .before .pre .0)
+slice-reshare-prefix-row-with c = atoms-inside (c .before .before .before .before .pre .room)
 
 slice-aggregate-row-with : tie.Need-slice-aggregate-row-with
-slice-aggregate-row-with c = taken-atoms (c .before .before .before .before .before .pre .0)
+slice-aggregate-row-with c = taken-atoms (c .before .before .before .before .before .pre .room)
 
 row-with-requires : tie.Need-row-with-requires
 row-with-requires c κs = search needs
@@ -26,7 +26,7 @@ same-length c = search needs
 returns : tie.Need-returns
 returns c =
     let pre = c .before .before .before .before .before .before .before .before .pre in
-    bare-found (pre .1) (omega arith) (c .before .before .row-with .ensures) (pre .0) (c .if1 .taken)
+    bare-found (pre .basis) (omega arith) (c .before .before .row-with .ensures) (pre .room) (c .if1 .taken)
 
 create-row-requires : tie.Need-create-row-requires
 create-row-requires c κs = search needs
@@ -40,7 +40,7 @@ same-length-3 c = search needs
 returns-2 : tie.Need-returns-2
 returns-2 c =
     let pre = c .before .before .before .before .before .before .before .before .before .before .before .before .before .before .before .pre in
-    bare-created (pre .1) (omega arith) (c .before .before .before .before .before .before .before .before .before .row-with .ensures)
+    bare-created (pre .basis) (omega arith) (c .before .before .before .before .before .before .before .before .before .row-with .ensures)
     (omega (arith, c .before .before .before .before .before .before .before .if1 .left)) (c .before .before .before .before .create-row .ensures)
 
 pub find-or-create-bare-spec : {M : Type 1} → statement M

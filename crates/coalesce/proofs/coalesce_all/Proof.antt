@@ -8,7 +8,7 @@ use lib.ListN.{take}
 use Rattle.semilinear.specs.Items.{afterAtoms}
 use Rattle.semilinear.specs.DecodeForm.{rowsOf}
 use Rattle.views.specs.Grouping.{variableBasis, basesOf}
-use Rattle.group.proofs.PassLaws.{readable-at, count-few, count-room, next-at, end-at, group-at}
+use Rattle.group.proofs.PassLaws.{count-few, count-room, next-at, end-at, group-at, all-at}
 use Rattle.structure_laws.specs.CoalesceTerms.{coalesceAll}
 use Rattle.coalesce.specs.Coalescing.{Coalesced}
 use Rattle.coalesce.proofs.CoalesceTurnLaws.{all-none, all-next, all-done}
@@ -29,33 +29,26 @@ loop-holds : tie.Need-loop-holds Inv-loop μ-loop
 loop-holds c =
     let at-start = c .before .before .before .before .before .before in
     let rows = rowsOf 0 (now (at-start .args .f)) (afterAtoms (now (at-start .args .f))) in
-    (omega arith, all-none _ (at-start .pre .2) rows (basesOf variableBasis (at-start .args .w) rows []) _ (at-start .pre .0))
+    (omega arith, all-none _ (at-start .pre .width) rows (basesOf variableBasis (at-start .args .w) rows []) _ (at-start .pre .room))
 
 mul-first : tie.Need-mul-first Inv-loop μ-loop
 mul-first c =
     let pre = c .before .before .before .before .before .before .before .before .pre in
-    omega (arith, c .before .loop .inv .0, count-few _ _ _ _ _ _ _ _ (pre .4) (pre .5) (pre .6), pre .3)
+    omega (arith, c .before .loop .inv .0, count-few (pre .found), pre .found .few)
 
 shared-slice-read-first : tie.Need-shared-slice-read-first Inv-loop μ-loop
 shared-slice-read-first c =
     let pre = c .before .before .before .before .before .before .before .before .before .pre in
-    omega (arith, c .before .loop-test .taken, count-room _ _ _ _ _ _ _ _ (pre .4) (pre .5) (pre .6))
+    omega (arith, c .before .loop-test .taken, count-room (pre .found))
 
 coalesce-at-requires : tie.Need-coalesce-at-requires Inv-loop μ-loop
 coalesce-at-requires c κs =
     let pre = c .before .before .before .before .before .before .before .before .before .before .before .before .pre in
     let going = c .before .before .before .before .before .loop .inv .1 in
     let less = c .before .before .before .before .loop-test .taken in
-    let few = count-few _ _ _ _ _ _ _ _ (pre .4) (pre .5) (pre .6) in
-    let next = next-at _ _ _ _ _ _ _ _ (pre .4) (pre .5) (pre .6) (c .before .before .before .before .before .loop .k) less in (
-      going .room,
-      readable-at _ _ _ _ _ _ _ _ (pre .4) (pre .5) (pre .6),
-      omega (arith, next .below, pre .4),
-      pre .3,
-      next .group,
-      omega (arith, going .rows-le, pre .1, less, few, pre .3),
-      pre .2,
-    )
+    let few = count-few (pre .found) in
+    all-at pre (c .before .before .before .before .before .loop .k) less (going .room)
+    (omega (arith, going .rows-le, pre .made-few, less, few, pre .found .few))
 
 add-k : tie.Need-add-k Inv-loop μ-loop
 add-k c = omega (arith, c .before .before .before .before .before .before .before .before .before .before .before .loop-test .taken)
@@ -71,14 +64,14 @@ loop-again c =
     let less = at-test .loop-test .taken in
     let k = at-loop .loop .k in (
       omega (arith, less),
-      all-next _ (pre .2) _ _ _ k (at-loop .loop .inv .1)
-          (next-at _ _ _ _ _ _ _ _ (pre .4) (pre .5) (pre .6) k less .next)
-          (group-at _ _ _ _ _ _ _ _ (pre .4) (pre .5) (pre .6) k less)
+      all-next _ (pre .width) _ _ _ k (at-loop .loop .inv .1)
+          (next-at (pre .found) k less .next)
+          (group-at (pre .found) k less)
           (c .before .before .before .before .before .before .coalesce-at .ensures),
     )
 
 same-length : tie.Need-same-length Inv-loop μ-loop
-same-length c = c .before .loop .inv .1 .room .words ∙ sym (c .before .before .before .before .before .before .before .before .pre .0 .words)
+same-length c = c .before .loop .inv .1 .room .words ∙ sym (c .before .before .before .before .before .before .before .before .pre .room .words)
 
 same-length-2 : tie.Need-same-length-2 Inv-loop μ-loop
 same-length-2 c = c .before .loop .inv .1 .wide
@@ -91,9 +84,9 @@ returns c =
     let at-loop = c .before in
     let pre = at-loop .before .before .before .before .before .before .before .pre in
     let k = at-loop .loop .k in
-    let few = count-few _ _ _ _ _ _ _ _ (pre .4) (pre .5) (pre .6) in
-    all-done _ (pre .2) _ _ _ k (at-loop .loop .inv .1) (omega (arith, at-loop .loop .inv .0, few, pre .3))
-    (end-at _ _ _ _ _ _ _ _ (pre .4) (pre .5) (pre .6) k (c .loop-test .left))
+    let few = count-few (pre .found) in
+    all-done _ (pre .width) _ _ _ k (at-loop .loop .inv .1) (omega (arith, at-loop .loop .inv .0, few, pre .found .few))
+    (end-at (pre .found) k (c .loop-test .left))
 
 pub coalesce-all-spec : {M : Type 1} → statement M
 coalesce-all-spec =

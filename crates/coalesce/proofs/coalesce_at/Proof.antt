@@ -4,6 +4,7 @@ use denote.Ref.{now}
 use borrow.Author.Needs.{needs}
 use Rattle.views.specs.Views.{viewAt, basisBytes}
 use Rattle.lone.proofs.LoneLaws.{own-basis}
+use Rattle.group.proofs.PassLaws.{at-group}
 use Rattle.coalesce.proofs.CoalesceTurnLaws.{lone-turn}
 use Rattle.coalesce.proofs.coalesce_at.Statement.{statement}
 use Rattle.coalesce.proofs.coalesce_at.Tie as tie
@@ -40,22 +41,22 @@ shared-slice-read-end c = search needs
 
 sub-is-lone : tie.Need-sub-is-lone
 unfolding viewAt
-sub-is-lone c = c .before .before .before .before .before .before .before .before .pre .4 .start-le
+sub-is-lone c = c .before .before .before .before .before .before .before .before .pre .in-group .start-le
 
 part-is-lone-start : tie.Need-part-is-lone-start
 unfolding viewAt
-part-is-lone-start c = c .before .before .before .before .before .before .before .before .pre .4 .start-le
+part-is-lone-start c = c .before .before .before .before .before .before .before .before .pre .in-group .start-le
 
 part-is-lone-end : tie.Need-part-is-lone-end
 unfolding viewAt
-part-is-lone-end c = c .before .before .before .before .before .before .before .before .pre .4 .end-le
+part-is-lone-end c = c .before .before .before .before .before .before .before .before .pre .in-group .end-le
 
 is-lone-requires : tie.Need-is-lone-requires
 unfolding viewAt basisBytes
 is-lone-requires c κs =
     let at-start = c .before .before .before .before .before .before .before .before .before in
     let pre = at-start .pre in
-    (pre .1, pre .2, own-basis (viewAt (now (at-start .args .views)) (at-start .args .first)) (pre .4))
+    (pre .readable, pre .within, own-basis (viewAt (now (at-start .args .views)) (at-start .args .first)) (pre .in-group))
 
 mul-add-word : tie.Need-mul-add-word
 mul-add-word c = search needs
@@ -77,27 +78,27 @@ returns c =
     let a = at-start .args in
     let v = viewAt (now (a .views)) (a .first) in
     let lone = at-if1 .before .is-lone .ensures (at-if1 .if1 .taken) in
-    lone-turn (now (a .f)) (now (a .views)) (v .hash) (basisBytes (now (a .f)) v) (a .n) refl (at-start .pre .3) (a .w) _ v (a .first)
-    (at-start .pre .6) (at-start .pre .0) lone (c .before .before .add-word .ensures)
+    lone-turn (now (a .f)) (now (a .views)) (v .hash) (basisBytes (now (a .f)) v) (a .n) refl (at-start .pre .few) (a .w) _ v (a .first)
+    (at-start .pre .width) (at-start .pre .room) lone (c .before .before .add-word .ensures)
 
 sub-coalesce-group : tie.Need-sub-coalesce-group
 unfolding viewAt
-sub-coalesce-group c = c .before .before .before .before .before .before .before .before .before .before .before .pre .4 .start-le
+sub-coalesce-group c = c .before .before .before .before .before .before .before .before .before .before .before .pre .in-group .start-le
 
 part-coalesce-group-start : tie.Need-part-coalesce-group-start
 unfolding viewAt
-part-coalesce-group-start c = c .before .before .before .before .before .before .before .before .before .before .before .pre .4 .start-le
+part-coalesce-group-start c = c .before .before .before .before .before .before .before .before .before .before .before .pre .in-group .start-le
 
 part-coalesce-group-end : tie.Need-part-coalesce-group-end
 unfolding viewAt
-part-coalesce-group-end c = c .before .before .before .before .before .before .before .before .before .before .before .pre .4 .end-le
+part-coalesce-group-end c = c .before .before .before .before .before .before .before .before .before .before .before .pre .in-group .end-le
 
 coalesce-group-requires : tie.Need-coalesce-group-requires
 unfolding viewAt basisBytes
 coalesce-group-requires c κs =
     let at-if1 = c .before .before .before .before in
     let pre = at-if1 .before .before .before .before .before .before .before .before .before .before .before .pre in
-    (pre .0, pre .1, pre .3, pre .4 .basis, pre .5, pre .6)
+    at-group pre
 
 same-length-2 : tie.Need-same-length-2
 same-length-2 c = search needs

@@ -34,10 +34,8 @@ coalesce-table-requires c κs =
     let at-width = at-copy .before .before .before in
     let at-known = at-width .before .before in
     let at-start = at-known .before in
-    let p =
     pass-begin (now (at-start .args .s)) (λ i. at-known .shared-slice-known .given i .fits) (at-start .pre .0)
-    (at-width .width .ensures) (at-body .body .ensures) (at-copy .copy-atoms .ensures) in
-    (p .0, p .1, p .2, p .3, p .4, padded-nil 256, p .5, p .6)
+    (at-width .width .ensures) (at-body .body .ensures) (at-copy .copy-atoms .ensures) (padded-nil 256)
 
 slice-aggregate-load : tie.Need-slice-aggregate-load
 slice-aggregate-load c = search needs

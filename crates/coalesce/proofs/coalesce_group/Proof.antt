@@ -6,7 +6,7 @@ use Rattle.record.specs.Decode.{decode}
 use Rattle.group.specs.Gathered.{gathered}
 use Rattle.group.proofs.PassLaws.{few-entries}
 use Rattle.coalesce.proofs.NewTermsLaws.{coalesced-full}
-use Rattle.made.proofs.WordsLaws.{is-full}
+use Rattle.made.proofs.WordsLaws.{is-full, makes-fewer}
 use Rattle.coalesce.proofs.CoalesceTurnLaws.{group-past, short-turn, many-turn, rewritten-turn}
 use Rattle.coalesce.proofs.CoalesceTurnLaws.{carried-count, atoms-below, coalesced-of}
 use borrow.Author.Needs.{needs}
@@ -20,20 +20,20 @@ returns : tie.Need-returns
 returns c =
     let at-start = c .before .before .before .before .before .before .before .before in
     let a = at-start .args in
-    coalesced-full (at-start .pre .0) (is-full (now (a .made)) (c .if1 .taken))
+    coalesced-full (at-start .pre .makes .room) (is-full (now (a .made)) (c .if1 .taken))
     (group-past (a .w) (decode (now (a .b))) (gathered (now (a .f)) (now (a .views)) (a .hash) (now (a .b)) (a .n)))
 
 gather-requires : tie.Need-gather-requires
 gather-requires c κs =
     let pre = c .before .before .before .before .before .before .before .before .pre in
-    (pre .1, pre .2)
+    (pre .readable, pre .few)
 
 settle-requires : tie.Need-settle-requires
 settle-requires c κs =
     let at-gather = c .before .before .before .before .before .before in
     let at-start = at-gather .before .before .before .before .before .before .before .before .before in
     let a = at-start .args in
-    few-entries (now (a .f)) (now (a .views)) (a .hash) (now (a .b)) (a .n) (at-gather .gather .ensures) (at-start .pre .2)
+    few-entries (now (a .f)) (now (a .views)) (a .hash) (now (a .b)) (a .n) (at-gather .gather .ensures) (at-start .pre .few)
 
 same-length : tie.Need-same-length
 same-length c = search needs
@@ -49,8 +49,8 @@ returns-2 c =
     let e = at-gather .gather .ensures in
     coalesced-of (a .w) (a .n) 64 (decode (now (a .b))) e
     (short-turn (a .w) (decode (now (a .b))) (at-gather .gather .result) (now (a .made)) (now (a .out)) (now (a .coeffs))
-    (pre .5) (a .n) (atoms-below (now (a .f)) (now (a .views)) (a .hash) (now (a .b)) (a .n) e (pre .2))
-    (pre .0) (c .before .before .settle .ensures) (at-if2 .if2 .taken))
+    (pre .makes .width) (a .n) (atoms-below (now (a .f)) (now (a .views)) (a .hash) (now (a .b)) (a .n) e (pre .few))
+    (pre .makes .room) (c .before .before .settle .ensures) (at-if2 .if2 .taken))
 
 slice-aggregate-carried-of : tie.Need-slice-aggregate-carried-of
 slice-aggregate-carried-of c = search needs
@@ -63,7 +63,7 @@ carried-of-requires c κs =
     let at-gather = c .before .before .before .before .before .before in
     let at-start = at-gather .before .before .before .before .before .before .before .before .before in
     let a = at-start .args in
-    (few-entries (now (a .f)) (now (a .views)) (a .hash) (now (a .b)) (a .n) (at-gather .gather .ensures) (at-start .pre .2), at-start .pre .5, refl, refl)
+    (few-entries (now (a .f)) (now (a .views)) (a .hash) (now (a .b)) (a .n) (at-gather .gather .ensures) (at-start .pre .few), at-start .pre .makes .width, refl, refl)
 
 settle-requires-2 : tie.Need-settle-requires-2
 settle-requires-2 c κs =
@@ -71,7 +71,7 @@ settle-requires-2 c κs =
     let at-gather = at-carried .before .before .before .before .before .before .before in
     let at-start = at-gather .before .before .before .before .before .before .before .before .before in
     let a = at-start .args in
-    few-entries (now (a .f)) (now (a .views)) (a .hash) (now (a .b)) (a .n) (at-gather .gather .ensures) (at-start .pre .2)
+    few-entries (now (a .f)) (now (a .views)) (a .hash) (now (a .b)) (a .n) (at-gather .gather .ensures) (at-start .pre .few)
 
 same-length-2 : tie.Need-same-length-2
 same-length-2 c = search needs
@@ -89,8 +89,8 @@ returns-3 c =
     let e = at-gather .gather .ensures in
     coalesced-of (a .w) (a .n) 64 (decode (now (a .b))) e
     (many-turn (a .w) (decode (now (a .b))) (at-gather .gather .result) (now (a .made)) (now (a .out)) (now (a .coeffs))
-    (pre .5) (a .n) (atoms-below (now (a .f)) (now (a .views)) (a .hash) (now (a .b)) (a .n) e (pre .2))
-    (pre .0) (at-if2 .if2 .left) (at-carried .carried-of .ensures)
+    (pre .makes .width) (a .n) (atoms-below (now (a .f)) (now (a .views)) (a .hash) (now (a .b)) (a .n) e (pre .few))
+    (pre .makes .room) (at-if2 .if2 .left) (at-carried .carried-of .ensures)
     (c .before .before .settle2 .ensures) (omega (arith, at-if3 .if3 .taken)))
 
 slice-aggregate-put-carried : tie.Need-slice-aggregate-put-carried
@@ -107,14 +107,12 @@ put-carried-requires c κs =
     let a = at-start .args in
     let pre = at-start .pre in
     let carried = at-carried .carried-of .ensures in
-    let few = carried-count (a .w) (decode (now (a .b))) (at-gather .gather .result) (pre .5) carried in (
-      pre .0,
-      pre .3,
-      omega (arith, pre .4, few),
-      pre .5,
-      omega (arith, few, carried .long),
-      omega (arith, few, carried .wide),
-    )
+    let few = carried-count (a .w) (decode (now (a .b))) (at-gather .gather .result) (pre .makes .width) carried in
+    record {
+      makes = makes-fewer (pre .makes) (omega (arith, few));
+      carried-room = omega (arith, few, carried .long);
+      bits-room = omega (arith, few, carried .wide);
+    }
 
 same-length-3 : tie.Need-same-length-3
 same-length-3 c = search needs
@@ -139,8 +137,8 @@ returns-4 c =
     let e = at-gather .gather .ensures in
     coalesced-of (a .w) (a .n) 64 (decode (now (a .b))) e
     (rewritten-turn (a .w) (decode (now (a .b))) (at-gather .gather .result) (now (a .made)) (now (a .out)) (now (a .coeffs))
-    (pre .5) (a .n) (atoms-below (now (a .f)) (now (a .views)) (a .hash) (now (a .b)) (a .n) e (pre .2))
-    (pre .0) (at-if2 .if2 .left) (at-carried .carried-of .ensures)
+    (pre .makes .width) (a .n) (atoms-below (now (a .f)) (now (a .views)) (a .hash) (now (a .b)) (a .n) e (pre .few))
+    (pre .makes .room) (at-if2 .if2 .left) (at-carried .carried-of .ensures)
     (omega (arith, at-if3 .if3 .left)) (at-put .put-carried .ensures))
 
 pub coalesce-group-spec : {M : Type 1} → statement M

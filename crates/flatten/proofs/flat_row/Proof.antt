@@ -7,7 +7,7 @@ use Rattle.flatten.proofs.flat_row.Statement.{statement}
 use Rattle.flatten.proofs.flat_row.Tie as tie
 
 returns : tie.Need-returns
-returns c = extended-none _ _ _ _ _ _ _ (c .before .before .before .before .pre .2) (c .if1 .taken)
+returns c = extended-none _ _ _ _ _ _ _ (c .before .before .before .before .pre .room) (c .if1 .taken)
 
 slice-read-row : tie.Need-slice-read-row
 slice-read-row c = search needs
@@ -28,17 +28,18 @@ structural-hash-requires : tie.Need-structural-hash-requires
 structural-hash-requires c κs =
     let at-put = c .before .before .before .before .before in
     let at-start = at-put .before .before .before .before .before .before .before in
-    variable-sized _ _ (at-start .pre .0) (at-put .put-variable .ensures)
+    variable-sized _ _ (at-start .pre .within) (at-put .put-variable .ensures)
 
 create-masked-requires : tie.Need-create-masked-requires
 create-masked-requires c κs =
     let at-put = c .before .before .before .before .before .before in
-    let at-start = at-put .before .before .before .before .before .before .before in (
-      at-start .pre .2,
-      variable-basis _ _ (at-start .pre .0) (at-put .put-variable .ensures) (c .structural-hash .ensures),
-      at-start .pre .3,
-      at-start .pre .1,
-    )
+    let at-start = at-put .before .before .before .before .before .before .before in
+    record {
+      width = at-start .pre .width;
+      basis = variable-basis _ _ (at-start .pre .within) (at-put .put-variable .ensures) (c .structural-hash .ensures);
+      room = at-start .pre .room;
+      more = at-start .pre .more;
+    }
 
 same-length : tie.Need-same-length
 same-length c = search needs
@@ -53,7 +54,7 @@ returns-2 c =
     let at-if1 = at-put .before .before .before in
     let at-start = at-if1 .before .before .before .before in
     extended-past _ _ _ (at-start .args .c) (at-if1 .if1 .left)
-    (rw (variable-back _ _ (at-start .pre .0) (at-put .put-variable .ensures)) at (at-create .create-masked .ensures)) _
+    (rw (variable-back _ _ (at-start .pre .within) (at-put .put-variable .ensures)) at (at-create .create-masked .ensures)) _
     (c .if2 .taken)
 
 mul-coeffs : tie.Need-mul-coeffs
@@ -78,7 +79,7 @@ returns-3 c =
     let at-if1 = at-put .before .before .before in
     let at-start = at-if1 .before .before .before .before in
     extended-put _ _ _ (at-start .args .c) (at-if1 .if1 .left)
-    (rw (variable-back _ _ (at-start .pre .0) (at-put .put-variable .ensures)) at (at-create .create-masked .ensures))
+    (rw (variable-back _ _ (at-start .pre .within) (at-put .put-variable .ensures)) at (at-create .create-masked .ensures))
     _ _ refl
 
 pub flat-row-spec : {M : Type 1} → statement M

@@ -27,13 +27,13 @@ bits-without-requires : tie.Need-bits-without-requires
 bits-without-requires c κs =
     let at-ones = c .before .before .before .before .before in
     let at-start = at-ones .before .before .before .before .before .before .before in
-    (at-start .pre .2, rw (at-ones .before .constant-value .ensures) (value-lt _ _ _))
+    (at-start .pre .1 .width, rw (at-ones .before .constant-value .ensures) (value-lt _ _ _))
 
 bits-without-requires-2 : tie.Need-bits-without-requires-2
 bits-without-requires-2 c κs =
     let at-ones = c .before .before .before .before .before .before in
     let at-start = at-ones .before .before .before .before .before .before .before in
-    (at-start .pre .2, rw (at-ones .at-ones .ensures) (at-ones-lt _ _ _))
+    (at-start .pre .1 .width, rw (at-ones .at-ones .ensures) (at-ones-lt _ _ _))
 
 flat-row-requires : tie.Need-flat-row-requires
 flat-row-requires c κs =
@@ -41,13 +41,14 @@ flat-row-requires c κs =
     let at-ones = at-add .before .before .before in
     let at-start = at-ones .before .before .before .before .before .before .before in
     let s =
-    flat-constant _ _ (at-start .args .c) (now (at-start .args .coeffs)) (at-start .pre .3)
-    (at-ones .before .constant-value .ensures) (at-add .before .mod-mul .ensures) (at-add .add-constant .ensures) in (
-      rw (at-ones .before .before .next-var .ensures .0) (at-start .pre .1),
-      at-start .pre .2,
-      s .room,
-      omega (arith, s .rows-le, at-start .pre .4),
-    )
+    flat-constant _ _ (at-start .args .c) (now (at-start .args .coeffs)) (at-start .pre .1 .room)
+    (at-ones .before .constant-value .ensures) (at-add .before .mod-mul .ensures) (at-add .add-constant .ensures) in
+    record {
+      width = at-start .pre .1 .width;
+      within = rw (at-ones .before .before .next-var .ensures .0) (at-start .pre .1 .within);
+      room = s .room;
+      more = omega (arith, s .rows-le, at-start .pre .1 .more);
+    }
 
 mod-neg-requires : tie.Need-mod-neg-requires
 mod-neg-requires c κs = search needs
@@ -59,13 +60,14 @@ flat-row-requires-2 c κs =
     let at-ones = at-add .before .before .before in
     let at-start = at-ones .before .before .before .before .before .before .before in
     let s =
-    flat-constant _ _ (at-start .args .c) (now (at-start .args .coeffs)) (at-start .pre .3)
-    (at-ones .before .constant-value .ensures) (at-add .before .mod-mul .ensures) (at-add .add-constant .ensures) in (
-      rw (at-ones .before .before .next-var .ensures .0) (at-start .pre .1),
-      at-start .pre .2,
-      at-row .flat-row .ensures .room,
-      omega (arith, at-row .flat-row .ensures .rows-le, s .rows-le, at-start .pre .4),
-    )
+    flat-constant _ _ (at-start .args .c) (now (at-start .args .coeffs)) (at-start .pre .1 .room)
+    (at-ones .before .constant-value .ensures) (at-add .before .mod-mul .ensures) (at-add .add-constant .ensures) in
+    record {
+      width = at-start .pre .1 .width;
+      within = rw (at-ones .before .before .next-var .ensures .0) (at-start .pre .1 .within);
+      room = at-row .flat-row .ensures .room;
+      more = omega (arith, at-row .flat-row .ensures .rows-le, s .rows-le, at-start .pre .1 .more);
+    }
 
 same-length : tie.Need-same-length
 same-length c = search needs
@@ -88,7 +90,7 @@ returns c =
     let zeroed = at-ones .before .constant-value .ensures in
     flat-atom _ _ _ (at-ones .before .before .next-var .ensures .0) zeroed (at-ones .at-ones .ensures)
     (at-bits .before .bits-without .ensures) (at-bits .bits-without2 .ensures) (at-neg .mod-neg .ensures)
-    (flat-constant _ _ (at-start .args .c) (now (at-start .args .coeffs)) (at-start .pre .3) zeroed
+    (flat-constant _ _ (at-start .args .c) (now (at-start .args .coeffs)) (at-start .pre .1 .room) zeroed
     (at-add .before .mod-mul .ensures) (at-add .add-constant .ensures)) (at-row .flat-row .ensures)
     (at-row2 .flat-row2 .ensures)
 

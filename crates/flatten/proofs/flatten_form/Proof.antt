@@ -1,5 +1,4 @@
 -- `flatten_form` meets its contract: the copied table, its rows flattened, and the end of a pass.
-use mathlib.Core.Path.{refl}
 use denote.Ref.{now}
 use native.Mathlib.Omega.{arith}
 use Rattle.semilinear.proofs.ValidLaws.{semilinear-parts}
@@ -33,10 +32,8 @@ flatten-rows-requires c κs =
     let at-width = at-copy .before .before .before in
     let at-known = at-width .before .before in
     let at-start = at-known .before in
-    let p =
     flatten-begin (now (at-start .args .s)) (λ i. at-known .shared-slice-known .given i .fits) (at-start .pre .0)
-    (at-width .width .ensures) (at-body .body .ensures) (at-copy .copy-atoms .ensures) in
-    (p .0, p .1, p .2, refl, refl, p .3)
+    (at-width .width .ensures) (at-body .body .ensures) (at-copy .copy-atoms .ensures)
 
 slice-aggregate-load : tie.Need-slice-aggregate-load
 slice-aggregate-load c = search needs

@@ -20,8 +20,8 @@ abbrev μ-loop : tie.MeasureT-loop
 loop-holds : tie.Need-loop-holds Inv-loop μ-loop
 loop-holds c =
     let at-start = c .before .before .before .before in
-    walked-start _ _ _ _ (front-parts _ _ (at-start .pre .1)) (at-start .args .terms) (at-start .pre .2) _ _ _
-    (at-start .pre .3) (at-start .pre .4) (at-start .pre .5) refl refl
+    walked-start _ _ _ _ (front-parts _ _ (at-start .pre .front-ok)) (at-start .args .terms) (at-start .pre .ends) _ _ _
+    (at-start .pre .words) (at-start .pre .clear) (at-start .pre .held) refl refl
 
 rest-from-requires : tie.Need-rest-from-requires Inv-loop μ-loop
 rest-from-requires c κs = c .loop .inv .inside
@@ -32,13 +32,13 @@ is-atom-requires c κs = tt
 same-length : tie.Need-same-length Inv-loop μ-loop
 same-length c =
     let at-loop = c .before .before .before in
-    at-loop .loop .inv .room .words ∙ sym (at-loop .before .before .before .before .before .pre .3)
+    at-loop .loop .inv .room .words ∙ sym (at-loop .before .before .before .before .before .pre .words)
 
 same-length-2 : tie.Need-same-length-2 Inv-loop μ-loop
 same-length-2 c =
     let at-loop = c .before .before .before in
     let at-start = at-loop .before .before .before .before .before in
-    at-loop .loop .inv .wide ∙ sym (ap length (at-start .pre .4) ∙ length-replicate {A = ℕ} 256 0)
+    at-loop .loop .inv .wide ∙ sym (ap length (at-start .pre .clear) ∙ length-replicate {A = ℕ} 256 0)
 
 same-length-3 : tie.Need-same-length-3 Inv-loop μ-loop
 same-length-3 c = c .before .before .before .loop .inv .long
@@ -62,18 +62,21 @@ flatten-row-requires c κs =
     ap isAtom (sym (at-rest .rest-from .ensures))
     ∙ sym (at-if1 .before .is-atom .ensures)
     ∙ not-false _ (at-if1 .if1 .left) in
-    let n = walked-number _ _ _ _ (at-loop .loop .x) _ _ _ h atom in (
-      at-start .pre .0,
-      h .inside,
-      h .terms-inside,
-      h .number-le,
-      n .0,
-      atom,
-      h .atoms,
-      h .terms,
-      h .room,
-      n .1,
-    )
+    let n = walked-number _ _ _ _ (at-loop .loop .x) _ _ _ h atom in
+    record {
+      row = record {
+        width = at-start .pre .width;
+        inside = h .inside;
+        terms-inside = h .terms-inside;
+        atom = atom;
+        atoms-ok = h .atoms;
+      };
+      number-le = h .number-le;
+      terms-ok = h .terms;
+      coeffs-room = n .0;
+      room = h .room;
+      more = n .1;
+    }
 
 loop-less : tie.Need-loop-less Inv-loop μ-loop
 loop-less c =

@@ -50,10 +50,12 @@ put-masked-requires c κs =
     let pre = c .before .before .before .before .before .before .before .pre in
     let n = c .before .before .before .size in
     let ok = basis-sized _ _ _ (pre .1) in (
-      omega (arith, sized-length (now (a .b)) ok, n .ensures .0, pre .0 .place, pre .0 .room),
+      record {
+        inside = omega (arith, sized-length (now (a .b)) ok, n .ensures .0, pre .0 .place, pre .0 .room);
+        size-lt = omega (arith, n .ensures .1);
+        size-is = omega (arith, sized-length (now (a .b)) ok, n .ensures .0);
+      },
       pre .1,
-      omega (arith, n .ensures .1),
-      omega (arith, sized-length (now (a .b)) ok, n .ensures .0),
     )
 
 add-more : tie.Need-add-more

@@ -30,7 +30,7 @@ bitmask-requires c κs = search needs
 create-atom-requires : tie.Need-create-atom-requires
 create-atom-requires c κs =
     let pre = c .before .before .before .before .before .before .before .before .pre in
-    (rw (c .before .before .before .load .ensures) (pre .0 .placed), basis-sized _ _ _ (pre .1), pre .1 .hashed)
+    (rw (c .before .before .before .load .ensures) (pre .room .placed), basis-sized _ _ _ (pre .basis), pre .basis .hashed)
 
 store-requires : tie.Need-store-requires
 store-requires c κs = search needs
@@ -45,15 +45,15 @@ returns : tie.Need-returns
 returns c =
     let a = c .before .before .before .before .before .before .before .before .before .before .before .before .before .before .before .args in
     let pre = c .before .before .before .before .before .before .before .before .before .before .before .before .before .before .before .pre in
-    grew-as (λ l. masked-full (a .w) (a .mask) (decode (now (a .b))) l (c .before .before .before .before .before .before .before .before .if1 .taken ∙ c .before .before .before .before .before .before .before .before .before .bitmask .ensures ∙ bitmask-ones (a .w) (pre .3)))
-    (grew-create (a .w) 0 (now (a .b)) (basis-sized _ _ _ (pre .1)) (pre .1 .same) (now (a .made)) (now (a .out)) (pre .0)
+    grew-as (λ l. masked-full (a .w) (a .mask) (decode (now (a .b))) l (c .before .before .before .before .before .before .before .before .if1 .taken ∙ c .before .before .before .before .before .before .before .before .before .bitmask .ensures ∙ bitmask-ones (a .w) (pre .width)))
+    (grew-create (a .w) 0 (now (a .b)) (basis-sized _ _ _ (pre .basis)) (pre .basis .same) (now (a .made)) (now (a .out)) (pre .room)
     (c .before .before .before .before .before .before .create-atom .ensures ∙ ap (λ (t : Table). createAtom (a .w) 0 (now (a .b)) (storeOf t (now (a .out)))) (c .before .before .before .before .before .before .before .before .before .before .load .ensures))
     (c .before .before .store .ensures))
 
 create-joined-requires : tie.Need-create-joined-requires
 create-joined-requires c κs =
     let pre = c .before .before .before .before .before .before .before .before .pre in
-    (rw (c .before .before .before .load .ensures) (pre .0 .placed), pre .1)
+    (rw (c .before .before .before .load .ensures) (pre .room .placed), pre .basis)
 
 store-requires-2 : tie.Need-store-requires-2
 store-requires-2 c κs = search needs
@@ -68,8 +68,8 @@ returns-2 : tie.Need-returns-2
 returns-2 c =
     let a = c .before .before .before .before .before .before .before .before .before .before .before .before .before .before .before .args in
     let pre = c .before .before .before .before .before .before .before .before .before .before .before .before .before .before .before .pre in
-    grew-masked (a .w) (a .hash) (now (a .b)) (pre .1) (a .mask) (omega arith) (now (a .made)) (now (a .out)) (pre .0)
-    (λ e. c .before .before .before .before .before .before .before .before .if1 .left (e ∙ sym (bitmask-ones (a .w) (pre .3)) ∙ sym (c .before .before .before .before .before .before .before .before .before .bitmask .ensures)))
+    grew-masked (a .w) (a .hash) (now (a .b)) (pre .basis) (a .mask) (omega arith) (now (a .made)) (now (a .out)) (pre .room)
+    (λ e. c .before .before .before .before .before .before .before .before .if1 .left (e ∙ sym (bitmask-ones (a .w) (pre .width)) ∙ sym (c .before .before .before .before .before .before .before .before .before .bitmask .ensures)))
     (c .before .before .before .before .before .before .create-joined .ensures ∙ ap (λ (t : Table). createAtom (a .w) 0 (maskedBytes (a .w) (now (a .b)) (a .mask)) (storeOf t (now (a .out)))) (c .before .before .before .before .before .before .before .before .before .before .load .ensures))
     (c .before .before .store2 .ensures)
 

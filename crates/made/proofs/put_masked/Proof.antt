@@ -44,7 +44,7 @@ returns : tie.Need-returns
 returns c =
     let a = c .before .before .before .before .before .before .before .before .before .before .before .before .before .before .before .before .before .before .before .args in
     let pre = c .before .before .before .before .before .before .before .before .before .before .before .before .before .before .before .before .before .before .before .pre in
-    wrote-masked (a .w) (a .hash) (now (a .b)) (pre .1) (a .m) (omega arith) (now (a .out)) (a .at) (a .size) (pre .0) (pre .3)
+    wrote-masked (a .w) (a .hash) (now (a .b)) (pre .1) (a .m) (omega arith) (now (a .out)) (a .at) (a .size) (pre .0 .inside) (pre .0 .size-is)
     (c .before .before .before .before .before .before .before .before .before .before .before .before .before .before .before .masked-hash .ensures) (c .before .before .before .before .before .before .before .before .before .before .before .before .before .before .put-record .ensures) (c .before .before .before .before .before .before .before .before .before .before .put-bytes .ensures) (c .before .before .before .before .before .before .put-record2 .ensures)
     (c .before .before .put-record3 .ensures)
 

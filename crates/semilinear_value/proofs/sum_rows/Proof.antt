@@ -41,17 +41,21 @@ returns c =
 add-row-requires : tie.Need-add-row-requires Inv-loop μ-loop
 add-row-requires c κs =
     let at-loop = c .before .before .before in
-    let at-start = at-loop .before .before .before in (
-      at-start .pre .0,
-      at-loop .loop .inv .inside,
-      at-loop .loop .inv .terms-inside,
-      at-loop .loop .inv .number-le,
-      at-loop .loop .inv .fits,
-      (ap isAtom (sym (c .before .before .rest-from .ensures))
-          ∙ sym (c .before .is-atom .ensures)
-          ∙ not-false _ (c .if1 .left)),
-      at-loop .loop .inv .atoms,
-    )
+    let at-start = at-loop .before .before .before in
+    let inv = at-loop .loop .inv in
+    record {
+      row = record {
+        width = at-start .pre .0;
+        inside = inv .inside;
+        terms-inside = inv .terms-inside;
+        atom = ap isAtom (sym (c .before .before .rest-from .ensures))
+            ∙ sym (c .before .is-atom .ensures)
+            ∙ not-false _ (c .if1 .left);
+        atoms-ok = inv .atoms;
+      };
+      number-le = inv .number-le;
+      fits = inv .fits;
+    }
 
 loop-less : tie.Need-loop-less Inv-loop μ-loop
 loop-less c = omega (arith, c .add-row .ensures .passed .inside, c .add-row .ensures .passed .later)

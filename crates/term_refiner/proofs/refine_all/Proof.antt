@@ -7,7 +7,7 @@ use Rattle.semilinear.specs.Items.{afterAtoms}
 use Rattle.semilinear.specs.DecodeForm.{rowsOf}
 use Rattle.views.specs.Grouping.{anyBasis, basesOf}
 use Rattle.term_refiner.proofs.AllRefinedLaws.{Going, going-start, going-next, going-done}
-use Rattle.group.proofs.PassLaws.{readable-at, count-few, count-room, next-at, end-at, group-at}
+use Rattle.group.proofs.PassLaws.{count-few, count-room, next-at, end-at, group-at, all-at}
 use Rattle.term_refiner.proofs.refine_all.Statement.{statement}
 use Rattle.term_refiner.proofs.refine_all.Tie as tie
 
@@ -21,33 +21,26 @@ abbrev μ-loop : tie.MeasureT-loop
 μ-loop count bases n views f w made₀ coeffs₀ out₀ k₀ made coeffs out k = count - k
 
 loop-holds : tie.Need-loop-holds Inv-loop μ-loop
-loop-holds c = (omega arith, going-start _ _ _ _ _ _ (c .before .before .before .before .before .before .pre .0))
+loop-holds c = (omega arith, going-start _ _ _ _ _ _ (c .before .before .before .before .before .before .pre .room))
 
 mul-first : tie.Need-mul-first Inv-loop μ-loop
 mul-first c =
     let pre = c .before .before .before .before .before .before .before .before .pre in
-    omega (arith, c .before .loop .inv .0, count-few _ _ _ _ _ _ _ _ (pre .4) (pre .5) (pre .6), pre .3)
+    omega (arith, c .before .loop .inv .0, count-few (pre .found), pre .found .few)
 
 shared-slice-read-first : tie.Need-shared-slice-read-first Inv-loop μ-loop
 shared-slice-read-first c =
     let pre = c .before .before .before .before .before .before .before .before .before .pre in
-    omega (arith, c .before .loop-test .taken, count-room _ _ _ _ _ _ _ _ (pre .4) (pre .5) (pre .6))
+    omega (arith, c .before .loop-test .taken, count-room (pre .found))
 
 refine-at-requires : tie.Need-refine-at-requires Inv-loop μ-loop
 refine-at-requires c κs =
     let pre = c .before .before .before .before .before .before .before .before .before .before .before .before .pre in
     let going = c .before .before .before .before .before .loop .inv .1 in
     let less = c .before .before .before .before .loop-test .taken in
-    let few = count-few _ _ _ _ _ _ _ _ (pre .4) (pre .5) (pre .6) in
-    let next = next-at _ _ _ _ _ _ _ _ (pre .4) (pre .5) (pre .6) (c .before .before .before .before .before .loop .k) less in (
-      going .room,
-      readable-at _ _ _ _ _ _ _ _ (pre .4) (pre .5) (pre .6),
-      omega (arith, next .below, pre .4),
-      pre .3,
-      next .group,
-      omega (arith, going .rows-le, pre .1, less, few, pre .3),
-      pre .2,
-    )
+    let few = count-few (pre .found) in
+    all-at pre (c .before .before .before .before .before .loop .k) less (going .room)
+    (omega (arith, going .rows-le, pre .made-few, less, few, pre .found .few))
 
 add-k : tie.Need-add-k Inv-loop μ-loop
 add-k c = omega (arith, c .before .before .before .before .before .before .before .before .before .before .before .loop-test .taken)
@@ -61,12 +54,12 @@ loop-again c =
     let less = c .before .before .before .before .before .before .before .before .before .before .before .loop-test .taken in
     let k = c .before .before .before .before .before .before .before .before .before .before .before .before .loop .k in (
       omega (arith, less),
-      going-next _ _ _ k (c .before .before .before .before .before .before .before .before .before .before .before .before .loop .inv .1) (next-at _ _ _ _ _ _ _ _ (pre .4) (pre .5) (pre .6) k less .next)
-          (group-at _ _ _ _ _ _ _ _ (pre .4) (pre .5) (pre .6) k less) (c .before .before .before .before .before .before .refine-at .ensures),
+      going-next _ _ _ k (c .before .before .before .before .before .before .before .before .before .before .before .before .loop .inv .1) (next-at (pre .found) k less .next)
+          (group-at (pre .found) k less) (c .before .before .before .before .before .before .refine-at .ensures),
     )
 
 same-length : tie.Need-same-length Inv-loop μ-loop
-same-length c = c .before .loop .inv .1 .room .words ∙ sym (c .before .before .before .before .before .before .before .before .pre .0 .words)
+same-length c = c .before .loop .inv .1 .room .words ∙ sym (c .before .before .before .before .before .before .before .before .pre .room .words)
 
 same-length-2 : tie.Need-same-length-2 Inv-loop μ-loop
 same-length-2 c = c .before .loop .inv .1 .wide
@@ -78,7 +71,7 @@ returns : tie.Need-returns Inv-loop μ-loop
 returns c =
     let pre = c .before .before .before .before .before .before .before .before .pre in
     going-done _ _ _ _ (c .before .loop .inv .1)
-    (end-at _ _ _ _ _ _ _ _ (pre .4) (pre .5) (pre .6) (c .before .loop .k) (c .loop-test .left))
+    (end-at (pre .found) (c .before .loop .k) (c .loop-test .left))
 
 pub refine-all-spec : {M : Type 1} → statement M
 refine-all-spec =

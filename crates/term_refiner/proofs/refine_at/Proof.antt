@@ -3,6 +3,7 @@ use denote.Ref.{now}
 use borrow.Author.Needs.{needs}
 use Rattle.views.specs.Views.{viewAt, basisBytes}
 use Rattle.lone.proofs.LoneLaws.{own-basis}
+use Rattle.group.proofs.PassLaws.{at-group}
 use Rattle.term_refiner.proofs.RefiningLaws.{lone-refined}
 use Rattle.term_refiner.proofs.refine_at.Statement.{statement}
 use Rattle.term_refiner.proofs.refine_at.Tie as tie
@@ -44,22 +45,22 @@ shared-slice-read-end c = search needs
 
 sub-stays-alone : tie.Need-sub-stays-alone
 unfolding viewAt
-sub-stays-alone c = c .before .before .before .before .before .before .before .before .pre .4 .start-le
+sub-stays-alone c = c .before .before .before .before .before .before .before .before .pre .in-group .start-le
 
 part-stays-alone-start : tie.Need-part-stays-alone-start
 unfolding viewAt
-part-stays-alone-start c = c .before .before .before .before .before .before .before .before .pre .4 .start-le
+part-stays-alone-start c = c .before .before .before .before .before .before .before .before .pre .in-group .start-le
 
 part-stays-alone-end : tie.Need-part-stays-alone-end
 unfolding viewAt
-part-stays-alone-end c = c .before .before .before .before .before .before .before .before .pre .4 .end-le
+part-stays-alone-end c = c .before .before .before .before .before .before .before .before .pre .in-group .end-le
 
 stays-alone-requires : tie.Need-stays-alone-requires
 unfolding viewAt basisBytes
 stays-alone-requires c κs =
     let at-start = c .before .before .before .before .before .before .before .before .before in
     let pre = at-start .pre in
-    (pre .1, pre .2, pre .6, own-basis (viewAt (now (at-start .args .views)) (at-start .args .first)) (pre .4))
+    (pre .readable, pre .within, pre .width, own-basis (viewAt (now (at-start .args .views)) (at-start .args .first)) (pre .in-group))
 
 mul-add-word : tie.Need-mul-add-word
 mul-add-word c = search needs
@@ -79,27 +80,27 @@ returns c =
     let at-if1 = c .before .before .before .before .before in
     let at-start = at-if1 .before .before .before .before .before .before .before .before .before .before .before in
     let alone = at-if1 .before .stays-alone .ensures (at-if1 .if1 .taken) in
-    lone-refined _ (viewAt (now (at-start .args .views)) (at-start .args .first)) _ (at-start .pre .6) (at-start .pre .0)
+    lone-refined _ (viewAt (now (at-start .args .views)) (at-start .args .first)) _ (at-start .pre .width) (at-start .pre .room)
     (alone .lone) (alone .stays) (c .before .before .add-word .ensures)
 
 sub-refine-group : tie.Need-sub-refine-group
 unfolding viewAt
-sub-refine-group c = c .before .before .before .before .before .before .before .before .before .before .before .pre .4 .start-le
+sub-refine-group c = c .before .before .before .before .before .before .before .before .before .before .before .pre .in-group .start-le
 
 part-refine-group-start : tie.Need-part-refine-group-start
 unfolding viewAt
-part-refine-group-start c = c .before .before .before .before .before .before .before .before .before .before .before .pre .4 .start-le
+part-refine-group-start c = c .before .before .before .before .before .before .before .before .before .before .before .pre .in-group .start-le
 
 part-refine-group-end : tie.Need-part-refine-group-end
 unfolding viewAt
-part-refine-group-end c = c .before .before .before .before .before .before .before .before .before .before .before .pre .4 .end-le
+part-refine-group-end c = c .before .before .before .before .before .before .before .before .before .before .before .pre .in-group .end-le
 
 refine-group-requires : tie.Need-refine-group-requires
 unfolding viewAt basisBytes
 refine-group-requires c κs =
     let at-if1 = c .before .before .before .before in
     let pre = at-if1 .before .before .before .before .before .before .before .before .before .before .before .pre in
-    (pre .0, pre .1, pre .3, pre .4 .basis, pre .5, pre .6)
+    at-group pre
 
 same-length-2 : tie.Need-same-length-2
 same-length-2 c = search needs

@@ -6,6 +6,7 @@ use native.Mathlib.Omega.{arith}
 use denote.Ref.{now}
 use borrow.Author.Needs.{needs}
 use Rattle.record.specs.Decode.{decode}
+use Rattle.made.proofs.WordsLaws.{makes-fewer, makes-later}
 use Rattle.group.specs.Made.{Stepped}
 use Rattle.group.specs.Stages.{cutAndDrop, mergeAll}
 use Rattle.group.proofs.SteppedLaws.{stepped-then, stepped-met}
@@ -73,7 +74,7 @@ joined1 : (c : lts.Joined1 claims reads.Pre reads.Post)
 joined1 c =
     ⊎-elim (λ k. stepped-met (k .8) (k .9) (k .10) (k .3 .ensures))
     (λ k. stepped-met (k .1) (k .2) (k .3)
-    (single-none _ (c .before .any-single .ensures (k .0 .left)) (begin1 c .pre .0)))
+    (single-none _ (c .before .any-single .ensures (k .0 .left)) (begin1 c .pre .makes .room)))
     (c .if1 .came)
 
 joined2 : (c : lts.Joined2 claims reads.Pre reads.Post)
@@ -111,42 +112,38 @@ any-single-requires : tie.Need-any-single-requires
 any-single-requires c κs =
     let at-gather = c .before .before .before .before in
     let at-start = at-gather .before .before .before .before .before .before .before in
-    few-entries _ _ _ _ _ (at-gather .gather .ensures) (at-start .pre .2)
+    few-entries _ _ _ _ _ (at-gather .gather .ensures) (at-start .pre .few)
 
 cut-and-drop-requires : tie.Need-cut-and-drop-requires
 cut-and-drop-requires c κs =
     let at-gather = c .before .before .before .before .before .before .before .before in
-    let pre = at-gather .before .before .before .before .before .before .before .pre in (
-      pre .0,
-      pre .3,
-      omega (arith, pre .4),
-      pre .5,
-      few-entries _ _ _ _ _ (at-gather .gather .ensures) (pre .2),
-    )
+    let pre = at-gather .before .before .before .before .before .before .before .pre in
+    record {
+      makes = makes-fewer (pre .makes) (omega arith);
+      few = few-entries _ _ _ _ _ (at-gather .gather .ensures) (pre .few);
+    }
 
 any-merge-requires : tie.Need-any-merge-requires
 any-merge-requires c κs =
     let met = c .before .before .before .before in
     let pre = begin1 met .pre in
-    (few-entries _ _ _ _ _ (gather1 met .gather .ensures) (pre .2), pre .5)
+    (few-entries _ _ _ _ _ (gather1 met .gather .ensures) (pre .few), pre .makes .width)
 
 merge-all-requires : tie.Need-merge-all-requires
 merge-all-requires c κs =
     let met = c .before .before .before .before .before .before .before .before in
     let pre = begin1 met .pre in
     let one = joined1 met in
-    let few = few-entries _ _ _ _ _ (gather1 met .gather .ensures) (pre .2) in (
-      one .room,
-      pre .3,
-      omega (arith, one .later .rows-le, pre .4),
-      pre .5,
-      omega (arith, one .len, few),
-    )
+    let few = few-entries _ _ _ _ _ (gather1 met .gather .ensures) (pre .few) in
+    record {
+      makes = makes-later (pre .makes) (one .room) (omega (arith, one .later .rows-le));
+      few = omega (arith, one .len, few);
+    }
 
 find-three-requires : tie.Need-find-three-requires
 find-three-requires c κs =
     let met = c .before .before .before .before in
-    few-entries _ _ _ _ _ (gather2 met .gather .ensures) (begin2 met .pre .2)
+    few-entries _ _ _ _ _ (gather2 met .gather .ensures) (begin2 met .pre .few)
 
 collapse-requires : tie.Need-collapse-requires
 collapse-requires c κs =
@@ -155,27 +152,25 @@ collapse-requires c κs =
     let two = joined2 met in
     let found = found-at (met .if2 .g) (sym (two .len)) (c .before .before .before .find-three .ensures) in
     let three = three-collapsible found (omega (arith, c .before .before .if3 .taken, two .len)) in
-    let few = few-entries _ _ _ _ _ (gather2 met .gather .ensures) (pre .2) in (
-      two .room,
-      pre .3,
-      omega (arith, two .later .rows-le, pre .4),
-      pre .5,
-      omega (arith, three .i-lt, two .len, few),
-      omega (arith, three .j-lt, two .len, few),
-      omega (arith, three .k-lt, two .len, few),
-      three .k-not-i,
-      three .k-not-j,
-    )
+    let few = few-entries _ _ _ _ _ (gather2 met .gather .ensures) (pre .few) in
+    record {
+      makes = makes-later (pre .makes) (two .room) (omega (arith, two .later .rows-le));
+      i-lt = omega (arith, three .i-lt, two .len, few);
+      j-lt = omega (arith, three .j-lt, two .len, few);
+      k-lt = omega (arith, three .k-lt, two .len, few);
+      k-not-i = three .k-not-i;
+      k-not-j = three .k-not-j;
+    }
 
 settle-requires : tie.Need-settle-requires
 settle-requires c κs =
     let met = c .before .before .before .before .before in
-    few-entries _ _ _ _ _ (gather3 met .gather .ensures) (begin3 met .pre .2)
+    few-entries _ _ _ _ _ (gather3 met .gather .ensures) (begin3 met .pre .few)
 
 same-length : tie.Need-same-length
 same-length c =
     let met = c .before .before .before .before .before .before .before .before in
-    joined3 met .room .words ∙ sym (begin3 met .pre .0 .words)
+    joined3 met .room .words ∙ sym (begin3 met .pre .makes .room .words)
 
 same-length-2 : tie.Need-same-length-2
 same-length-2 c = search needs
@@ -186,7 +181,7 @@ same-length-3 c = joined3 (c .before .before .before .before .before .before .be
 returns : tie.Need-returns
 returns c =
     let met = c .before .before .before .before .before .before .before .before in
-    group-refined _ (begin3 met .pre .5) (omega arith) (joined3 met) _ refl (c .before .before .settle .ensures)
+    group-refined _ (begin3 met .pre .makes .width) (omega arith) (joined3 met) _ refl (c .before .before .settle .ensures)
     (gather3 met .gather .ensures)
 
 pub refine-group-spec : {M : Type 1} → statement M

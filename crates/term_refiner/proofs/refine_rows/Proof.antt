@@ -1,10 +1,6 @@
 -- `refine_rows` meets its contract: the views, the bases, and then the groups.
-use mathlib.Core.Path.{ap, sym, _∙_}
-use mathlib.Core.List.{[]}
 use native.Mathlib.Omega.{arith}
-use lib.ListN.{length}
-use Rattle.base.proofs.PutLaws.{length-padded}
-use Rattle.group.proofs.PassLaws.{read-count, read-readable, first-same}
+use Rattle.group.proofs.PassLaws.{read-count, read-readable, first-same, rows-views}
 use Rattle.term_refiner.proofs.RowsRefinedLaws.{read-any, rows-refined}
 use borrow.Author.Needs.{needs}
 use Rattle.term_refiner.proofs.refine_rows.Statement.{statement}
@@ -12,32 +8,29 @@ use Rattle.term_refiner.proofs.refine_rows.Tie as tie
 
 read-views-requires : tie.Need-read-views-requires
 read-views-requires c κs =
-    let pre = c .before .before .before .before .before .before .before .before .pre in (
-      pre .0,
-      pre .1,
-      pre .2,
-      pre .3,
-      omega (arith, pre .5, ap length (pre .6) ∙ length-padded 256 [] (omega arith)),
-    )
+    rows-views (c .before .before .before .before .before .before .before .before .pre)
 
 find-bases-requires : tie.Need-find-bases-requires
 find-bases-requires c κs =
     let read = c .before .before .before .before .before .before .read-views .ensures in
-    (read-readable read, omega (arith, read-count read, c .before .before .before .before .before .before .before .before .before .before .before .before .before .before .before .pre .4))
+    (read-readable read, omega (arith, read-count read, c .before .before .before .before .before .before .before .before .before .before .before .before .before .before .before .pre .bases-room))
 
 refine-all-requires : tie.Need-refine-all-requires
 refine-all-requires c κs =
     let at-views = c .before .before .before .before .before .before .before .before .before .before .before .before .before .before in
     let read = at-views .read-views .ensures in
-    let pre = at-views .before .before .before .before .before .before .before .before .before .pre in (
-      pre .7,
-      pre .8,
-      pre .0,
-      omega (arith, read-count read, pre .5),
-      read .number,
-      read-any read,
-      first-same (c .before .before .before .before .before .before .before .find-bases .ensures),
-    )
+    let pre = at-views .before .before .before .before .before .before .before .before .before .pre in
+    record {
+      width = pre .form .width;
+      found = record {
+        few = omega (arith, read-count read, pre .form .few);
+        number = read .number;
+        viewed = read-any read;
+        first = first-same (c .before .before .before .before .before .before .before .find-bases .ensures);
+      };
+      room = pre .form .room;
+      made-few = pre .form .made-few;
+    }
 
 same-length : tie.Need-same-length
 same-length c = search needs
@@ -58,7 +51,7 @@ returns : tie.Need-returns
 returns c =
     let at-views = c .before .before .before .before .before .before .before .before .before .before .before .before .before .before .before .before .before .before .before .before .before in
     let pre = at-views .before .before .before .before .before .before .before .before .before .pre in
-    rows-refined (at-views .read-views .ensures) (pre .6) (pre .5) (c .before .before .before .before .before .before .refine-all .ensures)
+    rows-refined (at-views .read-views .ensures) (pre .form .clear) (pre .form .few) (c .before .before .before .before .before .before .refine-all .ensures)
 
 pub refine-rows-spec : {M : Type 1} → statement M
 refine-rows-spec =

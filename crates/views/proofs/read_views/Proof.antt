@@ -21,7 +21,7 @@ abbrev μ-loop : tie.MeasureT-loop
 loop-holds : tie.Need-loop-holds Inv-loop μ-loop
 loop-holds c =
     let a = c .before .before .before in
-    reads-start _ _ _ _ _ (a .args .terms) (a .pre .1) (a .pre .2) (a .pre .3) (a .pre .4)
+    reads-start _ _ _ _ _ (a .args .terms) (a .pre .atoms-ok) (a .pre .ends) (a .pre .views-room) (a .pre .coeffs-room)
 
 rest-from-requires : tie.Need-rest-from-requires Inv-loop μ-loop
 rest-from-requires c κs = c .loop .inv .inside
@@ -55,15 +55,18 @@ read-row-requires c κs =
     let h = at-loop .loop in
     let e = ap isAtom (sym (at-rest-from .rest-from .ensures)) ∙ sym (at-is-atom .is-atom .ensures) ∙ not-false _
     (at-if1 .if1 .left) in
-    let lt = number-lt _ _ _ _ _ _ (h .x) _ _ (h .inv) e in (
-      at-start .pre .0,
-      h .inv .inside,
-      h .inv .terms-inside,
-      e,
-      h .inv .atoms,
-      omega (arith, lt, h .inv .views-room),
-      omega (arith, lt, h .inv .coeffs-room, coeffs-long _ _ _ _ _ _ _ _ _ (h .inv)),
-    )
+    let lt = number-lt _ _ _ _ _ _ (h .x) _ _ (h .inv) e in
+    record {
+      row = record {
+        width = at-start .pre .width;
+        inside = h .inv .inside;
+        terms-inside = h .inv .terms-inside;
+        atom = e;
+        atoms-ok = h .inv .atoms;
+      };
+      views-room = omega (arith, lt, h .inv .views-room);
+      coeffs-room = omega (arith, lt, h .inv .coeffs-room, coeffs-long _ _ _ _ _ _ _ _ _ (h .inv));
+    }
 
 loop-less : tie.Need-loop-less Inv-loop μ-loop
 loop-less c =

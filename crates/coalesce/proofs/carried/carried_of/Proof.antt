@@ -34,12 +34,14 @@ carry-at-requires c κs =
     let lt = c .before .before .loop-test .taken in (
       pre .0,
       pre .1,
-      omega (arith, pre .1, lt),
-      omega (arith, few, pre .1, lt, pre .2, h .inv .1 .long),
-      omega (arith, few, pre .1, lt, pre .3, h .inv .1 .wide),
-      to-below (a .w) cs ms (a .n) (pre .1) (h .p) (h .count) (h .inv .1)
-          (omega (arith, few, pre .1, lt, pre .2, h .inv .1 .long))
-          (omega (arith, few, pre .1, lt, pre .3, h .inv .1 .wide)),
+      record {
+        place = omega (arith, pre .1, lt);
+        carried-room = omega (arith, few, pre .1, lt, pre .2, h .inv .1 .long);
+        bits-room = omega (arith, few, pre .1, lt, pre .3, h .inv .1 .wide);
+        below = to-below (a .w) cs ms (a .n) (pre .1) (h .p) (h .count) (h .inv .1)
+            (omega (arith, few, pre .1, lt, pre .2, h .inv .1 .long))
+            (omega (arith, few, pre .1, lt, pre .3, h .inv .1 .wide));
+      },
     )
 
 add-p : tie.Need-add-p Inv-loop μ-loop

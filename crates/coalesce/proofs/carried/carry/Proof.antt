@@ -26,8 +26,8 @@ add-bits c =
     let at-start = c .before .before .before .before .before .before in
     let place = c .before .before .place-of in
     let room =
-    bit-room _ (at-start .args .p) (at-start .pre .2)
-    (at-start .pre .3 (place .result .at) (place .ensures .there (c .before .if1 .taken) .0)) in
+    bit-room _ (at-start .args .p) (at-start .pre .place)
+    (at-start .pre .below (place .result .at) (place .ensures .there (c .before .if1 .taken) .0)) in
     omega (arith, room)
 
 slice-write-bits : tie.Need-slice-write-bits
@@ -44,9 +44,9 @@ returns c =
     let at-start = c .before .before .before .before .before .before in
     let place = c .before .before .place-of in
     carry-there (at-start .args .c) (at-start .args .p) _ (now (at-start .args .carried)) (now (at-start .args .bits))
-    (at-start .pre .0) (at-start .pre .1) (place .ensures) (c .before .if1 .taken) _
+    (at-start .pre .carried-room) (at-start .pre .bits-room) (place .ensures) (c .before .if1 .taken) _
     (ap (λ (x : ℕ). getD (now (at-start .args .bits)) (place .result .at) 0 + x)
-    (bit-word (at-start .args .p) (at-start .pre .2))) refl
+    (bit-word (at-start .args .p) (at-start .pre .place))) refl
 
 insert-at-requires : tie.Need-insert-at-requires
 insert-at-requires c κs = search needs
@@ -70,8 +70,8 @@ returns-2 c =
     let at-place = at-if1 .before in
     let at-start = at-place .before .before .before .before in
     let a = at-start .args in
-    carry-new (a .c) (a .p) _ (now (a .carried)) (now (a .bits)) (at-start .pre .0) (at-start .pre .1)
-    (at-place .place-of .ensures) (at-if1 .if1 .left) _ (bit-word (a .p) (at-start .pre .2)) (at-insert .insert-at .ensures)
+    carry-new (a .c) (a .p) _ (now (a .carried)) (now (a .bits)) (at-start .pre .carried-room) (at-start .pre .bits-room)
+    (at-place .place-of .ensures) (at-if1 .if1 .left) _ (bit-word (a .p) (at-start .pre .place)) (at-insert .insert-at .ensures)
     (c .before .before .insert-at2 .ensures)
 
 pub carry-spec : {M : Type 1} → statement M

@@ -7,7 +7,7 @@ use Rattle.coalesce.proofs.carried.carry_at.Statement.{statement}
 use Rattle.coalesce.proofs.carried.carry_at.Tie as tie
 
 bit-coeff-requires : tie.Need-bit-coeff-requires
-bit-coeff-requires c κs = let pre = c .before .before .pre in (pre .0, pre .2, pre .1)
+bit-coeff-requires c κs = let pre = c .before .before .pre in (pre .0, pre .2 .place, pre .1)
 
 returns : tie.Need-returns
 returns c =
@@ -15,10 +15,10 @@ returns c =
     let a = at-start .args in
     let pre = at-start .pre in
     at-none (a .w) (now (a .coeffs)) (now (a .masks)) (a .n) (a .p) _ (a .count) (now (a .carried)) (now (a .bits))
-    (c .before .bit-coeff .ensures) (omega (arith, pre .3)) (omega (arith, pre .4)) (c .if1 .taken)
+    (c .before .bit-coeff .ensures) (omega (arith, pre .2 .carried-room)) (omega (arith, pre .2 .bits-room)) (c .if1 .taken)
 
 carry-requires : tie.Need-carry-requires
-carry-requires c κs = let pre = c .before .before .before .before .before .before .pre in (pre .3, pre .4, pre .2, pre .5)
+carry-requires c κs = c .before .before .before .before .before .before .pre .2
 
 same-length : tie.Need-same-length
 same-length c = search needs

@@ -4,6 +4,7 @@ use Prim.Native.Nat.{_-_, _≤_}
 use native.Mathlib.Omega.{arith}
 use denote.Ref.{now}
 use Rattle.record.specs.Decode.{decode}
+use Rattle.made.proofs.WordsLaws.{makes-later}
 use Rattle.structure_laws.specs.CoalesceTerms.{carriedRows}
 use Rattle.coalesce.specs.Coalescing.{carriedIn, Coalesced}
 use Rattle.coalesce.proofs.NewTermsLaws.{terms-none, terms-next, terms-done}
@@ -21,20 +22,20 @@ abbrev μ-loop : tie.MeasureT-loop
 loop-holds : tie.Need-loop-holds Inv-loop μ-loop
 loop-holds c =
     let a = c .before .before .before .before .before .before .args in
-    (omega arith, terms-none (a .w) (decode (now (a .b))) (now (a .carried)) (now (a .bits)) (c .before .before .before .before .before .before .pre .0))
+    (omega arith, terms-none (a .w) (decode (now (a .b))) (now (a .carried)) (now (a .bits)) (c .before .before .before .before .before .before .pre .makes .room))
 
 mul-put-term : tie.Need-mul-put-term Inv-loop μ-loop
-mul-put-term c = omega (arith, c .before .before .before .before .before .before .before .before .pre .4)
+mul-put-term c = omega (arith, c .before .before .before .before .before .before .before .before .pre .carried-room)
 
 shared-slice-read-put-term : tie.Need-shared-slice-read-put-term Inv-loop μ-loop
-shared-slice-read-put-term c = omega (arith, c .before .loop-test .taken, c .before .before .before .before .before .before .before .before .before .pre .4)
+shared-slice-read-put-term c = omega (arith, c .before .loop-test .taken, c .before .before .before .before .before .before .before .before .before .pre .carried-room)
 
 mul-put-term-2 : tie.Need-mul-put-term-2 Inv-loop μ-loop
-mul-put-term-2 c = omega (arith, c .before .before .before .before .before .before .before .before .before .pre .5)
+mul-put-term-2 c = omega (arith, c .before .before .before .before .before .before .before .before .before .pre .bits-room)
 
 shared-slice-read-put-term-2 : tie.Need-shared-slice-read-put-term-2 Inv-loop μ-loop
 shared-slice-read-put-term-2 c =
-    omega (arith, c .before .before .loop-test .taken, c .before .before .before .before .before .before .before .before .before .before .pre .5)
+    omega (arith, c .before .before .loop-test .taken, c .before .before .before .before .before .before .before .before .before .before .pre .bits-room)
 
 put-term-requires : tie.Need-put-term-requires Inv-loop μ-loop
 put-term-requires c κs =
@@ -42,7 +43,7 @@ put-term-requires c κs =
     let at-loop = at-test .before in
     let pre = at-loop .before .before .before .before .before .before .before .pre in
     let h = at-loop .loop .inv .1 in
-    (h .room, pre .1, omega (arith, h .rows-le, pre .2, at-test .loop-test .taken), pre .3)
+    makes-later (pre .makes) (h .room) (omega (arith, h .rows-le, at-test .loop-test .taken))
 
 add-k : tie.Need-add-k Inv-loop μ-loop
 add-k c = omega (arith, c .before .before .before .before .before .before .before .before .before .before .before .before .loop-test .taken)
@@ -61,12 +62,12 @@ loop-again c =
     let h = at-loop .loop in
     let lt = at-test .loop-test .taken in (
       omega (arith, lt),
-      terms-next (a .w) (decode (now (a .b))) (now (a .carried)) (now (a .bits)) (h .k) (omega (arith, lt, pre .4))
-          (omega (arith, lt, pre .5)) (h .inv .1) (at-put .put-term .ensures),
+      terms-next (a .w) (decode (now (a .b))) (now (a .carried)) (now (a .bits)) (h .k) (omega (arith, lt, pre .carried-room))
+          (omega (arith, lt, pre .bits-room)) (h .inv .1) (at-put .put-term .ensures),
     )
 
 same-length : tie.Need-same-length Inv-loop μ-loop
-same-length c = c .before .loop .inv .1 .room .words ∙ sym (c .before .before .before .before .before .before .before .before .pre .0 .words)
+same-length c = c .before .loop .inv .1 .room .words ∙ sym (c .before .before .before .before .before .before .before .before .pre .makes .room .words)
 
 same-length-2 : tie.Need-same-length-2 Inv-loop μ-loop
 same-length-2 c = c .before .loop .inv .1 .wide

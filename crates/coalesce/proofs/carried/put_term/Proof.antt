@@ -17,7 +17,7 @@ returns : tie.Need-returns
 returns c =
     let at-start = c .before .before .before .before .before .before in
     let a = at-start .args in
-    coalesced-full (at-start .pre .0) (is-full (now (a .made)) (c .if1 .taken))
+    coalesced-full (at-start .pre .room) (is-full (now (a .made)) (c .if1 .taken))
     (λ l. row-past (a .w) (decode (now (a .b))) (a .c) (a .m) l)
 
 bitmask-requires : tie.Need-bitmask-requires
@@ -45,7 +45,7 @@ returns-2 c =
     let at-if1 = at-if2 .before .before in
     let at-start = at-if1 .before .before .before .before .before .before in
     let a = at-start .args in
-    let hw = at-start .pre .3 in
+    let hw = at-start .pre .width in
     term-bare (a .w) (a .c) (a .m) (decode (now (a .b))) hw (not-full (now (a .made)) (at-if1 .if1 .left)) _
     (at-if2 .if2 .taken ∙ at-if2 .before .bitmask .ensures ∙ bitmask-ones (a .w) hw) (at-bare .find-or-create-bare .ensures)
     (c .before .before .add-word .ensures)
@@ -75,7 +75,7 @@ returns-3 c =
     let at-if1 = at-if2 .before .before in
     let at-start = at-if1 .before .before .before .before .before .before in
     let a = at-start .args in
-    let hw = at-start .pre .3 in
+    let hw = at-start .pre .width in
     let ones = at-if2 .before .bitmask .ensures ∙ bitmask-ones (a .w) hw in
     term-masked (a .w) (a .c) (a .m) (decode (now (a .b))) hw (not-full (now (a .made)) (at-if1 .if1 .left))
     (λ e. at-if2 .if2 .left (e ∙ sym ones)) (at-masked .create-masked .ensures) (c .before .before .add-word2 .ensures)

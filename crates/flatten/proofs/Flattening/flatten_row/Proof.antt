@@ -1,5 +1,6 @@
 -- `Flattening::flatten_row` meets its contract: no term, an atom to flatten, or a coefficient that is kept.
 use mathlib.Core.Path.{refl, ap, sym, _∙_}
+use native.Mathlib.Omega.{arith}
 use borrow.Author.Tests.{not-true, not-false}
 use denote.Ref.{now}
 use Rattle.record.proofs.BytesLaws.{bytes-drop}
@@ -20,7 +21,7 @@ rest-from-requires-2 c κs = search needs
 atom-length-requires : tie.Need-atom-length-requires
 atom-length-requires c κs =
     let at-rest = c .before in
-    rw (at-rest .rest-from .ensures) (at-rest .before .before .before .before .before .pre .5)
+    rw (at-rest .rest-from .ensures) (at-rest .before .before .before .before .before .pre .row .atom)
 
 add-after : tie.Need-add-after
 add-after c = search needs
@@ -36,9 +37,9 @@ returns c =
     let at-length = c .before .before in
     let at-rest = at-length .before .before in
     let at-start = at-rest .before .before .before .before .before in
-    turn-none _ _ (at-start .args .self) (at-start .pre .1) (at-start .pre .2) (at-start .pre .5)
+    turn-none _ _ (at-start .args .self) (at-start .pre .row .inside) (at-start .pre .row .terms-inside) (at-start .pre .row .atom)
     (at-rest .rest-from .ensures) (at-length .before .rest-from2 .ensures) (at-length .atom-length .ensures .0)
-    (at-start .pre .8) _ (sym (c .before .has-term .ensures) ∙ not-true _ (c .if1 .taken))
+    (at-start .pre .room) _ (sym (c .before .has-term .ensures) ∙ not-true _ (c .if1 .taken))
 
 front-word-requires : tie.Need-front-word-requires
 front-word-requires c κs =
@@ -47,15 +48,15 @@ front-word-requires c κs =
 tree-span-requires : tie.Need-tree-span-requires
 tree-span-requires c κs =
     let at-rest = c .before .before .before .before .before in
-    rw (at-rest .rest-from .ensures) (at-rest .before .before .before .before .before .pre .5)
+    rw (at-rest .rest-from .ensures) (at-rest .before .before .before .before .before .pre .row .atom)
 
 is-complex-requires : tie.Need-is-complex-requires
 is-complex-requires c κs =
     let at-rest = c .before .before .before .before .before .before in
     let at-start = at-rest .before .before .before .before .before in (
       rw (c .tree-span .ensures, at-rest .rest-from .ensures)
-          (first-tree-sized (at-start .args .w) _ (at-start .pre .6) (at-start .pre .5)),
-      at-start .pre .0,
+          (first-tree-sized (at-start .args .w) _ (at-start .pre .row .atoms-ok) (at-start .pre .row .atom)),
+      at-start .pre .row .width,
     )
 
 flatten-atom-requires : tie.Need-flatten-atom-requires
@@ -71,19 +72,28 @@ flatten-atom-requires c κs =
     bytes-drop (at-start .args .self .at) (now (at-start .args .f))
     (λ i. at-known .shared-slice-known .given i .fits) in (
       rw (at-span .tree-span .ensures, r)
-          (first-tree-sized (at-start .args .w) _ (at-start .pre .6) (at-start .pre .5)),
-      complex-index _ _ bytes (first-atom-ok (at-start .args .w) _ (at-start .pre .6) (at-start .pre .5))
-          (at-span .tree-span .ensures ∙ ap treeSpan r) (sym (at-complex .is-complex .ensures) ∙ at-if2 .if2 .taken),
-      at-start .pre .0,
-      at-start .pre .8,
-      at-start .pre .9,
+          (first-tree-sized (at-start .args .w) _ (at-start .pre .row .atoms-ok) (at-start .pre .row .atom)),
+      record {
+        width = at-start .pre .row .width;
+        within = complex-index _ _ bytes (first-atom-ok (at-start .args .w) _ (at-start .pre .row .atoms-ok) (at-start .pre .row .atom))
+            (at-span .tree-span .ensures ∙ ap treeSpan r)
+            (sym (at-complex .is-complex .ensures) ∙ at-if2 .if2 .taken);
+        room = at-start .pre .room;
+        more = at-start .pre .more;
+      },
     )
 
 add-t29 : tie.Need-add-t29
-add-t29 c = search needs
+add-t29 c =
+    let at-atom = c .before .before .before .before .before .before in
+    let at-start = at-atom .before .before .before .before .before .before .before .before .before .before .before .before .before .before .before .before .before in
+    omega (arith, at-start .pre .row .terms-inside)
 
 add-t30 : tie.Need-add-t30
-add-t30 c = search needs
+add-t30 c =
+    let at-atom = c .before .before .before .before .before .before in
+    let at-start = at-atom .before .before .before .before .before .before .before .before .before .before .before .before .before .before .before .before .before in
+    omega (arith, at-start .pre .number-le, at-start .pre .row .inside)
 
 same-length : tie.Need-same-length
 same-length c = search needs
@@ -103,11 +113,11 @@ returns-2 c =
     let at-length = at-word .before .before .before in
     let at-rest = at-length .before .before in
     let at-start = at-rest .before .before .before .before .before in
-    turn-flat _ _ (at-start .args .self) (at-start .pre .1) (at-start .pre .2) (at-start .pre .5)
+    turn-flat _ _ (at-start .args .self) (at-start .pre .row .inside) (at-start .pre .row .terms-inside) (at-start .pre .row .atom)
     (at-rest .rest-from .ensures) (at-length .before .rest-from2 .ensures) (at-length .atom-length .ensures .0)
-    (at-start .pre .8) _
+    (at-start .pre .room) _
     (sym (at-word .before .before .has-term .ensures) ∙ not-false _ (at-word .before .if1 .left))
-    (at-word .front-word .ensures) (at-complex .before .tree-span .ensures) (at-start .pre .7)
+    (at-word .front-word .ensures) (at-complex .before .tree-span .ensures) (at-start .pre .terms-ok)
     (sym (at-complex .is-complex .ensures) ∙ at-if2 .if2 .taken) (at-atom .flatten-atom .ensures)
 
 mul-coeffs : tie.Need-mul-coeffs
@@ -132,11 +142,11 @@ returns-3 c =
     let at-length = at-word .before .before .before in
     let at-rest = at-length .before .before in
     let at-start = at-rest .before .before .before .before .before in
-    turn-put _ _ (at-start .args .self) (at-start .pre .1) (at-start .pre .2) (at-start .pre .5)
+    turn-put _ _ (at-start .args .self) (at-start .pre .row .inside) (at-start .pre .row .terms-inside) (at-start .pre .row .atom)
     (at-rest .rest-from .ensures) (at-length .before .rest-from2 .ensures) (at-length .atom-length .ensures .0)
-    (at-start .pre .8) _
+    (at-start .pre .room) _
     (sym (at-word .before .before .has-term .ensures) ∙ not-false _ (at-word .before .if1 .left))
-    (at-word .front-word .ensures) (at-complex .before .tree-span .ensures) (at-start .pre .7)
+    (at-word .front-word .ensures) (at-complex .before .tree-span .ensures) (at-start .pre .terms-ok)
     (sym (at-complex .is-complex .ensures) ∙ c .if2 .left) refl
 
 pub flatten-row-spec : {M : Type 1} → statement M

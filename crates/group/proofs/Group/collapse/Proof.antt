@@ -2,6 +2,7 @@ use mathlib.Core.Path.{refl}
 use native.Mathlib.Omega.{arith}
 use denote.Ref.{now}
 use Rattle.record.specs.Decode.{decode}
+use Rattle.made.proofs.WordsLaws.{makes-fewer, makes-later}
 use Rattle.group.proofs.CollapseLaws.{collapsed-stepped}
 use borrow.Author.Needs.{needs}
 use Rattle.group.proofs.Group.collapse.Statement.{statement}
@@ -70,14 +71,14 @@ element-write-self-5 c = search needs
 create-masked-requires : tie.Need-create-masked-requires
 create-masked-requires c κs =
     let pre = c .before .before .before .before .before .before .before .before .before .before .pre in
-    (pre .0, pre .1, omega (arith, pre .2), pre .3)
+    makes-fewer (pre .makes) (omega arith)
 
 create-masked-requires-2 : tie.Need-create-masked-requires-2
 create-masked-requires-2 c κs =
     let grown = c .before .before .before .before .before .before in
     let pre = grown .before .before .before .before .before .before .before .before .before .before .before .pre in
     let one = grown .create-masked .ensures in
-    (one .room, pre .1, omega (arith, one .later .rows-le, pre .2), pre .3)
+    makes-later (pre .makes) (one .room) (omega (arith, one .later .rows-le))
 
 same-length : tie.Need-same-length
 same-length c = search needs
@@ -90,7 +91,7 @@ returns c =
     let grown = c .before .before .before .before .before .before .before .before .before .before .before in
     let start = grown .before .before .before .before .before .before .before .before .before .before .before in
     let a = start .args in
-    collapsed-stepped (a .w) (decode (now (a .b))) (a .i) (a .j) (a .k) (start .pre .7) (start .pre .8)
+    collapsed-stepped (a .w) (decode (now (a .b))) (a .i) (a .j) (a .k) (start .pre .k-not-i) (start .pre .k-not-j)
     (grown .create-masked .ensures) (c .before .before .before .before .create-masked2 .ensures) refl
 
 pub collapse-spec : {M : Type 1} → statement M

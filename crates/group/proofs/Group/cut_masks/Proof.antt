@@ -5,6 +5,7 @@ use native.Mathlib.Omega.{arith}
 use lib.ListN.{length}
 use denote.Ref.{now}
 use Rattle.record.specs.Decode.{decode}
+use Rattle.made.proofs.WordsLaws.{makes-later}
 use Rattle.base.specs.Loop.{forIn}
 use Rattle.group.specs.Steps.{cutAt}
 use Rattle.group.specs.Made.{Stepped}
@@ -26,7 +27,7 @@ abbrev μ-loop : tie.MeasureT-loop
 μ-loop b hash w made₀ out₀ self₀ n i₀ made out self i = n - i
 
 loop-holds : tie.Need-loop-holds Inv-loop μ-loop
-loop-holds c = (omega arith, loop-none _ 0 (c .before .before .before .pre .0))
+loop-holds c = (omega arith, loop-none _ 0 (c .before .before .before .pre .makes .room))
 
 mul-m : tie.Need-mul-m Inv-loop μ-loop
 mul-m c = omega arith
@@ -65,7 +66,7 @@ create-masked-requires : tie.Need-create-masked-requires Inv-loop μ-loop
 create-masked-requires c κs =
     let h = c .before .before .before .before .before .before .before .before .before .loop .inv in
     let pre = c .before .before .before .before .before .before .before .before .before .before .before .before .before .pre in
-    (h .1 .room, pre .1, omega (arith, h .1 .later .rows-le, pre .2), pre .3)
+    makes-later (pre .makes) (h .1 .room) (omega (arith, h .1 .later .rows-le))
 
 add-i : tie.Need-add-i Inv-loop μ-loop
 add-i c = omega arith
@@ -88,7 +89,7 @@ loop-again c =
     )
 
 same-length : tie.Need-same-length Inv-loop μ-loop
-same-length c = c .before .loop .inv .1 .room .words ∙ sym (c .before .before .before .before .before .pre .0 .words)
+same-length c = c .before .loop .inv .1 .room .words ∙ sym (c .before .before .before .before .before .pre .makes .room .words)
 
 same-length-2 : tie.Need-same-length-2 Inv-loop μ-loop
 same-length-2 c = c .before .loop .inv .1 .long

@@ -1,42 +1,66 @@
 -- `merge_all` meets its contract: the steps in turn.
 use mathlib.Core.Path.{sym, _∙_}
 use native.Mathlib.Omega.{arith}
+use Rattle.made.proofs.WordsLaws.{makes-fewer, makes-later}
 use Rattle.group.proofs.StagesLaws.{len-negated, merge-all}
 use borrow.Author.Needs.{needs}
 use Rattle.group.proofs.Group.merge_all.Statement.{statement}
 use Rattle.group.proofs.Group.merge_all.Tie as tie
 
 bucket-merge-requires : tie.Need-bucket-merge-requires
-bucket-merge-requires c κs = search needs
+bucket-merge-requires c κs =
+    let pre = c .before .before .before .before .before .pre in
+    record { makes = makes-fewer (pre .makes) (omega arith); few = pre .few }
 
 pair-merge-requires : tie.Need-pair-merge-requires
-pair-merge-requires c κs = search needs
+pair-merge-requires c κs =
+    let at-bucket = c .before .before .before .before .before .before in
+    let one = at-bucket .bucket-merge .ensures in
+    let pre = at-bucket .before .before .before .before .before .before .pre in
+    record {
+      makes = makes-later (pre .makes) (one .room) (omega (arith, one .later .rows-le));
+      few = omega (arith, one .len, pre .few);
+    }
 
 to-minus-one-requires : tie.Need-to-minus-one-requires
-to-minus-one-requires c κs = search needs
+to-minus-one-requires c κs =
+    let at-pair = c .before .before .before .before in
+    let at-bucket = at-pair .before .before .before .before .before .before .before in
+    let pre = at-bucket .before .before .before .before .before .before .pre in
+    (omega (arith, at-pair .pair-merge .ensures .len, at-bucket .bucket-merge .ensures .len, pre .few), pre .makes .width)
 
 pair-merge-requires-2 : tie.Need-pair-merge-requires-2
 pair-merge-requires-2 c κs =
-    let one = c .before .before .before .before .before .before .before .before .before .before .before .before .before .before .bucket-merge .ensures in
-    let two = c .before .before .before .before .before .before .before .pair-merge .ensures in
-    let at-start = c .before .before .before .before .before .before .before .before .before .before .before .before .before .before .before .before .before .before .before .before in (
-      two .room,
-      at-start .pre .1,
-      omega (arith, one .later .rows-le, two .later .rows-le, at-start .pre .2),
-      at-start .pre .3,
-      omega (arith, len-negated _ _ (c .before .before .to-minus-one .ensures), one .len, two .len, at-start .pre .4),
-    )
+    let at-pair = c .before .before .before .before .before .before .before in
+    let at-bucket = at-pair .before .before .before .before .before .before .before in
+    let one = at-bucket .bucket-merge .ensures in
+    let two = at-pair .pair-merge .ensures in
+    let pre = at-bucket .before .before .before .before .before .before .pre in
+    record {
+      makes = makes-later (pre .makes) (two .room) (omega (arith, one .later .rows-le, two .later .rows-le));
+      few = omega (
+        arith,
+        len-negated _ _ (c .before .before .to-minus-one .ensures),
+        one .len,
+        two .len,
+        pre .few,
+      );
+    }
 
 same-length : tie.Need-same-length
-same-length c = c .before .before .before .before .pair-merge2 .ensures .room .words ∙ sym (c .before .before .before .before .before .before .before .before .before .before .before .before .before .before .before .before .before .before .before .before .before .before .before .before .before .pre .0 .words)
+same-length c = c .before .before .before .before .pair-merge2 .ensures .room .words ∙ sym (c .before .before .before .before .before .before .before .before .before .before .before .before .before .before .before .before .before .before .before .before .before .before .before .before .before .pre .makes .room .words)
 
 same-length-2 : tie.Need-same-length-2
 same-length-2 c = search needs
 
 returns : tie.Need-returns
 returns c =
-    merge-all _ (c .before .before .before .before .before .before .before .before .before .before .before .before .before .before .before .before .before .before .before .bucket-merge .ensures) (c .before .before .before .before .before .before .before .before .before .before .before .before .pair-merge .ensures) (c .before .before .before .before .before .before .before .to-minus-one .ensures)
-    (c .before .before .before .before .pair-merge2 .ensures)
+    let at-pair2 = c .before .before .before .before in
+    let at-minus-one = at-pair2 .before .before .before in
+    let at-pair = at-minus-one .before .before .before .before .before in
+    let at-bucket = at-pair .before .before .before .before .before .before .before in
+    merge-all _ (at-bucket .bucket-merge .ensures) (at-pair .pair-merge .ensures) (at-minus-one .to-minus-one .ensures)
+    (at-pair2 .pair-merge2 .ensures)
 
 pub merge-all-spec : {M : Type 1} → statement M
 merge-all-spec =

@@ -16,12 +16,12 @@ element-copy-out-mark c = search needs
 returns : tie.Need-returns
 returns c =
     let a = c .before .before .before .before .before .args in
-    turned-as (at-one (a .w) (decode (now (a .b))) (a .i) _ (c .if1 .taken)) (turned-none (c .before .before .before .before .before .pre .0))
+    turned-as (at-one (a .w) (decode (now (a .b))) (a .i) _ (c .if1 .taken)) (turned-none (c .before .before .before .before .before .pre .makes .room))
 
 returns-2 : tie.Need-returns-2
 returns-2 c =
     let a = c .before .before .before .before .before .before .args in
-    turned-as (at-three (a .w) (decode (now (a .b))) (a .i) _ (c .if2 .taken)) (turned-none (c .before .before .before .before .before .before .pre .0))
+    turned-as (at-three (a .w) (decode (now (a .b))) (a .i) _ (c .if2 .taken)) (turned-none (c .before .before .before .before .before .before .pre .makes .room))
 
 bitmask-requires : tie.Need-bitmask-requires
 bitmask-requires c κs = search needs
@@ -44,16 +44,14 @@ partner-of-requires c κs = search needs
 recover-pair-requires : tie.Need-recover-pair-requires
 recover-pair-requires c κs =
     let pre = c .before .before .before .before .before .before .before .before .before .before .before .before .before .before .before .before .pre in
-    let a = c .before .before .before .before .before .before .before .before .before .before .before .before .before .before .before .before .args in (
-      pre .0,
-      pre .1,
-      pre .2,
-      pre .3,
-      omega (arith, pre .4, pre .5),
-      omega (arith, c .before .before .if3 .taken, pre .5),
-      partner-other (a .i) _ _ _ _ (c .before .before .before .partner-of .ensures),
-      pre .6,
-    )
+    let a = c .before .before .before .before .before .before .before .before .before .before .before .before .before .before .before .before .args in
+    record {
+      makes = pre .makes;
+      i-lt = omega (arith, pre .within, pre .few);
+      j-lt = omega (arith, c .before .before .if3 .taken, pre .few);
+      apart = partner-other (a .i) _ _ _ _ (c .before .before .before .partner-of .ensures);
+      not-full = pre .not-full;
+    }
 
 same-length : tie.Need-same-length
 same-length c = search needs
@@ -72,7 +70,7 @@ returns-3 c =
     let at-if1 = at-if2 .before in
     let at-start = at-if1 .before .before .before .before .before in
     let a = at-start .args in turned-as
-    (at-pair (a .w) (decode (now (a .b))) (a .i) _ (at-bitmask .bitmask .ensures ∙ bitmask-ones (a .w) (at-start .pre .3))
+    (at-pair (a .w) (decode (now (a .b))) (a .i) _ (at-bitmask .bitmask .ensures ∙ bitmask-ones (a .w) (at-start .pre .makes .width))
     (at-complement .complement .ensures) (at-partner-of .partner-of .ensures) (at-if1 .if1 .left) (at-if2 .if2 .left) (at-if3 .if3 .taken))
     (at-recover-pair .recover-pair .ensures)
 
@@ -82,9 +80,9 @@ returns-4 c =
     turned-as
     (at-alone (a .w) (decode (now (a .b))) (a .i) _
     (c .before .before .before .before .before .before .before .bitmask .ensures ∙ bitmask-ones (a .w)
-    (c .before .before .before .before .before .before .before .before .before .before .before .before .before .before .pre .3))
+    (c .before .before .before .before .before .before .before .before .before .before .before .before .before .before .pre .makes .width))
     (c .before .before .before .before .before .complement .ensures) (c .before .partner-of .ensures) (omega (arith, c .if3 .left)))
-    (turned-none (c .before .before .before .before .before .before .before .before .before .before .before .before .before .before .pre .0))
+    (turned-none (c .before .before .before .before .before .before .before .before .before .before .before .before .before .before .pre .makes .room))
 
 pub recover-entry-spec : {M : Type 1} → statement M
 recover-entry-spec =

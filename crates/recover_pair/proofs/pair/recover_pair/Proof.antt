@@ -4,7 +4,7 @@ use native.Mathlib.Omega.{arith}
 use denote.Ref.{now}
 use Rattle.record.specs.Decode.{decode}
 use Rattle.recover_pair.proofs.PairingLaws.{pair-xor, pair-xor-back, pair-none, pair-eliminate}
-use Rattle.recover_pair.proofs.TurnedLaws.{turned-as, turned-none}
+use Rattle.recover_pair.proofs.TurnedLaws.{xor-makes, turned-as, turned-none}
 use borrow.Author.Needs.{needs}
 use Rattle.recover_pair.proofs.pair.recover_pair.Statement.{statement}
 use Rattle.recover_pair.proofs.pair.recover_pair.Tie as tie
@@ -43,7 +43,13 @@ recover-xor-requires : tie.Need-recover-xor-requires
 recover-xor-requires c κs =
     let at-if1 = c .before .before .before .before .before .before in
     let pre = at-if1 .before .before .before .before .before .before .before .pre in
-    (pre .0, pre .1 .same, pre .1 .encodable, pre .2, pre .3, pre .4, pre .5, pre .6)
+    record {
+      width = pre .makes .width;
+      makes = xor-makes (pre .makes);
+      src-lt = pre .i-lt;
+      dst-lt = pre .j-lt;
+      apart = pre .apart;
+    }
 
 same-length : tie.Need-same-length
 same-length c = search needs
@@ -65,7 +71,13 @@ recover-xor-requires-2 : tie.Need-recover-xor-requires-2
 recover-xor-requires-2 c κs =
     let at-if1 = c .before .before .before .before .before .before in
     let pre = at-if1 .before .before .before .before .before .before .before .pre in
-    (pre .0, pre .1 .same, pre .1 .encodable, pre .2, pre .3, pre .5, pre .4, (λ e. pre .6 (sym e)))
+    record {
+      width = pre .makes .width;
+      makes = xor-makes (pre .makes);
+      src-lt = pre .j-lt;
+      dst-lt = pre .i-lt;
+      apart = λ e. pre .apart (sym e);
+    }
 
 same-length-3 : tie.Need-same-length-3
 same-length-3 c = search needs
@@ -93,7 +105,7 @@ returns-3 c =
     (pair-none (a .w) (decode (now (a .b))) (a .i) (a .j) _ (c .before .before .before .mod-add .ensures) (c .before .before .if1 .left)
     (c .before .mod-sub .ensures)
     (c .if3 .taken))
-    (turned-none (c .before .before .before .before .before .before .before .before .before .pre .0))
+    (turned-none (c .before .before .before .before .before .before .before .before .before .pre .makes .room))
 
 eliminate-mask-requires : tie.Need-eliminate-mask-requires
 eliminate-mask-requires c κs = search needs

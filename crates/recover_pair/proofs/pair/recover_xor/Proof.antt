@@ -76,8 +76,8 @@ returns c =
     let at-create-xored = c .before .before .before .before .before .before .before .before .before in
     let at-bitmask = at-create-xored .before .before .before in
     let at-start = at-bitmask .before .before .before .before .before .before .before .before in
-    let a = at-start .args in let pre = at-start .pre in xor-turned (a .w) (decode (now (a .b))) (a .src) (a .dst) (pre .7)
-    (at-bitmask .bitmask .ensures ∙ bitmask-ones (a .w) (pre .4)) (at-create-xored .create-xored .ensures) (c .before .before .before .mod-mul .ensures)
+    let a = at-start .args in let pre = at-start .pre in xor-turned (a .w) (decode (now (a .b))) (a .src) (a .dst) (pre .apart)
+    (at-bitmask .bitmask .ensures ∙ bitmask-ones (a .w) (pre .width)) (at-create-xored .create-xored .ensures) (c .before .before .before .mod-mul .ensures)
     (c .before .before .add-constant .ensures) refl
 
 pub recover-xor-spec : {M : Type 1} → statement M

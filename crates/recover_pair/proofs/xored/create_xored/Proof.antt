@@ -16,7 +16,7 @@ load-requires c κs = search needs
 join-xored-requires : tie.Need-join-xored-requires
 join-xored-requires c κs =
     let pre = c .before .before .before .before .before .before .pre in
-    (rw (c .before .load .ensures) (pre .0 .placed), pre .1, pre .2)
+    (rw (c .before .load .ensures) (pre .room .placed), pre .same, pre .encodable)
 
 store-requires : tie.Need-store-requires
 store-requires c κs = search needs
@@ -31,7 +31,7 @@ returns : tie.Need-returns
 returns c =
     let a = c .before .before .before .before .before .before .before .before .before .before .before .before .before .args in
     let pre = c .before .before .before .before .before .before .before .before .before .before .before .before .before .pre in
-    grew-xored (a .w) (now (a .b)) (a .m) (pre .1) (pre .2) (omega arith) (now (a .made)) (now (a .out)) (pre .0)
+    grew-xored (a .w) (now (a .b)) (a .m) (pre .same) (pre .encodable) (omega arith) (now (a .made)) (now (a .out)) (pre .room)
     (c .before .before .before .before .before .before .join-xored .ensures
     ∙ ap (λ (tab : Table). createAtom (a .w) xorFamily (xorBytes (a .w) (now (a .b)) (a .m)) (storeOf tab (now (a .out))))
     (c .before .before .before .before .before .before .before .before .load .ensures))

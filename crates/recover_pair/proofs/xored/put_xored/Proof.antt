@@ -31,7 +31,7 @@ structural-hash-requires : tie.Need-structural-hash-requires
 structural-hash-requires c κs =
     let a = c .before .before .before .before .before .before .before .before .args in
     let pre = c .before .before .before .before .before .before .before .before .pre in
-    span-sized (a .w) (now (a .b)) (a .m) (pre .1) (pre .2) (omega arith) (now (a .out)) (a .at) (pre .0) (c .before .before .before .before .put-tree .ensures)
+    span-sized (a .w) (now (a .b)) (a .m) (pre .1) (pre .2) (omega arith) (now (a .out)) (a .at) (pre .0 .inside) (c .before .before .before .before .put-tree .ensures)
 
 put-record-requires : tie.Need-put-record-requires
 put-record-requires c κs = search needs
@@ -43,9 +43,9 @@ returns : tie.Need-returns
 returns c =
     let a = c .before .before .before .before .before .before .before .before .before .before .before .before .before .args in
     let pre = c .before .before .before .before .before .before .before .before .before .before .before .before .before .pre in
-    wrote-xored (a .w) (now (a .b)) (a .m) (pre .1) (pre .2) (omega arith) (now (a .out)) (a .at) (a .size) (pre .0) (pre .4)
+    wrote-xored (a .w) (now (a .b)) (a .m) (pre .1) (pre .2) (omega arith) (now (a .out)) (a .at) (a .size) (pre .0 .inside) (pre .0 .size-is)
     (c .before .before .before .before .before .before .before .before .before .put-tree .ensures)
-    (span-xored (a .w) (now (a .b)) (a .m) (pre .1) (now (a .out)) (a .at) (pre .0)
+    (span-xored (a .w) (now (a .b)) (a .m) (pre .1) (now (a .out)) (a .at) (pre .0 .inside)
     (c .before .before .before .before .before .before .before .before .before .put-tree .ensures))
     (c .before .before .before .before .structural-hash .ensures) (c .before .before .put-record .ensures)
 

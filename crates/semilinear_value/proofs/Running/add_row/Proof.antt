@@ -22,7 +22,7 @@ rest-from-requires-2 : tie.Need-rest-from-requires-2
 rest-from-requires-2 c κs = search needs
 
 atom-length-requires : tie.Need-atom-length-requires
-atom-length-requires c κs = rw (c .before .rest-from .ensures) (c .before .before .before .before .pre .5)
+atom-length-requires c κs = rw (c .before .rest-from .ensures) (c .before .before .before .before .pre .row .atom)
 
 add-after : tie.Need-add-after
 add-after c = search needs
@@ -41,29 +41,29 @@ returns c =
     let at-start = at-rest-from .before .before .before in
     record {
       passed = passed-without (now (at-start .args .f)) (at-start .args .self .at) (at-start .args .self .next)
-          (at-start .args .self .number) (at-start .pre .1) (at-start .pre .2) (at-start .pre .5)
+          (at-start .args .self .number) (at-start .pre .row .inside) (at-start .pre .row .terms-inside) (at-start .pre .row .atom)
           (at-rest-from .rest-from .ensures) (at-rest-from2 .rest-from2 .ensures)
           (at-atom-length .atom-length .ensures .0) (sym (c .before .has-term .ensures) ∙ not-true _ (c .if1 .taken));
       sum = sum-without (now (at-start .args .f)) (at-start .args .self .at) (at-start .args .self .next)
-          (at-start .args .self .number) (at-start .pre .1) (at-start .pre .2) (at-start .pre .5)
+          (at-start .args .self .number) (at-start .pre .row .inside) (at-start .pre .row .terms-inside) (at-start .pre .row .atom)
           (at-rest-from .rest-from .ensures) (at-rest-from2 .rest-from2 .ensures)
           (at-atom-length .atom-length .ensures .0)
-          (sym (c .before .has-term .ensures) ∙ not-true _ (c .if1 .taken)) (at-start .args .w) _ (at-start .pre .4);
+          (sym (c .before .has-term .ensures) ∙ not-true _ (c .if1 .taken)) (at-start .args .w) _ (at-start .pre .fits);
     }
 
 tree-span-requires : tie.Need-tree-span-requires
 tree-span-requires c κs =
     let at-rest-from = c .before .before .before .before in
     let at-start = at-rest-from .before .before .before in
-    rw (at-rest-from .rest-from .ensures) (at-start .pre .5)
+    rw (at-rest-from .rest-from .ensures) (at-start .pre .row .atom)
 
 value-at-requires : tie.Need-value-at-requires
 value-at-requires c κs =
     let at-rest-from = c .before .before .before .before .before in
     let at-start = at-rest-from .before .before .before in (
       rw (c .tree-span .ensures, at-rest-from .rest-from .ensures)
-          (first-tree-sized (at-start .args .w) _ (at-start .pre .6) (at-start .pre .5)),
-      at-start .pre .0,
+          (first-tree-sized (at-start .args .w) _ (at-start .pre .row .atoms-ok) (at-start .pre .row .atom)),
+      at-start .pre .row .width,
     )
 
 front-word-requires : tie.Need-front-word-requires
@@ -95,17 +95,17 @@ returns-2 c =
     let at-start = at-rest-from .before .before .before in
     record {
       passed = passed-with (now (at-start .args .f)) (at-start .args .self .at) (at-start .args .self .next)
-          (at-start .args .self .number) (at-start .pre .1) (at-start .pre .2) (at-start .pre .5)
+          (at-start .args .self .number) (at-start .pre .row .inside) (at-start .pre .row .terms-inside) (at-start .pre .row .atom)
           (at-rest-from .rest-from .ensures) (at-rest-from2 .rest-from2 .ensures)
           (at-atom-length .atom-length .ensures .0)
           (sym (at-has-term .has-term .ensures) ∙ not-false _ (at-if1 .if1 .left));
-      sum = sum-step (at-start .args .w) (at-start .pre .0) (at-start .args .self .sum)
+      sum = sum-step (at-start .args .w) (at-start .pre .row .width) (at-start .args .self .sum)
           (at-front-word .front-word .result) (at-value-at .value-at .result) (c .before .mod-mul .ensures)
           (c .mod-add .ensures)
           ∙ ap₂ (λ (x y : ℕ). (at-start .args .self .sum + x * y) % 2 ^ (at-start .args .w))
           (at-front-word .front-word .ensures
           ∙ coeff-with (now (at-start .args .f)) (at-start .args .self .at) (at-start .args .self .next)
-          (at-start .args .self .number) (at-start .pre .1) (at-start .pre .2) (at-start .pre .5)
+          (at-start .args .self .number) (at-start .pre .row .inside) (at-start .pre .row .terms-inside) (at-start .pre .row .atom)
           (at-rest-from .rest-from .ensures) (at-rest-from2 .rest-from2 .ensures)
           (at-atom-length .atom-length .ensures .0)
           (sym (at-has-term .has-term .ensures) ∙ not-false _ (at-if1 .if1 .left)))

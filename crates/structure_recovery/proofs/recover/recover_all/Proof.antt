@@ -6,7 +6,7 @@ use native.Mathlib.Omega.{arith}
 use Rattle.semilinear.specs.Items.{afterAtoms}
 use Rattle.semilinear.specs.DecodeForm.{rowsOf}
 use Rattle.views.specs.Grouping.{anyBasis, basesOf}
-use Rattle.group.proofs.PassLaws.{readable-at, count-few, count-room, next-at, end-at, group-at}
+use Rattle.group.proofs.PassLaws.{count-few, count-room, next-at, end-at, group-at, all-at}
 use Rattle.made.proofs.WordsLaws.{is-full, not-full}
 use Rattle.structure_recovery.proofs.AllRecoveredLaws.{Going, going-start, going-next, going-stop, going-done}
 use Rattle.structure_recovery.proofs.recover.recover_all.Statement.{statement}
@@ -22,14 +22,14 @@ abbrev μ-loop : tie.MeasureT-loop
 μ-loop count bases n views f w made₀ coeffs₀ out₀ k₀ made coeffs out k = count - k
 
 loop-holds : tie.Need-loop-holds Inv-loop μ-loop
-loop-holds c = (omega arith, going-start _ _ _ _ _ _ (c .before .before .before .before .before .before .pre .0))
+loop-holds c = (omega arith, going-start _ _ _ _ _ _ (c .before .before .before .before .before .before .pre .room))
 
 slice-read-if1 : tie.Need-slice-read-if1 Inv-loop μ-loop
 slice-read-if1 c = let p = c .before .before .loop .inv .1 in omega (arith, p .room .words)
 
 same-length : tie.Need-same-length Inv-loop μ-loop
 same-length c = c .before .before .before .loop .inv .1 .room .words ∙ sym
-    (c .before .before .before .before .before .before .before .before .before .before .pre .0 .words)
+    (c .before .before .before .before .before .before .before .before .before .before .pre .room .words)
 
 same-length-2 : tie.Need-same-length-2 Inv-loop μ-loop
 same-length-2 c = c .before .before .before .loop .inv .1 .wide
@@ -43,28 +43,21 @@ returns c = going-stop _ _ _ _ (c .before .before .before .loop .inv .1) (is-ful
 mul-first : tie.Need-mul-first Inv-loop μ-loop
 mul-first c =
     let pre = c .before .before .before .before .before .before .before .before .before .before .pre in
-    omega (arith, c .before .before .before .loop .inv .0, count-few _ _ _ _ _ _ _ _ (pre .4) (pre .5) (pre .6), pre .3)
+    omega (arith, c .before .before .before .loop .inv .0, count-few (pre .found), pre .found .few)
 
 shared-slice-read-first : tie.Need-shared-slice-read-first Inv-loop μ-loop
 shared-slice-read-first c =
     let pre = c .before .before .before .before .before .before .before .before .before .before .before .pre in
-    omega (arith, c .before .before .before .loop-test .taken, count-room _ _ _ _ _ _ _ _ (pre .4) (pre .5) (pre .6))
+    omega (arith, c .before .before .before .loop-test .taken, count-room (pre .found))
 
 recover-at-requires : tie.Need-recover-at-requires Inv-loop μ-loop
 recover-at-requires c κs =
     let pre = c .before .before .before .before .before .before .before .before .before .before .before .before .before .before .pre in
     let going = c .before .before .before .before .before .before .before .loop .inv .1 in
     let less = c .before .before .before .before .before .before .loop-test .taken in
-    let few = count-few _ _ _ _ _ _ _ _ (pre .4) (pre .5) (pre .6) in
-    let next = next-at _ _ _ _ _ _ _ _ (pre .4) (pre .5) (pre .6) (c .before .before .before .before .before .before .before .loop .k) less in (
-      going .room,
-      readable-at _ _ _ _ _ _ _ _ (pre .4) (pre .5) (pre .6),
-      omega (arith, next .below, pre .4),
-      pre .3,
-      next .group,
-      omega (arith, going .rows-le, pre .1, less, few, pre .3),
-      pre .2,
-    )
+    let few = count-few (pre .found) in
+    all-at pre (c .before .before .before .before .before .before .before .loop .k) less (going .room)
+    (omega (arith, going .rows-le, pre .made-few, less, few, pre .found .few))
 
 add-k : tie.Need-add-k Inv-loop μ-loop
 add-k c = omega (arith, c .before .before .before .before .before .before .before .before .before .before .before .before .before .loop-test .taken)
@@ -82,12 +75,12 @@ loop-again c =
     let pre = at-start .pre in let less = at-test .loop-test .taken in let k = at-loop .loop .k in (
       omega (arith, less),
       going-next _ _ _ k (at-loop .loop .inv .1) (not-full _ (at-if1 .if1 .left))
-          (next-at _ _ _ _ _ _ _ _ (pre .4) (pre .5) (pre .6) k less .next) (group-at _ _ _ _ _ _ _ _ (pre .4) (pre .5) (pre .6) k less)
+          (next-at (pre .found) k less .next) (group-at (pre .found) k less)
           (at-recover-at .recover-at .ensures),
     )
 
 same-length-4 : tie.Need-same-length-4 Inv-loop μ-loop
-same-length-4 c = c .before .loop .inv .1 .room .words ∙ sym (c .before .before .before .before .before .before .before .before .pre .0 .words)
+same-length-4 c = c .before .loop .inv .1 .room .words ∙ sym (c .before .before .before .before .before .before .before .before .pre .room .words)
 
 same-length-5 : tie.Need-same-length-5 Inv-loop μ-loop
 same-length-5 c = c .before .loop .inv .1 .wide
@@ -99,7 +92,7 @@ returns-2 : tie.Need-returns-2 Inv-loop μ-loop
 returns-2 c =
     let pre = c .before .before .before .before .before .before .before .before .pre in
     going-done _ _ _ _ (c .before .loop .inv .1)
-    (end-at _ _ _ _ _ _ _ _ (pre .4) (pre .5) (pre .6) (c .before .loop .k) (c .loop-test .left))
+    (end-at (pre .found) (c .before .loop .k) (c .loop-test .left))
 
 pub recover-all-spec : {M : Type 1} → statement M
 recover-all-spec =

@@ -3,6 +3,7 @@ use denote.Ref.{now}
 use borrow.Author.Needs.{needs}
 use Rattle.views.specs.Views.{viewAt, basisBytes}
 use Rattle.lone.proofs.LoneLaws.{own-basis}
+use Rattle.group.proofs.PassLaws.{at-group}
 use Rattle.structure_recovery.proofs.GroupRecoveredLaws.{lone-recovered}
 use Rattle.structure_recovery.proofs.recover.recover_at.Statement.{statement}
 use Rattle.structure_recovery.proofs.recover.recover_at.Tie as tie
@@ -39,22 +40,22 @@ shared-slice-read-end c = search needs
 
 sub-is-lone : tie.Need-sub-is-lone
 unfolding viewAt
-sub-is-lone c = c .before .before .before .before .before .before .before .before .pre .4 .start-le
+sub-is-lone c = c .before .before .before .before .before .before .before .before .pre .in-group .start-le
 
 part-is-lone-start : tie.Need-part-is-lone-start
 unfolding viewAt
-part-is-lone-start c = c .before .before .before .before .before .before .before .before .pre .4 .start-le
+part-is-lone-start c = c .before .before .before .before .before .before .before .before .pre .in-group .start-le
 
 part-is-lone-end : tie.Need-part-is-lone-end
 unfolding viewAt
-part-is-lone-end c = c .before .before .before .before .before .before .before .before .pre .4 .end-le
+part-is-lone-end c = c .before .before .before .before .before .before .before .before .pre .in-group .end-le
 
 is-lone-requires : tie.Need-is-lone-requires
 unfolding viewAt basisBytes
 is-lone-requires c κs =
     let at-start = c .before .before .before .before .before .before .before .before .before in
     let pre = at-start .pre in
-    (pre .1, pre .2, own-basis (viewAt (now (at-start .args .views)) (at-start .args .first)) (pre .4))
+    (pre .readable, pre .within, own-basis (viewAt (now (at-start .args .views)) (at-start .args .first)) (pre .in-group))
 
 mul-add-word : tie.Need-mul-add-word
 mul-add-word c = search needs
@@ -74,27 +75,27 @@ returns c =
     let at-if1 = c .before .before .before .before .before in
     let at-start = at-if1 .before .before .before .before .before .before .before .before .before .before .before in
     let lone = at-if1 .before .is-lone .ensures (at-if1 .if1 .taken) in
-    lone-recovered _ (viewAt (now (at-start .args .views)) (at-start .args .first)) _ (at-start .pre .6) (at-start .pre .0) lone
+    lone-recovered _ (viewAt (now (at-start .args .views)) (at-start .args .first)) _ (at-start .pre .width) (at-start .pre .room) lone
     (c .before .before .add-word .ensures)
 
 sub-recover-group : tie.Need-sub-recover-group
 unfolding viewAt
-sub-recover-group c = c .before .before .before .before .before .before .before .before .before .before .before .pre .4 .start-le
+sub-recover-group c = c .before .before .before .before .before .before .before .before .before .before .before .pre .in-group .start-le
 
 part-recover-group-start : tie.Need-part-recover-group-start
 unfolding viewAt
-part-recover-group-start c = c .before .before .before .before .before .before .before .before .before .before .before .pre .4 .start-le
+part-recover-group-start c = c .before .before .before .before .before .before .before .before .before .before .before .pre .in-group .start-le
 
 part-recover-group-end : tie.Need-part-recover-group-end
 unfolding viewAt
-part-recover-group-end c = c .before .before .before .before .before .before .before .before .before .before .before .pre .4 .end-le
+part-recover-group-end c = c .before .before .before .before .before .before .before .before .before .before .before .pre .in-group .end-le
 
 recover-group-requires : tie.Need-recover-group-requires
 unfolding viewAt basisBytes
 recover-group-requires c κs =
     let at-if1 = c .before .before .before .before in
     let pre = at-if1 .before .before .before .before .before .before .before .before .before .before .before .pre in
-    (pre .0, pre .1, pre .3, pre .4 .basis, pre .5, pre .6)
+    at-group pre
 
 same-length-2 : tie.Need-same-length-2
 same-length-2 c = search needs

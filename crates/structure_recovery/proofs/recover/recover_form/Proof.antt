@@ -30,13 +30,13 @@ slice-aggregate-recover-table-2 c = search needs
 
 recover-table-requires : tie.Need-recover-table-requires
 recover-table-requires c κs =
-    let p =
-    pass-begin (now (c .before .before .before .before .before .before .before .before .before .before .before .before .args .s))
-    (λ i. c .before .before .before .before .before .before .before .before .before .before .before .shared-slice-known .given i .fits)
-    (c .before .before .before .before .before .before .before .before .before .before .before .before .pre .0)
-    (c .before .before .before .before .before .before .before .before .before .width .ensures)
-    (c .before .before .before .body .ensures) (c .before .before .before .before .before .before .copy-atoms .ensures) in
-    (p .0, p .1, p .2, p .3, p .4, padded-nil 256, p .5, p .6)
+    let at-body = c .before .before .before in
+    let at-copy = at-body .before .before .before in
+    let at-width = at-copy .before .before .before in
+    let at-known = at-width .before .before in
+    let at-start = at-known .before in
+    pass-begin (now (at-start .args .s)) (λ i. at-known .shared-slice-known .given i .fits) (at-start .pre .0)
+    (at-width .width .ensures) (at-body .body .ensures) (at-copy .copy-atoms .ensures) (padded-nil 256)
 
 array-read-last : tie.Need-array-read-last
 array-read-last c = search needs

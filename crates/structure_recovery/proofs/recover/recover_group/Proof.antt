@@ -51,8 +51,8 @@ joined1 : (c : lts.Joined1 claims reads.Pre reads.Post)
 joined1 c =
     ⊎-elim (λ k. recovered-met (k .8) (k .9) (k .10) (k .3 .ensures))
     (λ k. recovered-met (k .1) (k .2) (k .3)
-    (recovered-none _ (c .before .before .before .before .before .bitmask .ensures ∙ bitmask-ones (begin1 c .args .w) (begin1 c .pre .5))
-    (c .before .any-partner .ensures (k .0 .left)) (begin1 c .pre .0)))
+    (recovered-none _ (c .before .before .before .before .before .bitmask .ensures ∙ bitmask-ones (begin1 c .args .w) (begin1 c .pre .makes .width))
+    (c .before .any-partner .ensures (k .0 .left)) (begin1 c .pre .makes .room)))
     (c .if1 .came)
 
 gather-requires : tie.Need-gather-requires
@@ -63,18 +63,19 @@ bitmask-requires c κs = search needs
 
 any-partner-requires : tie.Need-any-partner-requires
 any-partner-requires c κs = few-entries _ _ _ _ _ (c .before .before .before .before .gather .ensures)
-    (c .before .before .before .before .before .before .before .before .before .before .before .pre .2)
+    (c .before .before .before .before .before .before .before .before .before .before .before .pre .few)
 
 recover-entries-requires : tie.Need-recover-entries-requires
 recover-entries-requires c κs =
-    let pre = c .before .before .before .before .before .before .before .before .before .before .before .before .before .before .before .pre in
-    (pre .0, pre .3, pre .4, pre .5, few-entries _ _ _ _ _ (c .before .before .before .before .before .before .before .before .gather .ensures) (pre .2))
+    let at-gather = c .before .before .before .before .before .before .before .before in
+    let pre = at-gather .before .before .before .before .before .before .before .pre in
+    record { makes = pre .makes; few = few-entries _ _ _ _ _ (at-gather .gather .ensures) (pre .few) }
 
 slice-read-if2 : tie.Need-slice-read-if2
 slice-read-if2 c = let p = joined1 (c .before) in omega (arith, p .room .words)
 
 same-length : tie.Need-same-length
-same-length c = joined1 (c .before .before) .room .words ∙ sym (begin1 (c .before .before) .pre .0 .words)
+same-length c = joined1 (c .before .before) .room .words ∙ sym (begin1 (c .before .before) .pre .makes .room .words)
 
 same-length-2 : tie.Need-same-length-2
 same-length-2 c = joined1 (c .before .before) .long
@@ -85,11 +86,11 @@ returns c =
 
 settle-requires : tie.Need-settle-requires
 settle-requires c κs = few-entries _ _ _ _ _ (gather1 (c .before .before .before .before .before .before .before) .gather .ensures)
-    (begin1 (c .before .before .before .before .before .before .before) .pre .2)
+    (begin1 (c .before .before .before .before .before .before .before) .pre .few)
 
 same-length-3 : tie.Need-same-length-3
 same-length-3 c = joined1 (c .before .before .before .before .before .before .before .before .before .before) .room .words ∙ sym
-    (begin1 (c .before .before .before .before .before .before .before .before .before .before) .pre .0 .words)
+    (begin1 (c .before .before .before .before .before .before .before .before .before .before) .pre .makes .room .words)
 
 same-length-4 : tie.Need-same-length-4
 same-length-4 c = search needs
@@ -100,7 +101,7 @@ same-length-5 c = joined1 (c .before .before .before .before .before .before .be
 returns-2 : tie.Need-returns-2
 returns-2 c =
     let met = c .before .before .before .before .before .before .before .before .before .before in
-    group-settled _ (joined1 met) (begin1 met .pre .5) refl
+    group-settled _ (joined1 met) (begin1 met .pre .makes .width) refl
     (c .before .before .settle .ensures)
     (gather1 met .gather .ensures)
 

@@ -21,7 +21,7 @@ rest-from-requires-2 : tie.Need-rest-from-requires-2
 rest-from-requires-2 c κs = search needs
 
 atom-length-requires : tie.Need-atom-length-requires
-atom-length-requires c κs = rw (c .before .rest-from .ensures) (c .before .before .before .before .before .pre .3)
+atom-length-requires c κs = rw (c .before .rest-from .ensures) (c .before .before .before .before .before .pre .row .atom)
 
 add-after : tie.Need-add-after
 add-after c = search needs
@@ -68,7 +68,7 @@ returns c =
     let no-term = sym (at-has-term .has-term .ensures) ∙ not-true _ (at-if1 .if1 .taken) in
     let none = row-coeff-none number (drop at f) (drop next f) (rw eq at no-term) in
     record {
-      passed = passed-without f at next number (at-start .pre .1) (at-start .pre .2) (at-start .pre .3) er eq en
+      passed = passed-without f at next number (at-start .pre .row .inside) (at-start .pre .row .terms-inside) (at-start .pre .row .atom) er eq en
           no-term;
       view = at-no-view .no-view .result;
       viewed = viewed-none _ _ _ _ _ (at-no-view .no-view .ensures) (view-none _ _ _ none);
@@ -89,16 +89,16 @@ view-of-requires c κs =
     let a = c .before .before .before .before .before .before .before .before .before in
     let er = c .before .before .before .before .before .rest-from .ensures in
     let en = c .before .before .before .atom-length .ensures .0 in (
-      a .pre .0,
+      a .pre .row .width,
       omega (arith, c .before .before .before .atom-length .ensures .1),
       omega (
         arith,
         c .before .before .before .atom-length .ensures .2,
         ap length er,
         length-drop (a .args .self .at) (now (a .args .f)),
-        a .pre .1,
+        a .pre .row .inside,
       ),
-      tree-accepted (a .args .w) (now (a .args .f)) (a .args .self .at) er en (a .pre .3) (a .pre .4),
+      tree-accepted (a .args .w) (now (a .args .f)) (a .args .self .at) er en (a .pre .row .atom) (a .pre .row .atoms-ok),
     )
 
 put-view-requires-2 : tie.Need-put-view-requires-2
@@ -111,7 +111,7 @@ mul-coeffs-2 : tie.Need-mul-coeffs-2
 mul-coeffs-2 c =
     let at-start = c .before .before .before .before .before .before .before .before .before .before .before .before
     .before .before .before in
-    omega (arith, at-start .good .1 .1 .1 .1 .1 .0, at-start .pre .6)
+    omega (arith, at-start .good .1 .1 .1 .1 .1 .0, at-start .pre .coeffs-room)
 
 slice-write-coeffs-2 : tie.Need-slice-write-coeffs-2
 slice-write-coeffs-2 c = search needs
@@ -123,7 +123,7 @@ add-t29 : tie.Need-add-t29
 add-t29 c =
     let at-start = c .before .before .before .before .before .before .before .before .before .before .before .before
     .before .before .before in
-    omega (arith, at-start .good .1 .1 .1 .1 .1 .0, at-start .pre .6)
+    omega (arith, at-start .good .1 .1 .1 .1 .1 .0, at-start .pre .coeffs-room)
 
 same-length-3 : tie.Need-same-length-3
 same-length-3 c = search needs
@@ -149,10 +149,10 @@ returns-2 c =
     let en = at-length .atom-length .ensures .0 in
     let term = sym (at-has-term .has-term .ensures) ∙ not-false _ (at-if1 .if1 .left) in
     let coeff = row-coeff number (drop at f) (drop next f)
-    ∙ sym (at-front-word .front-word .ensures ∙ coeff-with f at next number (at-start .pre .1) (at-start .pre .2)
-    (at-start .pre .3) er eq en term) in
+    ∙ sym (at-front-word .front-word .ensures ∙ coeff-with f at next number (at-start .pre .row .inside) (at-start .pre .row .terms-inside)
+    (at-start .pre .row .atom) er eq en term) in
     record {
-      passed = passed-with f at next number (at-start .pre .1) (at-start .pre .2) (at-start .pre .3) er eq en term;
+      passed = passed-with f at next number (at-start .pre .row .inside) (at-start .pre .row .terms-inside) (at-start .pre .row .atom) er eq en term;
       view = at-view-of .view-of .result;
       viewed = at-view-of .view-of .ensures _ (row-tree (at-start .args .w) f at er en number (drop next f)) coeff;
       words = at-put-view2 .put-view2 .ensures;
