@@ -1,7 +1,7 @@
 -- The terms of a form as they are put behind its atoms: from the coefficients of the rows, which stand in lent words;
 -- and what the begin and the end of a pass leave.
 use mathlib.Core.Path.{_≡_}
-use Prim.Native.Nat.{ℕ, zero, suc, _+_, _*_}
+use Prim.Native.Nat.{ℕ, zero, suc, _+_, _*_, _≤_}
 use mathlib.Core.List.{List, [], _∷_, _++_}
 use mathlib.Core.Bool.{Bool, true, false}
 use lib.ListN.{length, getD}
@@ -14,8 +14,8 @@ use Rattle.atom_table.specs.declared.table.Table.{Table}
 use Rattle.semilinear.specs.Form.{Row, Form, termBytes, fitsTable}
 use Rattle.semilinear.specs.Answers.{GivesForm}
 use Rattle.semilinear.specs.PassOutcome.{limitOutcome}
-use Rattle.atom_table.specs.Table.{Holds, Clean}
-use Rattle.base.specs.Limits.{formBytes}
+use Rattle.atom_table.specs.Table.{Placed, Holds, Clean}
+use Rattle.base.specs.Limits.{atomLimit, formBytes, recordLength}
 
 -- ---- the coefficients
 
@@ -60,6 +60,14 @@ pub record TermsPut (w to : ℕ) (coeffs before after : List ℕ) (r : Written) 
   pub count : r .terms ≡ coeffCount coeffs
   pub written : after ≡ put before to (coeffTerms w 0 coeffs)
 
+-- what `put_terms` asks: n coefficients `step` words apart, and room for their terms from `to` on
+pub record TermsRoom (step n to : ℕ) (words out : List ℕ) : Type 0 where
+  pub inside : step * n ≤ length words
+  pub step-pos : 1 ≤ step
+  pub step-le : step ≤ 16
+  pub most : n ≤ atomLimit
+  pub room : to + recordLength * n ≤ length out
+
 -- ---- the begin and the end of a pass
 
 -- the atoms of the form stand at the start of the slice, with zeros behind
@@ -68,6 +76,14 @@ pub record Copied (f : Form) (tab : Table) (out : List ℕ) : Type 0 where
   pub clean : Clean tab out
   pub more : tab .full ≡ false
   pub long : length out ≡ formBytes
+
+-- what `finish` asks of a table that is not full: its place, and a coefficient for each of its atoms
+pub record FinishRoom (tab : Table) (step : ℕ) (words out : List ℕ) : Type 0 where
+  pub placed : tab .full ≡ false → Placed tab (length out)
+  pub long : length out ≡ formBytes
+  pub coeffs : tab .full ≡ false → step * tab .count ≤ length words
+  pub step-pos : 1 ≤ step
+  pub step-le : step ≤ 16
 
 -- a table at its end, the words with the coefficients and the bytes stand for the rows l; where it is full, these
 -- pass a limit

@@ -7,16 +7,15 @@ use semilinear::outcome;
 use semilinear::outcome::Answer;
 use semilinear::scan;
 ghost use mathlib.Core.Path.{_≡_};
-ghost use mathlib.Core.Bool.{true, false};
+ghost use mathlib.Core.Bool.{true};
 ghost use mathlib.Core.List.{[]};
-ghost use Prim.Native.Nat.{_+_, _*_, _<_, _≤_};
+ghost use Prim.Native.Nat.{_+_, _<_, _≤_};
 ghost use lib.ListN.{length};
 ghost use Rattle.base.specs.Put.{padded};
 ghost use Rattle.semilinear.specs.Valid.{isSemilinear};
 ghost use Rattle.semilinear.specs.DecodeForm.{readForm};
-ghost use Rattle.atom_table.specs.Table.{Placed};
-ghost use Rattle.atom_table.specs.Terms.{coeffsIn, TermPut, TermsPut, Copied, Finished};
-ghost use Rattle.base.specs.Limits.{atomLimit, formBytes, recordLength};
+ghost use Rattle.atom_table.specs.Terms.{coeffsIn, TermPut, TermsRoom, TermsPut, Copied, FinishRoom, Finished};
+ghost use Rattle.base.specs.Limits.{formBytes, recordLength};
 
 // Copies the atoms of the form s to the start of out, which is all zeros.
 pub fn copy_atoms(s: &[u8], out: &mut [u8]) -> Table
@@ -53,8 +52,7 @@ fn put_row(x: Written, i: u64, c: u64, w: u8, out: &mut [u8]) -> Written
 
 // The terms of n coefficients, which stand `step` words apart, are put into out from `to` on.
 fn put_terms(words: &[u64], step: usize, n: usize, w: u8, out: &mut [u8], to: usize) -> Written
-    requires { ⌜ (step * n ≤ length (now words)) × (1 ≤ step) × (step ≤ 16) × (n ≤ atomLimit)
-        × (to + recordLength * n ≤ length (now out)) ⌝ }
+    requires { ⌜ TermsRoom step n to (now words) (now out) ⌝ }
     ensures { λ r. ⌜ TermsPut w to (coeffsIn step (now (words .entry)) n)
         (now (out .entry)) (now (out .exit)) r ⌝ }
 {
@@ -80,8 +78,7 @@ pub fn finish(
     flag: bool,
     out: &mut [u8],
 ) -> Answer
-    requires { ⌜ (tab .full ≡ false → Placed tab (length (now out))) × (length (now out) ≡ formBytes)
-        × (tab .full ≡ false → step * tab .count ≤ length (now words)) × (1 ≤ step) × (step ≤ 16) ⌝ }
+    requires { ⌜ FinishRoom tab step (now words) (now out) ⌝ }
     ensures { λ r. ⌜ Finished w tab step (now (words .entry)) constant flag
         (now (out .entry)) r (now (out .exit)) ⌝ }
 {

@@ -1,6 +1,7 @@
--- The laws of choice, lists, loops and slices.
+-- The laws of choice, lists and their parts, loops and slices.
 pub mod BoolLaws
 pub mod LimitsLaws
 pub mod ListsLaws
 pub mod LoopLaws
+pub mod PartLaws
 pub mod PutLaws

@@ -1,4 +1,5 @@
--- Laws of specs/Put.antt: puts that follow each other, and what is put behind the bytes of a slice that is zero there.
+-- Laws of specs/Put.antt: what stands before a piece, in it and behind it; puts that follow each other, and what is put
+-- behind the bytes of a slice that is zero there.
 use mathlib.Core.Path.{_≡_, refl, ap, sym, _∙_}
 use Prim.Native.Nat.{ℕ, zero, suc, _+_, _-_, _≤_, _<_}
 use native.Mathlib.Omega.{arith}
@@ -8,6 +9,7 @@ use lib.ListN.{length, getD, take, drop, replicate, length-append, length-take, 
 use lib.ListN.{drop-of-length-le}
 use lib.Seq.{paste, take-at, drop-at, drop-drop, take-length, length-take-le, getD-take, getD-append-add}
 use Rattle.base.specs.Put.{put, padded}
+use Rattle.base.proofs.PartLaws.{part-take}
 
 module _ (d : List ℕ) (at : ℕ) (s : List ℕ) (fits : at + length s ≤ length d) where
   head-length : length (take at d ++ s) ≡ at + length s
@@ -27,14 +29,33 @@ module _ (d : List ℕ) (at : ℕ) (s : List ℕ) (fits : at + length s ≤ leng
   unfolding put
   drop-put = drop-at (take at d ++ s) (drop (at + length s) d) (at + length s) head-length
 
+  front-length : length (take at d) ≡ at
+  front-length = length-take-le at d (omega arith)
+
+  -- what stands before the piece, and from it on
+  pub take-put-front : take at (put d at s) ≡ take at d
+  unfolding put
+  take-put-front = rw append-assoc (take-at (take at d) (s ++ drop (at + length s) d) at front-length)
+
+  pub drop-put-front : drop at (put d at s) ≡ s ++ drop (at + length s) d
+  unfolding put
+  drop-put-front = rw append-assoc (drop-at (take at d) (s ++ drop (at + length s) d) at front-length)
+
+  -- a part before the piece, and the piece as a part
+  pub part-put-before : (k n : ℕ) → k + n ≤ at → take n (drop k (put d at s)) ≡ take n (drop k d)
+  part-put-before k n h =
+      sym (part-take (put d at s) k n at h)
+      ∙ ap (λ (l : List ℕ). take n (drop k l)) take-put-front
+      ∙ part-take d k n at h
+
+  pub part-put : (n : ℕ) → n ≡ length s → take n (drop at (put d at s)) ≡ s
+  part-put n e = ap (take n) drop-put-front ∙ take-at s (drop (at + length s) d) n (sym e)
+
   -- an element before the piece, and one of the piece
   pub getD-put-before : (i : ℕ) → i < at → getD (put d at s) i 0 ≡ getD d i 0
   getD-put-before i h =
-      let n : length (take at d) ≡ at = length-take-le at d (omega arith) in
-      sym (getD-take (at + length s) (put d at s) i 0 (omega arith))
-      ∙ ap (λ (l : List ℕ). getD l i 0) take-put
-      ∙ sym (getD-take at (take at d ++ s) i 0 h)
-      ∙ ap (λ (l : List ℕ). getD l i 0) (take-at (take at d) s at n)
+      sym (getD-take at (put d at s) i 0 h)
+      ∙ ap (λ (l : List ℕ). getD l i 0) take-put-front
       ∙ getD-take at d i 0 h
 
   pub getD-put-in : (i : ℕ) → i < length s → getD (put d at s) (at + i) 0 ≡ getD s i 0

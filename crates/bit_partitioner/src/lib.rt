@@ -8,15 +8,12 @@ use semilinear::scan;
 ghost use mathlib.Core.Path.{_≡_};
 ghost use mathlib.Core.Bool.{true};
 ghost use mathlib.Core.List.{[], _∷_};
-ghost use Prim.Native.Nat.{ℕ, _+_, _*_, _<_, _≤_};
 ghost use lib.ListN.{length};
 ghost use Rattle.base.specs.Put.{padded};
-ghost use Rattle.semilinear.specs.Items.{atomCount};
 ghost use Rattle.semilinear.specs.Valid.{isSemilinear};
 ghost use Rattle.base.specs.Outcome.{Gives};
 ghost use Rattle.partition_laws.specs.Partition.{computePartitions};
-ghost use Rattle.profile.specs.Index.{AtomsValid};
-ghost use Rattle.bit_partitioner.specs.Places.{AllPlaced, FormPlaced};
+ghost use Rattle.bit_partitioner.specs.Places.{FewAtoms, AllPlaced, FormPlaced};
 ghost use Rattle.base.specs.Limits.{atomLimit, columnWords, shortAtoms};
 
 // The refusal, 0 where the call is accepted, and the count of classes.
@@ -27,8 +24,7 @@ pub struct Partitioned {
 
 // The classes of n atoms, at most 16. Most forms are so short, and clearing a long index costs.
 fn partition_short(f: &[u8], n: usize, w: u32, out: &mut [u64]) -> usize
-    requires { ⌜ AtomsValid (now f) × (n ≡ atomCount (now f)) × (0 < n) × (n ≤ shortAtoms) × (w ≤ 64)
-        × (64 * (n + 1) ≤ length (now out)) × (now out ≡ padded (length (now out)) []) ⌝ }
+    requires { ⌜ FewAtoms shortAtoms n (now f) w (now out) ⌝ }
     ensures { λ r. ⌜ AllPlaced (now (f .entry)) w (now (out .entry)) (now (out .exit)) r ⌝ }
 {
     let mut words = [0u64; index::SHORT_INDEX];
@@ -38,8 +34,7 @@ fn partition_short(f: &[u8], n: usize, w: u32, out: &mut [u64]) -> usize
 
 // The classes of n atoms, at most 256.
 fn partition_long(f: &[u8], n: usize, w: u32, out: &mut [u64]) -> usize
-    requires { ⌜ AtomsValid (now f) × (n ≡ atomCount (now f)) × (0 < n) × (n ≤ atomLimit) × (w ≤ 64)
-        × (64 * (n + 1) ≤ length (now out)) × (now out ≡ padded (length (now out)) []) ⌝ }
+    requires { ⌜ FewAtoms atomLimit n (now f) w (now out) ⌝ }
     ensures { λ r. ⌜ AllPlaced (now (f .entry)) w (now (out .entry)) (now (out .exit)) r ⌝ }
 {
     let mut words = [0u64; index::LONG_INDEX];

@@ -2,12 +2,12 @@
 use profile::index;
 ghost use mathlib.Core.Path.{_≡_};
 ghost use mathlib.Core.List.{[]};
-ghost use Prim.Native.Nat.{ℕ, _+_, _*_, _<_, _≤_};
+ghost use Prim.Native.Nat.{_<_};
 ghost use lib.ListN.{length};
 ghost use Rattle.base.specs.Put.{padded};
-ghost use Rattle.semilinear.specs.Items.{atomCount};
-ghost use Rattle.profile.specs.Index.{atomTrees, AtomsValid, AtomsIndexed};
-ghost use Rattle.bit_partitioner.specs.Places.{PlacesJoined, PlacedNext, AllPlaced};
+ghost use Rattle.profile.specs.Index.{atomTrees};
+ghost use Rattle.bit_partitioner.specs.Places.{PlacesJoined, PlacesRoom, AtomsRoom};
+ghost use Rattle.bit_partitioner.specs.Places.{PlacedNext, AllPlaced};
 
 // Places on their way: the next place, the class of the place before, and the count of classes.
 pub struct Places {
@@ -27,9 +27,8 @@ impl Places {
         profile: &mut [u64],
         out: &mut [u64],
     ) -> Self
-        requires { ⌜ AtomsIndexed (now f) (now index) edges × (0 < length (atomTrees (now f)))
-            × PlacesJoined (now f) w self (now profile) (now out) × (self .place < w) × (w ≤ 64)
-            × (64 * (length (now profile) + 1) ≤ length (now out)) ⌝ }
+        requires { ⌜ PlacesRoom (now f) (now index) edges w (now profile) (now out)
+            × PlacesJoined (now f) w self (now profile) (now out) × (self .place < w) ⌝ }
         ensures { λ r. ⌜ PlacedNext (now (f .entry)) w self r (now (profile .exit))
             (now (out .entry)) (now (out .exit)) ⌝ }
     {
@@ -71,9 +70,8 @@ fn join_places(
     profile: &mut [u64],
     out: &mut [u64],
 ) -> usize
-    requires { ⌜ AtomsIndexed (now f) (now index) edges × (0 < length (atomTrees (now f)))
-        × (length (now profile) ≡ length (atomTrees (now f))) × (w ≤ 64)
-        × (64 * (length (now profile) + 1) ≤ length (now out))
+    requires { ⌜ PlacesRoom (now f) (now index) edges w (now profile) (now out)
+        × (length (now profile) ≡ length (atomTrees (now f)))
         × (now out ≡ padded (length (now out)) []) ⌝ }
     ensures { λ r. ⌜ AllPlaced (now (f .entry)) w (now (out .entry)) (now (out .exit)) r ⌝ }
 {
@@ -100,11 +98,7 @@ pub fn partition_atoms(
     profile: &mut [u64],
     out: &mut [u64],
 ) -> usize
-    requires { ⌜ AtomsValid (now f) × (0 < atomCount (now f))
-        × (9 * atomCount (now f) ≤ length (now index))
-        × (length (now profile) ≡ atomCount (now f)) × (w ≤ 64)
-        × (64 * (atomCount (now f) + 1) ≤ length (now out))
-        × (now out ≡ padded (length (now out)) []) ⌝ }
+    requires { ⌜ AtomsRoom (now f) w (now index) (now profile) (now out) ⌝ }
     ensures { λ r. ⌜ AllPlaced (now (f .entry)) w (now (out .entry)) (now (out .exit)) r ⌝ }
 {
     let edges = index::put_index(f, index);

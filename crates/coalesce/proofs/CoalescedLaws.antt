@@ -1,7 +1,7 @@
 -- The rows of a form coalesced, and the end of coalescing (specs/Coalescing.antt): what the end of a pass gives of the
 -- coalesced rows is the coalesced form.
-use mathlib.Core.Path.{_≡_, sym, _∙_}
-use Prim.Native.Nat.{ℕ, _*_, _≤_}
+use mathlib.Core.Path.{_≡_, _∙_}
+use Prim.Native.Nat.{ℕ, _≤_}
 use native.Mathlib.Omega.{arith}
 use mathlib.Core.List.{List, []}
 use mathlib.Core.Bool.{true, false}
@@ -18,8 +18,7 @@ use Rattle.semilinear.specs.Valid.{isSemilinear}
 use Rattle.semilinear.specs.DecodeForm.{rowsOf, decodeForm, readForm}
 use Rattle.semilinear.specs.Answers.{GivesForm}
 use Rattle.semilinear.specs.PassOutcome.{limitOutcome}
-use Rattle.atom_table.specs.Table.{Placed}
-use Rattle.atom_table.specs.Terms.{Copied, Finished}
+use Rattle.atom_table.specs.Terms.{Copied, FinishRoom, Finished}
 use Rattle.views.specs.Grouping.{variableBasis, basesOf, ungrouped}
 use Rattle.made.specs.Made.{tableOf}
 use Rattle.views.specs.Views.{onlyOf, Views, ViewsRead}
@@ -77,6 +76,5 @@ coalesce-end s bytes ok {w} {c} {k} {b} ew ec eb {tab} {out} h {made} {out′} {
 -- the end has room for all terms
 pub coalesce-room : {w : ℕ} {rows : List Row} {before out made out′ coeffs : List ℕ}
     → RowsCoalesced w rows before out made out′ coeffs → {tab : Table} → tab ≡ tableOf made → length out ≡ 57360
-    → (tab .full ≡ false → Placed tab (length out′)) × (length out′ ≡ 57360)
-    × (tab .full ≡ false → 1 * tab .count ≤ length coeffs)
+    → FinishRoom tab 1 coeffs out′
 coalesce-room {out = out} {coeffs = coeffs} r et e = pass-room out coeffs (r .room) (r .long) (r .wide) et e

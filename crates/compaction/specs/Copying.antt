@@ -1,18 +1,27 @@
 -- What one turn of the walk that copies atoms does.
 use Rattle.semilinear_value.specs.Running.{RowPassed}
 use mathlib.Core.Path.{_≡_}
-use Prim.Native.Nat.{ℕ, _+_}
+use Prim.Native.Nat.{ℕ, _+_, _≤_}
 use mathlib.Core.List.{List, []}
+use mathlib.Core.Bool.{true}
 use lib.ListN.{length, take, drop}
 use Rattle.base.specs.Choice.{when}
 use Rattle.base.specs.Put.{put}
 use Rattle.compaction.specs.declared.Copying.{Copying}
-use Rattle.semilinear.specs.Items.{atomLength}
+use Rattle.semilinear.specs.Items.{atomLength, isAtom}
 use Rattle.semilinear.specs.DecodeForm.{hasTerm}
 
 -- the bytes of the atom r of that number where it has a term among q, else none
 unfoldable pub usedBytes : ℕ → List ℕ → List ℕ → List ℕ
 usedBytes number r q = when (hasTerm number q) (λ _. take (atomLength r) r) (λ _. [])
+
+-- what `copy_row` asks: an atom at x .at, and room where it has a term
+pub record CopyRoom (f : List ℕ) (x : Copying) (out : List ℕ) : Type 0 where
+  pub at-le : x .at ≤ length f
+  pub next-le : x .next ≤ length f
+  pub number-le : x .number ≤ x .at
+  pub atom : isAtom (drop (x .at) f) ≡ true
+  pub room : x .to + length (usedBytes (x .number) (drop (x .at) f) (drop (x .next) f)) ≤ length out
 
 -- y is x after the atom at x .at, which is put into the bytes where it has a term
 pub record RowCopied (f : List ℕ) (x y : Copying) (before after : List ℕ) : Type 0 where

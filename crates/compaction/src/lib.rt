@@ -10,13 +10,13 @@ use semilinear::scan;
 ghost use mathlib.Core.Path.{_≡_};
 ghost use mathlib.Core.Bool.{true, false};
 ghost use Prim.Native.Nat.{_+_, _-_, _≤_};
-ghost use lib.ListN.{length, drop};
-ghost use Rattle.semilinear.specs.Items.{isAtom, afterAtoms};
+ghost use lib.ListN.{length};
+ghost use Rattle.semilinear.specs.Items.{afterAtoms};
 ghost use mathlib.Core.List.{[]};
 ghost use Rattle.base.specs.Put.{padded};
 ghost use Rattle.semilinear.specs.Valid.{frontOk, isSemilinear};
 ghost use Rattle.semilinear.specs.DecodeForm.{rowsOf, readForm};
-ghost use Rattle.compaction.specs.Copying.{usedBytes, RowCopied};
+ghost use Rattle.compaction.specs.Copying.{CopyRoom, RowCopied};
 ghost use Rattle.semilinear.specs.Outcome.{formOutcome};
 ghost use Rattle.semilinear.specs.Answers.{GivesForm};
 ghost use Rattle.compaction.specs.Compact.{TermsCopied, FrontCopied, compactForm};
@@ -35,9 +35,7 @@ pub struct Copying {
 impl Copying {
     // The atom at `at` is copied where it has a term.
     fn copy_row(self, f: &[u8], out: &mut [u8]) -> Self
-        requires { ⌜ (self .at ≤ length (now f)) × (self .next ≤ length (now f)) × (self .number ≤ self .at)
-            × (isAtom (drop (self .at) (now f)) ≡ true)
-            × (self .to + length (usedBytes (self .number) (drop (self .at) (now f)) (drop (self .next) (now f))) ≤ length (now out)) ⌝ }
+        requires { ⌜ CopyRoom (now f) self (now out) ⌝ }
         ensures { λ r. ⌜ RowCopied (now (f .entry)) self r (now (out .entry)) (now (out .exit)) ⌝ }
     {
         let at = self.at;

@@ -1,10 +1,9 @@
 -- The descent as the code runs it: atoms are named by the bytes of the file that hold their trees, in lent words, five
 -- to an atom; a view gives what they stand for.
-use Rattle.ways.specs.Spans.{spanOf, Accepted}
 use mathlib.Core.Path.{_≡_}
 use Prim.Native.Nat.{ℕ, zero, suc, _+_, _-_, _*_, _^_, _≤_, _<_}
 use mathlib.Core.List.{List, [], _∷_, _++_}
-use mathlib.Core.Bool.{true}
+use mathlib.Core.Bool.{true, false}
 use lib.ListN.{length, getD}
 use lib.Dec.{eqb}
 use Rattle.base.specs.Choice.{when}
@@ -12,6 +11,10 @@ use Rattle.record.specs.Tree.{Tree}
 use Rattle.record.specs.Tree.Tree.{Constant, Binary}
 use Rattle.record.specs.Decode.{decode}
 use Rattle.base.specs.Put.{put}
+use Rattle.expr_utils.specs.Utils.{hasVarDep}
+use Rattle.ways.specs.declared.side.Spot.{Spot}
+use Rattle.ways.specs.Spans.{spanOf, Accepted}
+use Rattle.ways.specs.Sides.{treeAt, AtSpot}
 use Rattle.descent.specs.declared.collect.Descent.{Descent}
 use Rattle.normalizer_laws.specs.Collect.{Emitted, Collected, nonlinear, linear, joinCollected}
 
@@ -72,3 +75,17 @@ pub record Ready (w : ℕ) (n : ℕ) (words : List ℕ) (d : Descent) : Type 0 w
   pub linear : d .linear ≡ true
   pub fits : d .constant < 2 ^ w
   pub room : 5 * (d .count + n) ≤ length words
+
+-- where the descent ends at a tree with a variable, under a coefficient other than 0
+pub record AtEnd (w : ℕ) (file marks : List ℕ) (x : Spot) (words : List ℕ) (d : Descent) : Type 0 where
+  pub spot : AtSpot w file marks x
+  pub ready : Ready w 1 words d
+  pub some : eqb (x .coeff) 0 ≡ false
+  pub variable : hasVarDep (treeAt file x) ≡ true
+
+-- a tree with a variable, from start to end of the file, that stands beside the literal v
+pub record BesideLiteral (w : ℕ) (file : List ℕ) (start end v : ℕ) (words : List ℕ) (d : Descent) : Type 0 where
+  pub span : Accepted w file start end
+  pub ready : Ready w 1 words d
+  pub value-lt : v < 2 ^ w
+  pub variable : hasVarDep (decode (spanOf file start end)) ≡ true

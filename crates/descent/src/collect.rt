@@ -10,14 +10,11 @@ ghost use mathlib.Core.Path.{_≡_};
 ghost use mathlib.Core.Bool.{true, false};
 ghost use Prim.Native.Nat.{_+_, _*_, _^_, _<_, _≤_};
 ghost use lib.ListN.{length};
-ghost use lib.Dec.{eqb};
 ghost use Rattle.arith.specs.Width.{modAdd, modMul, modNeg};
 ghost use Rattle.record.specs.Tree.{sizeOf};
 ghost use Rattle.record.specs.Tree.Tree.{Constant};
-ghost use Rattle.expr_utils.specs.Utils.{hasVarDep};
 ghost use Rattle.normalizer_laws.specs.Collect.{collectAnd, andCoeff, collectTerms};
-ghost use Rattle.ways.specs.Spans.{Accepted};
-ghost use Rattle.descent.specs.Spots.{Collects, Ready, Pushed};
+ghost use Rattle.descent.specs.Spots.{Collects, Pushed, Ready, AtEnd, BesideLiteral};
 ghost use Rattle.ways.specs.Sides.{treeAt, AtSpot, sideTree, leftOf};
 ghost use Rattle.ways.specs.Sides.{rightOf, IsAnd, collectWhole};
 ghost use Rattle.ways.specs.Sides.{collectLiteral, EndsHere};
@@ -117,8 +114,7 @@ impl Descent {
 
     // An And without Add, Mul and Neg, with a variable.
     fn collect_and(self, x: Spot, file: &[u8], marks: &[u8], w: u32, spots: &mut [u64]) -> Self
-        requires { ⌜ AtSpot w (now file) (now marks) x × Ready w 1 (now spots) self
-            × (eqb (x .coeff) 0 ≡ false) × (hasVarDep (treeAt (now file) x) ≡ true)
+        requires { ⌜ AtEnd w (now file) (now marks) x (now spots) self
             × IsAnd (treeAt (now file) x) ⌝ }
         ensures { λ r. ⌜ Collects w (now (file .entry)) 1
             (collectAnd w (x .coeff) (leftOf (treeAt (now (file .entry)) x))
@@ -146,8 +142,7 @@ impl Descent {
 
     // The And of the subtree of x and the literal v, which the descent makes.
     fn collect_literal_and(self, x: Spot, v: u64, file: &[u8], w: u32, spots: &mut [u64]) -> Self
-        requires { ⌜ Accepted w (now file) (x .start) (x .end) × Ready w 1 (now spots) self
-            × (v < 2 ^ w) × (hasVarDep (treeAt (now file) x) ≡ true) ⌝ }
+        requires { ⌜ BesideLiteral w (now file) (x .start) (x .end) v (now spots) self ⌝ }
         ensures { λ r. ⌜ Collects w (now (file .entry)) 1
             (collectAnd w (x .coeff) (treeAt (now (file .entry)) x) (Constant v))
             (now (spots .entry)) self (now (spots .exit)) r ⌝ }
@@ -174,8 +169,8 @@ impl Descent {
         w: u32,
         spots: &mut [u64],
     ) -> Self
-        requires { ⌜ Accepted w (now file) (side .start) (side .end) × Ready w 1 (now spots) self
-            × (side .value < 2 ^ w) × (hasVarDep (sideTree (now file) side) ≡ true) ⌝ }
+        requires { ⌜ BesideLiteral w (now file) (side .start) (side .end) (side .value)
+            (now spots) self ⌝ }
         ensures { λ r. ⌜ Collects w (now (file .entry)) 1
             (collectLiteral w k c (sideTree (now (file .entry)) side) (side .value))
             (now (spots .entry)) self (now (spots .exit)) r ⌝ }
@@ -192,8 +187,7 @@ impl Descent {
 
     // A tree with a variable where the descent ends: nonlinear, or an atom.
     fn collect_whole(self, x: Spot, file: &[u8], marks: &[u8], w: u32, spots: &mut [u64]) -> Self
-        requires { ⌜ AtSpot w (now file) (now marks) x × Ready w 1 (now spots) self
-            × (eqb (x .coeff) 0 ≡ false) × (hasVarDep (treeAt (now file) x) ≡ true) ⌝ }
+        requires { ⌜ AtEnd w (now file) (now marks) x (now spots) self ⌝ }
         ensures { λ r. ⌜ Collects w (now (file .entry)) 1
             (collectWhole w (x .coeff) (treeAt (now (file .entry)) x))
             (now (spots .entry)) self (now (spots .exit)) r ⌝ }

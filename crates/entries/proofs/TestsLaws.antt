@@ -6,25 +6,25 @@ use borrow.Author.Tests.{eq-eqb, ne-eqb}
 use Rattle.arith.specs.Width.{bitmask}
 use Rattle.arith.proofs.WidthLaws.{bitmask-ones}
 use Rattle.arith.specs.Effective.{canChangeCoefficientTo}
-use Rattle.entries.specs.Tests.{negatesOf, pairOf}
+use Rattle.entries.specs.Tests.{becomesMinusOne, pairOf}
 use lib.Bits.{bitAnd}
 use Rattle.entries.specs.declared.pair.Joined.the-variants.{Apart, At}
 
--- the ways through `negates`
+-- the ways through `becomes_minus_one`
 module _ (u c m w : ℕ) where
-  pub negates-dead : u ≡ 1 → false ≡ negatesOf u c m w
-  unfolding negatesOf
-  negates-dead a = simp (eq-eqb u 1 a)
+  pub minus-one-dead : u ≡ 1 → false ≡ becomesMinusOne u c m w
+  unfolding becomesMinusOne
+  minus-one-dead a = simp (eq-eqb u 1 a)
 
   module _ (hw : w ≤ 64) (a : u ≡ 1 → ⊥) where
-    pub negates-there : c ≡ bitmask w → false ≡ negatesOf u c m w
-    unfolding negatesOf
-    negates-there e = simp (ne-eqb u 1 a, eq-eqb c (2 ^ w - 1) (e ∙ bitmask-ones w hw))
+    pub minus-one-there : c ≡ bitmask w → false ≡ becomesMinusOne u c m w
+    unfolding becomesMinusOne
+    minus-one-there e = simp (ne-eqb u 1 a, eq-eqb c (2 ^ w - 1) (e ∙ bitmask-ones w hw))
 
-    pub negates-may : {minus : ℕ} → minus ≡ bitmask w → (c ≡ minus → ⊥) → {r : Bool}
-        → r ≡ canChangeCoefficientTo c minus m w → r ≡ negatesOf u c m w
-    unfolding negatesOf
-    negates-may e d h =
+    pub minus-one-may : {minus : ℕ} → minus ≡ bitmask w → (c ≡ minus → ⊥) → {r : Bool}
+        → r ≡ canChangeCoefficientTo c minus m w → r ≡ becomesMinusOne u c m w
+    unfolding becomesMinusOne
+    minus-one-may e d h =
         let ones = e ∙ bitmask-ones w hw in
         h ∙ ap (λ (x : ℕ). canChangeCoefficientTo c x m w) ones
         ∙ sym (simp (ne-eqb u 1 a, ne-eqb c (2 ^ w - 1) (λ q. d (q ∙ sym ones))))

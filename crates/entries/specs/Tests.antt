@@ -21,8 +21,8 @@ unfoldable pub dropsOf : ℕ → ℕ → ℕ → ℕ → Bool
 dropsOf u c m w = when (eqb u consumedMark) (λ _. false) (λ _. canChangeCoefficientTo c 0 m w)
 
 -- whether a live entry's coefficient is not 2 ^ w - 1 and may become it
-unfoldable pub negatesOf : ℕ → ℕ → ℕ → ℕ → Bool
-negatesOf u c m w =
+unfoldable pub becomesMinusOne : ℕ → ℕ → ℕ → ℕ → Bool
+becomesMinusOne u c m w =
     when (eqb u consumedMark) (λ _. false)
     (λ _. when (eqb c (2 ^ w - 1)) (λ _. false) (λ _. canChangeCoefficientTo c (2 ^ w - 1) m w))
 
@@ -48,4 +48,4 @@ pub record NoSingle (w : ℕ) (coeffs masks marks : List ℕ) (n : ℕ) : Type 0
 -- no two entries of n join, and no coefficient becomes 2 ^ w - 1
 pub record NoMerge (w : ℕ) (coeffs masks marks : List ℕ) (n : ℕ) : Type 0 where
   pub no-pair : (i j : ℕ) → i < j → j < n → pairIn coeffs masks marks w i j ≡ Apart
-  pub no-negate : (k : ℕ) → k < n → negatesOf (getD marks k 0) (getD coeffs k 0) (getD masks k 0) w ≡ false
+  pub no-minus-one : (k : ℕ) → k < n → becomesMinusOne (getD marks k 0) (getD coeffs k 0) (getD masks k 0) w ≡ false

@@ -5,7 +5,7 @@ ghost use mathlib.Core.Path.{_≡_};
 ghost use mathlib.Core.Bool.{false};
 ghost use Prim.Native.Nat.{ℕ, _+_, _<_, _≤_};
 ghost use lib.ListN.{getD};
-ghost use Rattle.entries.specs.Tests.{cutOf, dropsOf, negatesOf};
+ghost use Rattle.entries.specs.Tests.{cutOf, dropsOf, becomesMinusOne};
 ghost use Rattle.base.specs.Limits.{groupEntries};
 
 // The mask m of an entry cut to the bits that count; that of a consumed entry as it is.
@@ -74,9 +74,9 @@ pub fn any_zero<'a>(
 }
 
 // Whether a coefficient c of a live entry is not 2^w - 1 and may become it beside the mask m.
-pub fn negates(mark: u8, c: u64, m: u64, w: u32) -> bool
+pub fn becomes_minus_one(mark: u8, c: u64, m: u64, w: u32) -> bool
     requires { ⌜ w ≤ 64 ⌝ }
-    ensures { λ r. ⌜ r ≡ negatesOf mark c m w ⌝ }
+    ensures { λ r. ⌜ r ≡ becomesMinusOne mark c m w ⌝ }
 {
     if mark == CONSUMED {
         return false;
@@ -89,7 +89,7 @@ pub fn negates(mark: u8, c: u64, m: u64, w: u32) -> bool
 }
 
 // Whether the coefficient of an entry is not 2^w - 1 and may become it.
-pub fn any_negated<'a>(
+pub fn any_minus_one<'a>(
     coeffs: &'a [u64; limits::GROUP_ENTRIES],
     masks: &'a [u64; limits::GROUP_ENTRIES],
     marks: &'a [u8; limits::GROUP_ENTRIES],
@@ -97,12 +97,12 @@ pub fn any_negated<'a>(
     w: u32,
 ) -> bool
     requires { ⌜ (n ≤ groupEntries) × (w ≤ 64) ⌝ }
-    ensures { λ r. ⌜ (r ≡ false → (k : ℕ) → k < n → negatesOf (getD (now (marks .entry)) k 0)
+    ensures { λ r. ⌜ (r ≡ false → (k : ℕ) → k < n → becomesMinusOne (getD (now (marks .entry)) k 0)
         (getD (now (coeffs .entry)) k 0) (getD (now (masks .entry)) k 0) w ≡ false) ⌝ }
 {
     let mut i = 0;
     while i < n {
-        if negates(marks[i], coeffs[i], masks[i], w) {
+        if becomes_minus_one(marks[i], coeffs[i], masks[i], w) {
             return true;
         }
         i += 1;

@@ -36,7 +36,7 @@ pub fn any_merge<'a>(
     requires { ⌜ (n ≤ groupEntries) × (w ≤ 64) ⌝ }
     ensures { λ r. ⌜ (r ≡ false → NoMerge w (now (coeffs .entry)) (now (masks .entry)) (now (marks .entry)) n) ⌝ }
 {
-    if single::any_negated(coeffs, masks, marks, n, w) {
+    if single::any_minus_one(coeffs, masks, marks, n, w) {
         return true;
     }
     pair::any_pair(coeffs, masks, marks, n, w)

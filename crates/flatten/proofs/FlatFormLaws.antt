@@ -1,37 +1,29 @@
 -- The begin and the end of flattening (specs/Flattening.antt): the words of the copied table hold the form's rows, and
 -- what the end of a pass gives of the flattened rows is the flattened form.
-use mathlib.Core.Path.{_≡_, refl, ap, ap₂, sym, _∙_}
-use Prim.Native.Nat.{ℕ, zero, suc, _*_, _≤_}
+use mathlib.Core.Path.{_≡_, refl, _∙_}
+use Prim.Native.Nat.{ℕ, _≤_}
 use native.Mathlib.Omega.{arith}
-use native.Mathlib.Nat.{one-mul}
-use mathlib.Core.List.{List, [], _∷_, _++_}
-use mathlib.Core.Bool.{Bool, true, false}
-use lib.ListN.{length, getD, take, drop, replicate, length-append}
-use lib.Seq.{take-suc, drop-at}
+use mathlib.Core.List.{List}
+use mathlib.Core.Bool.{Bool, true}
+use lib.ListN.{length, getD, replicate}
 use Rattle.record.specs.Fields.{width, literal}
-use Rattle.base.specs.Put.{padded}
 use Rattle.record.specs.Span.{body}
 use Rattle.record.specs.Tree.{IsBytes}
-use Rattle.base.proofs.PutLaws.{take-padded, length-padded}
 use Rattle.semilinear.specs.declared.outcome.Answer.{Answer}
 use Rattle.atom_table.specs.declared.table.Table.{Table}
-use Rattle.semilinear.specs.Form.{Row, Form, atomsBytes, fitsTable}
+use Rattle.semilinear.specs.Form.{Row}
 use Rattle.semilinear.specs.Items.{afterAtoms}
 use Rattle.semilinear.specs.Valid.{isSemilinear}
 use Rattle.semilinear.specs.DecodeForm.{rowsOf, decodeForm, readForm}
 use Rattle.semilinear.specs.Answers.{GivesForm}
 use Rattle.semilinear.specs.PassOutcome.{limitOutcome}
 use Rattle.atom_table.specs.Table.{Placed}
-use Rattle.atom_table.specs.Terms.{coeffsOf, coeffsIn, Copied, Ends, Finished}
-use Rattle.semilinear.proofs.AcceptLaws.{written}
-use Rattle.atom_table.proofs.HoldsLaws.{at-holds}
+use Rattle.atom_table.specs.Terms.{Copied, FinishRoom, Finished}
 use Rattle.atom_table.proofs.PassLaws.{semilinear-front}
 use Rattle.semilinear.proofs.ValidLaws.{semilinear-parts}
-use Rattle.atom_table.proofs.TermsLaws.{length-coeffs}
-use Rattle.made.specs.Made.{tableOf, flagOf, wordsOf}
+use Rattle.made.specs.Made.{tableOf}
 use Rattle.group.proofs.ShownLaws.{begun, held-copied, copied-end, shown-ends}
 use Rattle.structure_laws.specs.FlattenComplexAtoms.{flattened, flattenForm}
-use Rattle.made.specs.Shown.{Shown}
 use Rattle.flatten.specs.Flattening.{FrontReady, flatRows, RowsFlattened}
 
 -- ---- the begin
@@ -58,12 +50,16 @@ flatten-begin s bytes ok {w} {k} {b} ew eb {tab} {out} h =
 module _ {w k len : ℕ} {l : List Row} {g : Bool} {made out coeffs : List ℕ} {tab : Table}
     (h : RowsFlattened w l k len g made out coeffs) (et : tab ≡ tableOf made) where
   -- the end has room for all terms
-  pub flatten-room : len ≡ 57360
-      → (tab .full ≡ false → Placed tab (length out)) × (length out ≡ 57360)
-      × (tab .full ≡ false → 1 * tab .count ≤ length coeffs)
+  pub flatten-room : len ≡ 57360 → FinishRoom tab 1 coeffs out
   flatten-room e =
       let placed : Placed tab (length out) = rw et (h .room .placed) in
-      (λ _. placed, h .long ∙ e, λ _. omega (arith, placed .atoms-le, h .wide))
+      record {
+        placed = λ _. placed;
+        long = h .long ∙ e;
+        coeffs = λ _. omega (arith, placed .atoms-le, h .wide);
+        step-pos = omega arith;
+        step-le = omega arith;
+      }
 
   -- and gives the flattened rows, or 9
   flatten-gives : (r : Answer) {out′ : List ℕ} → Finished w tab 1 coeffs (getD made 5 0) g out r out′

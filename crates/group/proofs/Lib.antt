@@ -9,7 +9,7 @@ pub mod ExtendsLaws
 pub mod SteppedLaws
 pub mod CutLaws
 pub mod DropLaws
-pub mod NegateLaws
+pub mod MinusOneLaws
 pub mod PairLaws
 pub mod KeysLaws
 pub mod BucketLaws

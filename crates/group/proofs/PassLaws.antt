@@ -18,7 +18,7 @@ use Rattle.semilinear.specs.Items.{atomCount, afterAtoms}
 use Rattle.semilinear.specs.Valid.{isSemilinear}
 use Rattle.semilinear.specs.DecodeForm.{rowsOf, decodeForm, readForm}
 use Rattle.atom_table.specs.Table.{Placed}
-use Rattle.atom_table.specs.Terms.{coeffsOf, Copied}
+use Rattle.atom_table.specs.Terms.{coeffsOf, Copied, FinishRoom}
 use Rattle.atom_table.proofs.HoldsLaws.{holds-bare}
 use Rattle.atom_table.proofs.TermsLaws.{length-coeffs}
 use Rattle.semilinear.proofs.ValidLaws.{semilinear-parts}
@@ -74,11 +74,16 @@ module _ (s : List ℕ) (bytes : IsBytes s) (ok : isSemilinear s ≡ true) where
 -- and at the end there is room for all terms
 pub pass-room : (out coeffs : List ℕ) {made out′ : List ℕ} → Room made out′ → length out′ ≡ length out
     → length coeffs ≡ 256 → {tab : Table} → tab ≡ tableOf made → length out ≡ 57360
-    → (tab .full ≡ false → Placed tab (length out′)) × (length out′ ≡ 57360)
-    × (tab .full ≡ false → 1 * tab .count ≤ length coeffs)
+    → FinishRoom tab 1 coeffs out′
 pass-room out coeffs {out′ = out′} room long wide {tab} et e =
     let placed : Placed tab (length out′) = rw et (room .placed) in
-    (λ _. placed, long ∙ e, λ _. omega (arith, placed .atoms-le, wide))
+    record {
+      placed = λ _. placed;
+      long = long ∙ e;
+      coeffs = λ _. omega (arith, placed .atoms-le, wide);
+      step-pos = omega arith;
+      step-le = omega arith;
+    }
 
 -- ---- the rows without the terms that are in groups
 

@@ -15,11 +15,11 @@ use Rattle.entries.specs.Tests.{NoSingle, NoMerge}
 use Rattle.group.proofs.SteppedLaws.{stepped-none, stepped-as, stepped-then, stepped-met, stepped-group}
 use Rattle.group.proofs.CutLaws.{cut-none}
 use Rattle.group.proofs.DropLaws.{drop-none, len-drop-zero}
-use Rattle.group.proofs.NegateLaws.{negate-none, len-to-minus-one}
+use Rattle.group.proofs.MinusOneLaws.{minus-one-none, len-to-minus-one}
 use Rattle.group.proofs.PairLaws.{pair-none, bucket-none}
 
-pub len-negated : (w : ℕ) (q : Group) {p : Group} → p ≡ toMinusOne w q → p .len ≡ q .len
-len-negated w q e = ap (λ (k : Group). k .len) e ∙ len-to-minus-one w q
+pub len-minus-one : (w : ℕ) (q : Group) {p : Group} → p ≡ toMinusOne w q → p .len ≡ q .len
+len-minus-one w q e = ap (λ (k : Group). k .len) e ∙ len-to-minus-one w q
 
 -- where nothing joins, the joins change nothing
 merge-same : {w : ℕ} (t : Tree) {g : Group} → NoMerge w (g .coeffs) (g .masks) (g .marks) (g .len) → (x : Work) → g ≡ x .group → x ≡ mergeAll w t x
@@ -30,7 +30,7 @@ merge-same {w} t h x e =
     let first : pairMerge w t (bucketMerge w t x) ≡ x =
     ap (pairMerge w t) (bucket-none w t x (none .no-pair)) ∙ pairs in
     let minus : onGroup (toMinusOne w) x ≡ x =
-    ap (λ (k : Group). work k (x .rows)) (sym (negate-none w (x .group) (none .no-negate))) in
+    ap (λ (k : Group). work k (x .rows)) (sym (minus-one-none w (x .group) (none .no-minus-one))) in
     sym (ap (λ (y : Work). pairMerge w t (onGroup (toMinusOne w) y)) first ∙ ap (pairMerge w t) minus ∙ pairs)
 
 module _ {w : ℕ} (t : Tree) {g : Group} {made out : List ℕ} where

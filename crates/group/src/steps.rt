@@ -58,7 +58,7 @@ impl Group {
         let minus = arith::bitmask(w);
         let mut i = 0;
         while i < n {
-            if single::negates(self.marks[i], self.coeffs[i], self.masks[i], w) {
+            if single::becomes_minus_one(self.marks[i], self.coeffs[i], self.masks[i], w) {
                 self.coeffs[i] = minus;
             }
             i += 1;

@@ -149,9 +149,9 @@ module _ (v : View) (i : ℕ) where
     no-merge =
         record {
           no-pair = λ j k p l. absurd (omega (arith, lone-len));
-          no-negate = λ k l.
+          no-minus-one = λ k l.
               let z : k ≡ 0 = omega (arith, lone-len) in
-              rw (z, lone-mark, lone-coeff, lone-mask) (h .no-negate);
+              rw (z, lone-mark, lone-coeff, lone-mask) (h .no-minus-one);
         }
 
     pub refined-lone : (t : Tree) {made out : List ℕ} → Room made out

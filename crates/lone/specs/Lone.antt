@@ -7,7 +7,7 @@ use Rattle.group.specs.declared.Group.{Group}
 use Rattle.views.specs.declared.View.{View}
 use Rattle.entries.specs.Marks.{liveMark}
 use Rattle.group.specs.Group.{emptyGroup, pushEntry}
-use Rattle.entries.specs.Tests.{cutOf, dropsOf, negatesOf}
+use Rattle.entries.specs.Tests.{cutOf, dropsOf, becomesMinusOne}
 use Rattle.views.specs.Views.{viewAt}
 use Rattle.group.specs.Gathered.{gathered}
 
@@ -19,7 +19,7 @@ loneGroup v i = pushEntry emptyGroup (v .coeff) (v .mask) i
 pub record Stays (w c m : ℕ) : Type 0 where
   pub no-cut : cutOf liveMark c m w ≡ m
   pub no-drop : dropsOf liveMark c m w ≡ false
-  pub no-negate : negatesOf liveMark c m w ≡ false
+  pub no-minus-one : becomesMinusOne liveMark c m w ≡ false
 
 pub record StaysAlone (w : ℕ) (f views : List ℕ) (hash : ℕ) (b : List ℕ) (n first : ℕ) : Type 0 where
   pub stays : Stays w (viewAt views first .coeff) (viewAt views first .mask)

@@ -49,7 +49,7 @@ fn stays(c: u64, m: u64, w: u32) -> bool
     if single::drops(LIVE, c, m, w) {
         return false;
     }
-    !single::negates(LIVE, c, m, w)
+    !single::becomes_minus_one(LIVE, c, m, w)
 }
 
 // Whether row `first` alone, of n, has the basis b with this hash, and refining leaves it as it is.

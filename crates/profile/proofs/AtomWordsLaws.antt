@@ -1,13 +1,12 @@
 -- Laws of the words of an atom in the index (specs/Index.antt): they are what `atom_words` makes, and a profile word is
 -- made from them.
 use mathlib.Core.Path.{_≡_, refl, ap, ap₂, sym, _∙_}
-use Prim.Native.Nat.{ℕ, zero, suc, _+_, _-_, _*_, _%_, _^_, _≤_, _<_, min}
+use Prim.Native.Nat.{ℕ, _+_, _-_, _*_, _%_, _^_, _≤_, _<_, min}
 use native.Mathlib.Omega.{arith}
-use native.Mathlib.Nat.{zero-add, suc-add}
 use mathlib.Core.List.{List, [], _∷_}
 use mathlib.Core.Bool.{Bool, true, false}
 use lib.ListN.{length, getD, take, drop, replicate}
-use lib.Seq.{getD-take, getD-drop, drop-drop, take-nil}
+use lib.Seq.{getD-take, getD-drop, drop-drop}
 use lib.Bits.{bitAnd, bitOr, and-mask}
 use lib.Dec.{ltb}
 use lib.Pow.{pow-mono, pow-pos}
@@ -16,6 +15,7 @@ use Rattle.arith.specs.Width.{bitmask}
 use Rattle.base.specs.Choice.{when}
 use Rattle.record.specs.Tree.{Tree}
 use Rattle.base.proofs.BoolLaws.{or-of-r}
+use Rattle.base.proofs.PartLaws.{drop-take}
 use Rattle.expr.specs.Vars.{noVar, firstVars, support}
 use Rattle.truth.specs.Truth.{hasShift, placeOf, tableF}
 use Rattle.truth.proofs.FirstVarsLaws.{place-first, table-first}
@@ -151,11 +151,6 @@ module _ (at : ℕ) (t : Tree) where
 
 -- ---- the words in an index
 
-pub drop-take : (k n : ℕ) (l : List ℕ) → take n (drop k l) ≡ drop k (take (k + n) l)
-drop-take zero n l = rw zero-add refl
-drop-take (suc k) n [] = rw (take-nil n, take-nil (suc k + n)) refl
-drop-take (suc k) n (x ∷ l) = rw suc-add (drop-take k n l)
-
 module _ (index : List ℕ) (i at : ℕ) (t : Tree) (e : take 9 (drop (9 * i) index) ≡ atomWords at t) where
   pub index-word : (j : ℕ) → j < 9 → getD index (9 * i + j) 0 ≡ getD (atomWords at t) j 0
   index-word j h =
@@ -176,5 +171,5 @@ module _ (index : List ℕ) (i at : ℕ) (t : Tree) (e : take 9 (drop (9 * i) in
       let n : 9 * i + 9 - (9 * i + 3) ≡ 6 = omega arith in
       rw n
       (ap (take 6) (sym (drop-drop 3 (9 * i) index))
-      ∙ drop-take 3 6 (drop (9 * i) index)
+      ∙ sym (drop-take 3 6 (drop (9 * i) index))
       ∙ ap (drop 3) e)

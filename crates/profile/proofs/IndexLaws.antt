@@ -4,10 +4,10 @@ use Prim.Native.Nat.{ℕ, suc, _+_, _*_, _≤_, _<_}
 use native.Mathlib.Omega.{arith}
 use native.Mathlib.Nat.{zero-add}
 use native.Mathlib.Decide.{ℕ-discrete}
-use mathlib.Core.List.{List, _∷_, _++_}
+use mathlib.Core.List.{List, _∷_}
 use mathlib.Core.Bool.{true, false}
-use lib.ListN.{length, getD, take, drop, length-append, length-drop}
-use lib.Seq.{drop-drop, drop-at, take-take, take-append-le, length-take-le}
+use lib.ListN.{length, getD, take, drop, length-drop}
+use lib.Seq.{drop-drop}
 use lib.Bits.{bitOr}
 use Rattle.arith.specs.Bit.{bitAt}
 use Rattle.arith.proofs.BitLaws.{bit-lt, bit-or}
@@ -16,7 +16,7 @@ use Rattle.record.specs.Span.{sized}
 use Rattle.record.specs.Tree.{Tree}
 use Rattle.record.specs.Tree.Tree.{Constant}
 use Rattle.record.specs.Decode.{decode}
-use Rattle.base.proofs.PutLaws.{take-put}
+use Rattle.base.proofs.PutLaws.{part-put-before, part-put}
 use Rattle.record.proofs.BytesLaws.{bytes-drop}
 use Rattle.expr.proofs.AcceptLaws.{accept-expr}
 use Rattle.semilinear.specs.Items.{atomLength, isAtom, treeSpan, afterAtom, atomCount}
@@ -28,27 +28,7 @@ use Rattle.semilinear.proofs.AcceptLaws.{bytes-tree-span}
 use Rattle.profile.specs.Edges.{atomEdges}
 use Rattle.profile.specs.Index.{atomTrees, treeOf, AtomsValid, atomWords, EntryFor, AtomsIndexed}
 use Rattle.profile.proofs.EdgesLaws.{edge-start}
-use Rattle.profile.proofs.AtomWordsLaws.{drop-take, length-words, word-edges}
-
--- ---- parts of words after a put
-
-module _ (d : List ℕ) (at : ℕ) (s : List ℕ) (fits : at + length s ≤ length d) where
-  part-before : (a n : ℕ) → a + n ≤ at → take n (drop a (put d at s)) ≡ take n (drop a d)
-  unfolding put
-  part-before a n h =
-      let long : length (take at d) ≡ at = length-take-le at d (omega arith) in
-      drop-take a n (put d at s)
-      ∙ ap (drop a)
-      (take-append-le (a + n) (take at d ++ s) (drop (at + length s) d) (omega (arith, length-append (take at d) s))
-      ∙ take-append-le (a + n) (take at d) s (omega arith)
-      ∙ take-take (a + n) at d h)
-      ∙ sym (drop-take a n d)
-
-  part-in : take (length s) (drop at (put d at s)) ≡ s
-  part-in =
-      drop-take at (length s) (put d at s)
-      ∙ ap (drop at) (take-put d at s fits)
-      ∙ drop-at (take at d) s at (length-take-le at d (omega arith))
+use Rattle.profile.proofs.AtomWordsLaws.{length-words, word-edges}
 
 -- ---- the trees
 
@@ -162,8 +142,7 @@ module _ (f index : List ℕ) (edges at i : ℕ) (h : Indexing f index edges at 
                 (atom-parts (h .valid .width) (drop at f) ok .accepted));
             words =
                 ap (λ (l : List ℕ). take 9 (drop (9 * i) l)) ei
-                ∙ ap (λ (n : ℕ). take n (drop (9 * i) (put index (9 * i) words))) (sym nine)
-                ∙ part-in index (9 * i) words fits
+                ∙ part-put index (9 * i) words fits 9 (sym nine)
                 ∙ ew
                 ∙ ap (atomWords at) (sym here-tree);
           }
@@ -180,7 +159,7 @@ module _ (f index : List ℕ) (edges at i : ℕ) (h : Indexing f index edges at 
             expr = e .expr;
             words =
                 ap (λ (l : List ℕ). take 9 (drop (9 * j) l)) ei
-                ∙ part-before index (9 * i) words fits (9 * j) 9 (omega arith)
+                ∙ part-put-before index (9 * i) words fits (9 * j) 9 (omega arith)
                 ∙ e .words;
           }
 

@@ -5,7 +5,7 @@ use native.Mathlib.Omega.{arith}
 use mathlib.Core.List.{List, [], _++_, append-assoc}
 use mathlib.Core.Bool.{true, false}
 use lib.ListN.{length, getD, take, drop, length-append}
-use lib.Seq.{take-at, drop-at, take-append-le, take-take, length-take-le}
+use lib.Seq.{take-take}
 use Rattle.record.specs.Fields.{size, arity}
 use Rattle.record.specs.Span.{sized}
 use Rattle.record.specs.Tree.{Tree, sizeOf, recordBytes, encode, Encodable}
@@ -13,7 +13,7 @@ use Rattle.record.specs.Decode.{decode}
 use Rattle.base.specs.Put.{put}
 use Rattle.record.proofs.BytesLaws.{length-record}
 use Rattle.record.proofs.EncodeLaws.{length-encode, size-encode, Encoded, encoded}
-use Rattle.base.proofs.PutLaws.{put-then}
+use Rattle.base.proofs.PutLaws.{take-put-front, drop-put-front, part-put, put-then}
 use Rattle.expr.specs.Hash.{structuralHash}
 use Rattle.atom_table.specs.declared.table.Table.{Table}
 use Rattle.semilinear.specs.Form.{xorFamily}
@@ -31,26 +31,14 @@ unfolding put
 put-before d at h s fits =
     let i : ℕ = at + length h in
     let rest : List ℕ = drop (i + length s) d in
-    let li : length (take i d) ≡ i = length-take-le i d (omega arith) in
-    let all : (take i d ++ s) ++ rest ≡ take i d ++ (s ++ rest) = append-assoc (take i d) s rest in
-    let one : take at ((take i d ++ s) ++ rest) ≡ take at d =
-    ap (take at) all ∙ take-append-le at (take i d) (s ++ rest) (omega arith) ∙ take-take at i d (omega arith) in
-    let two : drop i ((take i d ++ s) ++ rest) ≡ s ++ rest = ap (drop i) all ∙ drop-at (take i d) (s ++ rest) i li in
+    let one : take at (put d i s) ≡ take at d =
+    sym (take-take at i (put d i s) (omega arith)) ∙ ap (take at) (take-put-front d i s fits)
+    ∙ take-take at i d (omega arith) in
     let end : i + length s ≡ at + length (h ++ s) = omega (arith, length-append h s) in
-    ap₂ (λ (x y : List ℕ). (x ++ h) ++ y) one two
+    ap₂ (λ (x y : List ℕ). (x ++ h) ++ y) one (drop-put-front d i s fits)
     ∙ sym (append-assoc (take at d ++ h) s rest)
     ∙ ap (λ (x : List ℕ). x ++ rest) (append-assoc (take at d) h s)
     ∙ ap (λ (n : ℕ). (take at d ++ (h ++ s)) ++ drop n d) end
-
--- the part that was put
-part-put : (d : List ℕ) (at n : ℕ) (s : List ℕ) → at + length s ≤ length d → n ≡ length s
-    → take n (drop at (put d at s)) ≡ s
-unfolding put
-part-put d at n s fits e =
-    let rest : List ℕ = drop (at + length s) d in
-    ap (λ (x : List ℕ). take n (drop at x)) (append-assoc (take at d) s rest)
-    ∙ ap (take n) (drop-at (take at d) (s ++ rest) at (length-take-le at d (omega arith)))
-    ∙ take-at s rest n (sym e)
 
 -- ---- the bytes of the Xor
 
@@ -123,7 +111,7 @@ module _ (w : ℕ) (b : List ℕ) (m : ℕ) (same : encode w (decode b) ≡ b) w
       → o ≡ put d (at + 16) (xorBytes w b m) → take (at + 48 + length b - (at + 16)) (drop (at + 16) o) ≡ xorBytes w b m
   span-xored d at room e =
       ap (λ (o : List ℕ). take (at + 48 + length b - (at + 16)) (drop (at + 16) o)) e
-      ∙ part-put d (at + 16) (at + 48 + length b - (at + 16)) (xorBytes w b m) (omega (arith, xor-length))
+      ∙ part-put d (at + 16) (xorBytes w b m) (omega (arith, xor-length)) (at + 48 + length b - (at + 16))
       (omega (arith, xor-length))
 
   module _ (ok : Encodable (decode b)) (hm : m < 2 ^ 64) where

@@ -16,7 +16,7 @@ use Rattle.record.specs.Decode.{decode}
 use Rattle.base.specs.Put.{put}
 use Rattle.base.proofs.BoolLaws.{false-true}
 use Rattle.record.proofs.BytesLaws.{length-record}
-use Rattle.base.proofs.PutLaws.{length-put}
+use Rattle.base.proofs.PutLaws.{length-put, take-put-front}
 use Rattle.expr_refusal.specs.Refusal.{treeRefusal}
 use Rattle.expr.specs.Hash.{structuralHash}
 use Rattle.expr_refusal.proofs.RefusalLaws.{sized-accepted}
@@ -35,7 +35,7 @@ use Rattle.register.proofs.IndexLaws.{length-rows-in, rows-in-more, row
 use Rattle.register.proofs.IndexLaws.{entry-kept, entry-later, entry-set-kept}
 use Rattle.register.proofs.EntryLaws.{wordsOfEntry, take-entry, entry-row, entry-ok}
 use Rattle.register.proofs.RegisteredLaws.{bare-add-row}
-use Rattle.ways.proofs.PutSpanLaws.{take-put-front, span-put-piece}
+use Rattle.ways.proofs.PutSpanLaws.{span-put-piece}
 
 -- the tree in the bytes of its atom
 span-atom : (w p : ℕ) (t : List ℕ) → spanOf (atomSpan w p t) 16 (16 + length t) ≡ t

@@ -8,14 +8,14 @@ use lib.ListN.{length, getD, take}
 use lib.Seq.{take-all}
 use Rattle.base.specs.Put.{put}
 use Rattle.record.specs.Decode.{decode}
-use Rattle.base.proofs.PutLaws.{getD-put-in}
+use Rattle.base.proofs.PutLaws.{getD-put-in, take-put-front}
 use Rattle.expr_refusal.specs.Refusal.{treeRefusal}
 use Rattle.expr.specs.Hash.{structuralHash}
 use Rattle.truth.specs.Key.{keyOf}
 use Rattle.normalizer_laws.specs.Register.{detectProvenance}
 use Rattle.ways.specs.Spans.{spanOf}
 use Rattle.register.specs.Index.{entrySpan, entryRow, EntryOk}
-use Rattle.ways.proofs.PutSpanLaws.{take-put-front, span-put-piece}
+use Rattle.ways.proofs.PutSpanLaws.{span-put-piece}
 
 -- the words of an atom
 unfoldable pub wordsOfEntry : ℕ → ℕ → ℕ → ℕ → List ℕ → List ℕ

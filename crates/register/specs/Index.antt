@@ -2,7 +2,7 @@
 -- words, eleven to an atom: its coefficient, its hash, where its tree starts and ends in the result slice, and its key.
 -- A view gives the rows that they stand for.
 use mathlib.Core.Path.{_≡_}
-use Prim.Native.Nat.{ℕ, zero, suc, _+_, _*_, _≤_, _<_}
+use Prim.Native.Nat.{ℕ, zero, suc, _+_, _*_, _^_, _≤_, _<_, min}
 use mathlib.Core.List.{List, [], _∷_, _++_}
 use mathlib.Core.Bool.{Bool, true, false, _&&_}
 use lib.ListN.{length, getD, take}
@@ -22,7 +22,8 @@ use Rattle.atom_table.specs.Table.{Holds, Clean}
 use Rattle.base.specs.Loop.{firstIn}
 use Rattle.normalizer_laws.specs.Collect.{Emitted}
 use Rattle.normalizer_laws.specs.Register.{detectProvenance}
-use Rattle.ways.specs.Spans.{spanOf}
+use Rattle.ways.specs.Spans.{spanOf, Accepted}
+use Rattle.descent.specs.Spots.{SpotsOk}
 use Rattle.base.specs.Limits.{atomLimit}
 
 -- the words of an entry
@@ -71,6 +72,12 @@ pub record Indexed (w : ℕ) (tab : Table) (index out : List ℕ) : Type 0 where
 abbrev pub RoomMore : Table → List ℕ → Type 0
 RoomMore tab index = tab .count < atomLimit → entryWords * tab .count + entryWords ≤ length index
 
+-- what an atom with the tree of the bytes t asks to be registered
+pub record Registrable (w : ℕ) (tab : Table) (t index out : List ℕ) : Type 0 where
+  pub indexed : Indexed w tab index out
+  pub accepted : treeRefusal w t ≡ 0
+  pub room : RoomMore tab index
+
 -- a step from one table to another makes the rows of it; where it is full, they pass a limit
 pub record Registers (w : ℕ) (rows : List Row) (index out : List ℕ) (r : Table) : Type 0 where
   pub rows-are : r .full ≡ false → indexRows index out (r .count) ≡ rows
@@ -84,6 +91,29 @@ emitted c t = record { coeff = c; tree = decode t }
 -- the row of an atom that shares none
 abbrev pub appendedRow : Emitted → Row
 appendedRow e = record { provenance = detectProvenance (e .tree); tree = e .tree; coeff = e .coeff }
+
+-- what `put_tree` asks: an accepted tree, and room for it, the literal and the And
+pub record TreeRoom (w literal : ℕ) (t tree : List ℕ) : Type 0 where
+  pub accepted : treeRefusal w t ≡ 0
+  pub literal-lt : literal < 2 ^ w
+  pub long : length t ≤ 1048000
+  pub room : length t + 32 ≤ length tree
+
+-- what `build_tree` asks of spot i: a part of the file, and room for its tree
+pub record SpotRoom (w i : ℕ) (spots file tree : List ℕ) : Type 0 where
+  pub span : Accepted w file (getD spots (5 * i + 1) 0) (getD spots (5 * i + 2) 0)
+  pub literal-lt : getD spots (5 * i + 4) 0 < 2 ^ w
+  pub inside : 5 * i + 5 ≤ length spots
+  pub room : length file + 32 ≤ length tree
+  pub long : length file ≤ 1048000
+
+-- what registering the first n spots asks: room for each of their trees, and for the words of their atoms
+pub record SpotsRoom (w n : ℕ) (spots file tree index : List ℕ) : Type 0 where
+  pub spots-ok : SpotsOk w file spots n
+  pub inside : 5 * n ≤ length spots
+  pub room : length file + 32 ≤ length tree
+  pub long : length file ≤ 1048000
+  pub entries : min (entryWords * atomLimit) (entryWords * n) ≤ length index
 
 -- the first r bytes of a slice are an accepted tree of width w: the tree t
 pub record Built (w : ℕ) (t : Tree) (before after : List ℕ) (r : ℕ) : Type 0 where

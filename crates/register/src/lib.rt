@@ -10,26 +10,25 @@ use truth::key;
 ghost use mathlib.Core.Path.{_≡_};
 ghost use mathlib.Core.Bool.{true, _||_};
 ghost use mathlib.Core.List.{[], _∷_, _++_};
-ghost use Prim.Native.Nat.{_+_, _*_, _^_, _<_, _≤_, min};
+ghost use Prim.Native.Nat.{_+_, _*_, _<_, _≤_};
 ghost use lib.ListN.{length, getD, set};
 ghost use lib.Dec.{eqb};
 ghost use Rattle.arith.specs.Width.{modAdd};
 ghost use Rattle.record.specs.Span.{sized};
 ghost use Rattle.base.specs.Put.{put, padded};
 ghost use Rattle.record.specs.Decode.{decode};
-ghost use Rattle.expr_refusal.specs.Refusal.{treeRefusal};
 ghost use Rattle.expr.specs.Hash.{structuralHash};
 ghost use Rattle.truth.specs.Key.{keyOf};
 ghost use Rattle.semilinear.specs.Form.{mixedFamily};
 ghost use Rattle.normalizer_laws.specs.Register.{familyOf, joinProvenance};
 ghost use Rattle.normalizer_laws.specs.Register.{detectProvenance, registerAtom};
 ghost use Rattle.normalizer_laws.specs.Register.{registerAll};
-ghost use Rattle.ways.specs.Spans.{Accepted};
-ghost use Rattle.descent.specs.Spots.{SpotsOk, spotTree, spotAt};
+ghost use Rattle.descent.specs.Spots.{spotTree, spotAt};
 ghost use Rattle.descent.specs.Spots.{spotsIn};
-ghost use Rattle.register.specs.Index.{entryWords, Indexed, RoomMore, Registers, Built};
+ghost use Rattle.register.specs.Index.{entryWords, Registrable, Registers, Built};
+ghost use Rattle.register.specs.Index.{TreeRoom, SpotRoom, SpotsRoom};
 ghost use Rattle.register.specs.Index.{indexRows, emitted, appendedRow};
-ghost use Rattle.base.specs.Limits.{atomLimit, formBytes};
+ghost use Rattle.base.specs.Limits.{formBytes};
 
 // Whether a child of family x belongs to the family f or is Mixed.
 fn in_family(f: u8, x: u8) -> bool
@@ -90,8 +89,7 @@ fn detect_provenance(t: &[u8]) -> u8
 // The tree t, or the And of it and the literal where it is masked, is put into `tree`; returns its
 // length.
 fn put_tree(t: &[u8], masked: u64, literal: u64, w: u8, tree: &mut [u8]) -> usize
-    requires { ⌜ (treeRefusal w (now t) ≡ 0) × (literal < 2 ^ w) × (length (now t) ≤ 1048000)
-        × (length (now t) + 32 ≤ length (now tree)) ⌝ }
+    requires { ⌜ TreeRoom w literal (now t) (now tree) ⌝ }
     ensures { λ r. ⌜ Built w (spotTree (decode (now (t .entry))) masked literal)
         (now (tree .entry)) (now (tree .exit)) r ⌝ }
 {
@@ -115,10 +113,7 @@ fn put_tree(t: &[u8], masked: u64, literal: u64, w: u8, tree: &mut [u8]) -> usiz
 
 // The tree that spot i stands for is put into `tree`; returns its length.
 fn build_tree(i: usize, spots: &[u64], file: &[u8], w: u8, tree: &mut [u8]) -> usize
-    requires { ⌜ Accepted w (now file) (getD (now spots) (5 * i + 1) 0)
-        (getD (now spots) (5 * i + 2) 0)
-        × (getD (now spots) (5 * i + 4) 0 < 2 ^ w) × (5 * i + 5 ≤ length (now spots))
-        × (length (now file) + 32 ≤ length (now tree)) × (length (now file) ≤ 1048000) ⌝ }
+    requires { ⌜ SpotRoom w i (now spots) (now file) (now tree) ⌝ }
     ensures { λ r. ⌜ Built w (spotAt (now (file .entry)) (now (spots .entry)) i .tree)
         (now (tree .entry)) (now (tree .exit)) r ⌝ }
 {
@@ -160,9 +155,8 @@ fn append_atom(
     index: &mut [u64],
     out: &mut [u8],
 ) -> Table
-    requires { ⌜ Indexed w table (now index) (now out) × (treeRefusal w (now t) ≡ 0)
-        × (hash ≡ structuralHash (decode (now t))) × (now key ≡ keyOf (decode (now t)))
-        × RoomMore table (now index) ⌝ }
+    requires { ⌜ Registrable w table (now t) (now index) (now out)
+        × (hash ≡ structuralHash (decode (now t))) × (now key ≡ keyOf (decode (now t))) ⌝ }
     ensures { λ r. ⌜ Registers w (indexRows (now (index .entry)) (now (out .entry)) (table .count)
         ++ (appendedRow (emitted c (now (t .entry))) ∷ [])) (now (index .exit)) (now (out .exit)) r ⌝ }
 {
@@ -179,8 +173,7 @@ fn append_atom(
 
 // One atom: the tree t with the coefficient c. Corresponds to `register_atom`.
 fn register_atom(table: Table, c: u64, t: &[u8], w: u8, index: &mut [u64], out: &mut [u8]) -> Table
-    requires { ⌜ Indexed w table (now index) (now out) × (treeRefusal w (now t) ≡ 0)
-        × RoomMore table (now index) ⌝ }
+    requires { ⌜ Registrable w table (now t) (now index) (now out) ⌝ }
     ensures { λ r. ⌜ Registers w (registerAtom w (emitted c (now (t .entry)))
         (indexRows (now (index .entry)) (now (out .entry)) (table .count)))
         (now (index .exit)) (now (out .exit)) r ⌝ }
@@ -211,9 +204,8 @@ pub fn register_all(
     index: &mut [u64],
     out: &mut [u8],
 ) -> Table
-    requires { ⌜ SpotsOk w (now file) (now spots) n × (5 * n ≤ length (now spots))
-        × (length (now file) + 32 ≤ length (now tree)) × (length (now file) ≤ 1048000)
-        × (min (entryWords * atomLimit) (entryWords * n) ≤ length (now index)) × (now out ≡ padded formBytes []) ⌝ }
+    requires { ⌜ SpotsRoom w n (now spots) (now file) (now tree) (now index)
+        × (now out ≡ padded formBytes []) ⌝ }
     ensures { λ r. ⌜ Registers w
         (registerAll w (spotsIn (now (file .entry)) (now (spots .entry)) n) [])
         (now (index .exit)) (now (out .exit)) r ⌝ }

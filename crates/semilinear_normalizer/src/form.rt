@@ -4,14 +4,13 @@ use descent::collect::Descent;
 use register::index;
 use semilinear::outcome::Answer;
 ghost use mathlib.Core.Path.{_≡_};
-ghost use Prim.Native.Nat.{_+_, _*_, _<_, _≤_, min};
 ghost use lib.ListN.{length};
 ghost use Rattle.semilinear.specs.Answers.{GivesForm};
 ghost use Rattle.normalizer_laws.specs.Collect.{linear};
-ghost use Rattle.descent.specs.Spots.{SpotsOk, spotsIn};
-ghost use Rattle.register.specs.Index.{entryWords, indexRows};
+ghost use Rattle.descent.specs.Spots.{spotsIn};
+ghost use Rattle.register.specs.Index.{SpotsRoom};
 ghost use Rattle.normalizer_laws.specs.Normalize.{collectedOutcome};
-ghost use Rattle.base.specs.Limits.{atomLimit, formBytes};
+ghost use Rattle.base.specs.Limits.{formBytes};
 
 // The form of a descent that was linear, written to a slice of 57,360 bytes; or 9. The descent's
 // atoms stand in `spots`; `tree` and `index` are room to work in.
@@ -24,10 +23,8 @@ pub fn write_form(
     index: &mut [u64],
     out: &mut [u8],
 ) -> Answer
-    requires { ⌜ SpotsOk w (now file) (now spots) (found .count)
-        × (5 * found .count ≤ length (now spots))
-        × (length (now file) + 32 ≤ length (now tree)) × (length (now file) ≤ 1048000)
-        × (min (entryWords * atomLimit) (entryWords * found .count) ≤ length (now index)) × (length (now out) ≡ formBytes) ⌝ }
+    requires { ⌜ SpotsRoom w (found .count) (now spots) (now file) (now tree) (now index)
+        × (length (now out) ≡ formBytes) ⌝ }
     ensures { λ r. ⌜ GivesForm (collectedOutcome w (linear (found .constant)
         (spotsIn (now (file .entry)) (now (spots .entry)) (found .count))))
         formBytes r (now (out .exit)) ⌝ }

@@ -11,15 +11,14 @@ use semilinear::outcome::Answer;
 use ways::marks;
 use ways::side::Spot;
 ghost use mathlib.Core.Path.{_≡_};
-ghost use Prim.Native.Nat.{_+_, _*_, _≤_, min};
+ghost use Prim.Native.Nat.{_*_, _≤_};
 ghost use lib.ListN.{length};
-ghost use Rattle.record.specs.Fields.{size};
 ghost use Rattle.record.specs.Decode.{decode};
 ghost use Rattle.expr_refusal.specs.Refusal.{treeRefusal};
 ghost use Rattle.semilinear.specs.Answers.{GivesForm};
 ghost use Rattle.normalizer_laws.specs.Normalize.{normalizeTree, normalizeToSemilinear};
-ghost use Rattle.base.specs.Limits.{atomLimit, exprBytes, formBytes, recordLength};
-ghost use Rattle.register.specs.Index.{entryWords};
+ghost use Rattle.base.specs.Limits.{exprBytes, formBytes, recordLength};
+ghost use Rattle.semilinear_normalizer.specs.WorkRoom.{WorkRoom};
 
 // A file of at most so many records is worked on in short arrays.
 const SHORT_RECORDS: usize = 64;
@@ -53,10 +52,7 @@ pub fn normalize_tree(
     index: &mut [u64],
     out: &mut [u8],
 ) -> Answer
-    requires { ⌜ (treeRefusal w (now t) ≡ 0) × (size (now t) ≤ length (now marks))
-        × (5 * size (now t) ≤ length (now spots)) × (length (now t) + 32 ≤ length (now tree))
-        × (length (now t) ≤ 1048000) × (min (entryWords * atomLimit) (entryWords * size (now t)) ≤ length (now index))
-        × (length (now out) ≡ formBytes) ⌝ }
+    requires { ⌜ WorkRoom w (now t) (now marks) (now spots) (now tree) (now index) (now out) ⌝ }
     ensures { λ r. ⌜ GivesForm (normalizeTree w (decode (now (t .entry)))) formBytes r
         (now (out .exit)) ⌝ }
 {

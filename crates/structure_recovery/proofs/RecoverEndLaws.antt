@@ -1,8 +1,7 @@
 -- The begin and the end of recovering (recover_pair/specs/Recovering.antt): the words of the copied table hold the rows
 -- of the form, and what the end of a pass gives of the recovered rows is the recovered form, or 9.
-use mathlib.Core.Path.{_≡_, refl, ap, ap₂, sym, _∙_}
-use Prim.Native.Nat.{ℕ, _*_, _≤_}
-use native.Mathlib.Omega.{arith}
+use mathlib.Core.Path.{_≡_, refl, ap, ap₂, sym}
+use Prim.Native.Nat.{ℕ}
 use mathlib.Core.List.{List, [], _∷_}
 use mathlib.Core.Bool.{Bool, true, false}
 use lib.ListN.{length, getD}
@@ -17,8 +16,7 @@ use Rattle.semilinear.specs.Valid.{isSemilinear}
 use Rattle.semilinear.specs.DecodeForm.{rowsOf, decodeForm, readForm}
 use Rattle.semilinear.specs.Answers.{GivesForm}
 use Rattle.semilinear.specs.PassOutcome.{limitOutcome}
-use Rattle.atom_table.specs.Table.{Placed}
-use Rattle.atom_table.specs.Terms.{Copied, Finished}
+use Rattle.atom_table.specs.Terms.{Copied, FinishRoom, Finished}
 use Rattle.semilinear.proofs.AcceptLaws.{form-valid}
 use Rattle.made.specs.Made.{tableOf}
 use Rattle.group.proofs.PassLaws.{held-form, pass-room}
@@ -81,6 +79,5 @@ module _ (s : List ℕ) (bytes : IsBytes s) (ok : isSemilinear s ≡ true) where
 -- the end has room for all terms
 pub recover-room : {w : ℕ} {rows : List Row} {before out made out′ coeffs : List ℕ}
     → RowsRecovered w rows before out made out′ coeffs → {tab : Table} → tab ≡ tableOf made → length out ≡ 57360
-    → (tab .full ≡ false → Placed tab (length out′)) × (length out′ ≡ 57360)
-    × (tab .full ≡ false → 1 * tab .count ≤ length coeffs)
+    → FinishRoom tab 1 coeffs out′
 recover-room {out = out} {coeffs = coeffs} r et e = pass-room out coeffs (r .room) (r .long) (r .wide) et e

@@ -1,7 +1,6 @@
 -- The end of refining (specs/Refining.antt): what the end of a pass gives of the refined rows is the refined form.
-use mathlib.Core.Path.{_≡_, _∙_}
-use Prim.Native.Nat.{ℕ, _*_, _≤_}
-use native.Mathlib.Omega.{arith}
+use mathlib.Core.Path.{_≡_}
+use Prim.Native.Nat.{ℕ}
 use mathlib.Core.List.{List}
 use mathlib.Core.Bool.{true, false}
 use lib.ListN.{length}
@@ -16,8 +15,7 @@ use Rattle.semilinear.specs.Valid.{isSemilinear}
 use Rattle.semilinear.specs.DecodeForm.{rowsOf, decodeForm, readForm}
 use Rattle.semilinear.specs.Answers.{GivesForm}
 use Rattle.semilinear.specs.PassOutcome.{limitOutcome}
-use Rattle.atom_table.specs.Table.{Placed}
-use Rattle.atom_table.specs.Terms.{Copied, Finished}
+use Rattle.atom_table.specs.Terms.{Copied, FinishRoom, Finished}
 use Rattle.semilinear.proofs.AcceptLaws.{form-valid}
 use Rattle.made.specs.Made.{tableOf}
 use Rattle.group.proofs.PassLaws.{held-form, pass-room}
@@ -44,6 +42,5 @@ module _ (s : List ℕ) (bytes : IsBytes s) (ok : isSemilinear s ≡ true) where
 -- the end has room for all terms
 pub refine-room : {w : ℕ} {rows : List Row} {before out made out′ coeffs : List ℕ}
     → RowsRefined w rows before out made out′ coeffs → {tab : Table} → tab ≡ tableOf made → length out ≡ 57360
-    → (tab .full ≡ false → Placed tab (length out′)) × (length out′ ≡ 57360)
-    × (tab .full ≡ false → 1 * tab .count ≤ length coeffs)
+    → FinishRoom tab 1 coeffs out′
 refine-room {out = out} {coeffs = coeffs} r et e = pass-room out coeffs (r .room) (r .long) (r .wide) et e

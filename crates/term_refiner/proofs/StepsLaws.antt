@@ -113,9 +113,9 @@ module _ (w : ℕ) (hw : w ≤ 64) (vars : List ℕ) (b : Tree) (hb : isAtomTree
       for-keeps (λ (r : Group). K (work r l)) (dropAt w) 0 (g .len) g
       (λ i r a u k. drop-keeps l i r (subst (λ (n : ℕ). i < n) (h .len-same) u) k) h
 
-  negate-keeps : (l : List Row) (i : ℕ) (g : Group) → i < g0 .len → K (work g l) → K (work (minusOneAt w i g) l)
+  minus-one-at-keeps : (l : List Row) (i : ℕ) (g : Group) → i < g0 .len → K (work g l) → K (work (minusOneAt w i g) l)
   unfolding minusOneAt work
-  negate-keeps l i g hi h =
+  minus-one-at-keeps l i g hi h =
       let e = at g i in
       let test = canChangeCoefficientTo (e .coeff) (2 ^ w - 1) (e .mask) w in
       let new : Entry = record { coeff = 2 ^ w - 1; mask = e .mask; atom = e .atom; mark = e .mark } in
@@ -140,7 +140,7 @@ module _ (w : ℕ) (hw : w ≤ 64) (vars : List ℕ) (b : Tree) (hb : isAtomTree
   unfolding toMinusOne work
   minus-one-keeps g l h =
       for-keeps (λ (r : Group). K (work r l)) (minusOneAt w) 0 (g .len) g
-      (λ i r a u k. negate-keeps l i r (subst (λ (n : ℕ). i < n) (h .len-same) u) k) h
+      (λ i r a u k. minus-one-at-keeps l i r (subst (λ (n : ℕ). i < n) (h .len-same) u) k) h
 
   -- ---- two entries joined
 

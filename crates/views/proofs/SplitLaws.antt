@@ -1,15 +1,15 @@
 -- The view that the code makes of an atom's tree (specs/Views.antt): the basis is a part of the form's bytes, which
 -- bases count, and that it is the row's view.
 use mathlib.Core.Path.{_≡_, refl, ap, sym, _∙_}
-use Prim.Native.Nat.{ℕ, zero, suc, _+_, _-_, _≤_}
+use Prim.Native.Nat.{ℕ, _+_, _-_, _≤_}
 use native.Mathlib.Omega.{arith}
 use native.Mathlib.Decide.{ℕ-discrete}
-use mathlib.Core.List.{List, [], _∷_}
+use mathlib.Core.List.{List}
 use mathlib.Core.Bool.{Bool, true, false}
 use lib.ListN.{length, take, drop, length-take, length-drop}
-use lib.Seq.{take-nil, take-take, drop-drop}
 use borrow.Author.Tests.{eq-eqb, ne-eqb}
 use Rattle.base.specs.Choice.{when}
+use Rattle.base.proofs.PartLaws.{part-part}
 use Rattle.record.specs.Fields.{kind, arity}
 use Rattle.record.specs.Span.{sized}
 use Rattle.record.specs.Tree.{IsBytes}
@@ -32,22 +32,6 @@ use Rattle.views.specs.Grouping.{viewRow, anyBasis, variableBasis}
 use Rattle.views.specs.Views.{basisBytes, onlyOf, Viewed}
 use Rattle.views.proofs.ViewLaws.{view-no-basis, view-only}
 use Rattle.views.proofs.ViewsLaws.{viewed-none, viewed-some}
-
--- ---- a part of a part
-
-drop-take : (s m k : ℕ) (l : List ℕ) → s + m ≡ k → drop s (take k l) ≡ take m (drop s l)
-drop-take zero m k l e = let f : k ≡ m = omega arith in ap (λ (i : ℕ). take i l) f
-drop-take (suc s) m zero l e = absurd (omega arith)
-drop-take (suc s) m (suc k) [] e = sym (take-nil m)
-drop-take (suc s) m (suc k) (x ∷ l) e = drop-take s m k l (omega arith)
-
-pub part-part : (f : List ℕ) (a n s e : ℕ) → s ≤ e → e ≤ n
-    → take (e - s) (drop s (take n (drop a f))) ≡ take (a + e - (a + s)) (drop (a + s) f)
-part-part f a n s e h k =
-    let m : a + e - (a + s) ≡ e - s = omega arith in
-    ap (take (e - s)) (drop-take s (n - s) n (drop a f) (omega arith))
-    ∙ take-take (e - s) (n - s) (drop s (drop a f)) (omega arith)
-    ∙ rw (m, drop-drop s a f) refl
 
 -- ---- which bases count
 

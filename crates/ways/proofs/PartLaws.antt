@@ -1,11 +1,12 @@
--- Laws of the part of a list from one place to another (`spanOf` of descent/specs/Spots.antt): its length and elements,
+-- Laws of the part of a list from one place to another (`spanOf` of specs/Spans.antt): its length and elements,
 -- parts of parts, and parts that another list shares.
 use mathlib.Core.Path.{_≡_, ap, sym, _∙_}
-use Prim.Native.Nat.{ℕ, zero, suc, _+_, _-_, _≤_, _<_}
+use Prim.Native.Nat.{ℕ, _+_, _-_, _≤_, _<_}
 use native.Mathlib.Omega.{arith}
-use mathlib.Core.List.{List, [], _∷_}
+use mathlib.Core.List.{List}
 use lib.ListN.{length, getD, take, drop, set, length-take, length-drop}
-use lib.Seq.{take-nil, take-take, drop-drop, getD-take, getD-drop, take-set-le, drop-set-lt}
+use lib.Seq.{take-take, getD-take, getD-drop, take-set-le, drop-set-lt}
+use Rattle.base.proofs.PartLaws.{part-take, part-part}
 use Rattle.ways.specs.Spans.{spanOf}
 
 pub length-span : (l : List ℕ) (s e : ℕ) → e ≤ length l → length (spanOf l s e) ≡ e - s
@@ -18,26 +19,15 @@ getD-span l s e i h = getD-take (e - s) (drop s l) i 0 h ∙ getD-drop s l i 0
 
 -- ---- parts of parts
 
-drop-take : (s m k : ℕ) (l : List ℕ) → s + m ≡ k → drop s (take k l) ≡ take m (drop s l)
-drop-take zero m k l e = let f : k ≡ m = omega arith in ap (λ (i : ℕ). take i l) f
-drop-take (suc s) m zero l e = absurd (omega arith)
-drop-take (suc s) m (suc k) [] e = sym (take-nil m)
-drop-take (suc s) m (suc k) (x ∷ l) e = drop-take s m k l (omega arith)
-
 -- a part that starts and ends before n is one of the first n elements
 span-take : (l : List ℕ) (s e n : ℕ) → s ≤ e → e ≤ n → spanOf (take n l) s e ≡ spanOf l s e
 unfolding spanOf
-span-take l s e n h k =
-    sym (drop-take s (e - s) e (take n l) (omega arith))
-    ∙ ap (drop s) (take-take e n l k)
-    ∙ drop-take s (e - s) e l (omega arith)
+span-take l s e n h k = part-take l s (e - s) n (omega arith)
 
 -- a part of a part is a part of the list
 pub span-span : (l : List ℕ) (s e i j : ℕ) → i ≤ j → s + j ≤ e → spanOf (spanOf l s e) i j ≡ spanOf l (s + i) (s + j)
 unfolding spanOf
-span-span l s e i j h k =
-    let n : s + j - (s + i) ≡ j - i = omega arith in
-    span-take (drop s l) i j (e - s) h (omega arith) ∙ rw (n, ← drop-drop i s l)
+span-span l s e i j h k = part-part l s (e - s) i j h (omega arith)
 
 pub take-span : (l : List ℕ) (s e j m : ℕ) → s + j ≤ e → s + j ≡ m → take j (spanOf l s e) ≡ spanOf l s m
 unfolding spanOf

@@ -1,11 +1,14 @@
 -- What the descent asks of every subtree, as one number for each record, the subtree's root, in the order of the
 -- records.
-use Prim.Native.Nat.{ℕ, _+_, _%_}
+use Prim.Native.Nat.{ℕ, _+_, _%_, _≤_}
 use mathlib.Core.Path.{_≡_}
 use mathlib.Core.List.{List, [], _∷_, _++_}
-use mathlib.Core.Bool.{Bool}
+use mathlib.Core.Bool.{Bool, true}
+use lib.ListN.{length}
 use lib.Dec.{eqb, ltb}
 use Rattle.base.specs.Choice.{when}
+use Rattle.record.specs.Fields.{size}
+use Rattle.record.specs.Span.{sized}
 use Rattle.record.specs.Tree.{Tree}
 use Rattle.record.specs.Tree.Tree.{Constant, Variable, Unary, Binary}
 use Rattle.base.specs.Put.{put}
@@ -34,6 +37,11 @@ marksOf (Constant v) = markOf (Constant v) ∷ []
 marksOf (Variable i) = markOf (Variable i) ∷ []
 marksOf (Unary k a t) = marksOf t ++ (markOf (Unary k a t) ∷ [])
 marksOf (Binary k l r) = (marksOf l ++ marksOf r) ++ (markOf (Binary k l r) ∷ [])
+
+-- what `mark_traits` asks: the bytes of a tree, and room for a mark of each record from `at` on
+pub record MarkRoom (t : List ℕ) (at : ℕ) (marks : List ℕ) : Type 0 where
+  pub whole : sized t ≡ true
+  pub room : at + size t ≤ length marks
 
 -- the marks of the tree t are put from `at` on, and r is what it holds
 pub record Marked (t : Tree) (at : ℕ) (before after : List ℕ) (r : Traits) : Type 0 where

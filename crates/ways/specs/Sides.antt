@@ -35,7 +35,24 @@ pub record AtSpot (w : ℕ) (file marks : List ℕ) (x : Spot) : Type 0 where
   pub span : Accepted w file (x .start) (x .end)
   pub marks-are : marks ≡ marksOf (treeAt file x)
 
+-- what a way on from a root of kind k asks: a variable below it, a coefficient other than 0, and no Add
+pub record AtRoot (w : ℕ) (file marks : List ℕ) (x : Spot) (k : ℕ) : Type 0 where
+  pub spot : AtSpot w file marks x
+  pub width-le : w ≤ 64
+  pub some : eqb (x .coeff) 0 ≡ false
+  pub variable : hasVarDep (treeAt file x) ≡ true
+  pub kind-is : k ≡ kind (spanOf file (x .start) (x .end))
+  pub no-add : eqb k 2 ≡ false
+
 -- ---- the sides of a root
+
+-- what `right_side` asks: a root with two children, whose left one has a record, and marks
+pub record RightRoom (file marks : List ℕ) (x : Spot) : Type 0 where
+  pub rising : x .start ≤ x .end
+  pub inside : x .end ≤ length file
+  pub some : 1 ≤ length marks
+  pub left-long : recordLength ≤ length (left (spanOf file (x .start) (x .end)))
+  pub root : recordLength ≤ x .end
 
 -- the side b of a root: a part of the file with its marks
 pub record SideAt (w : ℕ) (file marks : List ℕ) (b : Side) : Type 0 where

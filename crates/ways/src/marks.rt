@@ -2,16 +2,13 @@
 // root, in the order of the records.
 use expr_utils::Traits;
 ghost use mathlib.Core.Path.{_≡_};
-ghost use mathlib.Core.Bool.{true};
 ghost use mathlib.Core.List.{[], _∷_};
-ghost use Prim.Native.Nat.{_+_, _<_, _≤_};
+ghost use Prim.Native.Nat.{_<_};
 ghost use lib.ListN.{length};
-ghost use Rattle.record.specs.Span.{sized};
 ghost use Rattle.record.specs.Decode.{decode};
-ghost use Rattle.record.specs.Fields.{size};
 ghost use Rattle.base.specs.Put.{put};
 ghost use Rattle.ways.specs.Marks.{markNumber, markVariable, markArith};
-ghost use Rattle.ways.specs.Marks.{Marked};
+ghost use Rattle.ways.specs.Marks.{MarkRoom, Marked};
 
 // 1 where a tree has a variable, and 2 more where it has an Add, a Mul or a Neg.
 fn mark_of(found: Traits) -> u8
@@ -55,7 +52,7 @@ fn put_mark(found: Traits, marks: &mut [u8], i: usize) -> Traits
 
 // Puts the marks of the tree of t into `marks` from `at` on; returns what the tree holds.
 pub fn mark_traits(t: &[u8], marks: &mut [u8], at: usize) -> Traits
-    requires { ⌜ (sized (now t) ≡ true) × (at + size (now t) ≤ length (now marks)) ⌝ }
+    requires { ⌜ MarkRoom (now t) at (now marks) ⌝ }
     ensures { λ r. ⌜ Marked (decode (now (t .entry))) at (now (marks .entry))
         (now (marks .exit)) r ⌝ }
 {

@@ -5,14 +5,12 @@ ghost use mathlib.Core.Path.{_≡_};
 ghost use mathlib.Core.Bool.{true, false};
 ghost use Prim.Native.Nat.{_-_, _≤_};
 ghost use lib.ListN.{length};
-ghost use lib.Dec.{eqb};
 ghost use Rattle.arith.specs.Width.{modNeg};
 ghost use Rattle.record.specs.Fields.{kind};
 ghost use Rattle.record.specs.Span.{left};
-ghost use Rattle.expr_utils.specs.Utils.{hasVarDep};
 ghost use Rattle.ways.specs.Spans.{spanOf};
-ghost use Rattle.ways.specs.Sides.{treeAt, AtSpot, isBinary, leftOf};
-ghost use Rattle.ways.specs.Sides.{rightOf, leftSide, rightSide, SideOf};
+ghost use Rattle.ways.specs.Sides.{treeAt, AtSpot, AtRoot, isBinary, leftOf};
+ghost use Rattle.ways.specs.Sides.{rightOf, leftSide, RightRoom, rightSide, SideOf};
 ghost use Rattle.ways.specs.Sides.{WayOf, WayDown};
 ghost use Rattle.base.specs.Limits.{recordLength};
 
@@ -70,8 +68,7 @@ pub fn left_side(x: Spot, file: &[u8]) -> Side
 
 // The right child, and its marks.
 pub fn right_side(x: Spot, file: &[u8], marks: &[u8]) -> Side
-    requires { ⌜ (x .start ≤ x .end) × (x .end ≤ length (now file)) × (1 ≤ length (now marks))
-        × (recordLength ≤ length (left (spanOf (now file) (x .start) (x .end)))) × (recordLength ≤ x .end) ⌝ }
+    requires { ⌜ RightRoom (now file) (now marks) x ⌝ }
     ensures { λ r. ⌜ r ≡ rightSide (now (file .entry)) (now (marks .entry)) x ⌝ }
 {
     let t = span_of(file, x.start, x.end);
@@ -199,10 +196,7 @@ fn way_neg(x: Spot, marks: &[u8], w: u32) -> Way
 // The way on from a root with two children that is no Add: a product by a constant, or an Or or
 // Xor with one.
 fn way_two(x: Spot, k: u8, file: &[u8], marks: &[u8], w: u32) -> Way
-    requires { ⌜ AtSpot w (now file) (now marks) x × (w ≤ 64) × (eqb (x .coeff) 0 ≡ false)
-        × (hasVarDep (treeAt (now file) x) ≡ true)
-        × (k ≡ kind (spanOf (now file) (x .start) (x .end))) × (eqb k 2 ≡ false)
-        × (isBinary (treeAt (now file) x) ≡ true) ⌝ }
+    requires { ⌜ AtRoot w (now file) (now marks) x k × (isBinary (treeAt (now file) x) ≡ true) ⌝ }
     ensures { λ b. ⌜ WayOf w (now (file .entry)) (now (marks .entry)) k (x .coeff)
         (treeAt (now (file .entry)) x) b ⌝ }
 {
@@ -233,9 +227,7 @@ fn way_two(x: Spot, k: u8, file: &[u8], marks: &[u8], w: u32) -> Way
 
 // The way on from a root with a variable that is no Add.
 pub fn way_on(x: Spot, file: &[u8], marks: &[u8], w: u32) -> Way
-    requires { ⌜ AtSpot w (now file) (now marks) x × (w ≤ 64) × (eqb (x .coeff) 0 ≡ false)
-        × (hasVarDep (treeAt (now file) x) ≡ true)
-        × (eqb (kind (spanOf (now file) (x .start) (x .end))) 2 ≡ false) ⌝ }
+    requires { ⌜ AtRoot w (now file) (now marks) x (kind (spanOf (now file) (x .start) (x .end))) ⌝ }
     ensures { λ b. ⌜ WayOf w (now (file .entry)) (now (marks .entry))
         (kind (spanOf (now (file .entry)) (x .start) (x .end))) (x .coeff)
         (treeAt (now (file .entry)) x) b ⌝ }

@@ -42,15 +42,17 @@ partition-short-requires c κs =
     let ok = at-start .pre .0 in
     let long = slice-long s (at-start .pre .1) in
     let count = at-atom-table .atom-table .ensures .number in
-    let few = form-count s ok in (
-      form-atoms s ok (λ i. at-shared-slice-known .shared-slice-known .given i .fits) (at-body .body .ensures),
-      count,
-      omega (arith, at-if1 .if1 .left),
-      c .before .if2 .taken,
-      omega (arith, at-width .width .ensures, form-width s ok),
-      omega (arith, long, count, few, ap atomCount (at-body .body .ensures)),
-      slice-zeros s (at-start .pre .1),
-    )
+    let few = form-count s ok in
+    record {
+      atoms =
+          form-atoms s ok (λ i. at-shared-slice-known .shared-slice-known .given i .fits) (at-body .body .ensures);
+      count = count;
+      some = omega (arith, at-if1 .if1 .left);
+      few = c .before .if2 .taken;
+      width-le = omega (arith, at-width .width .ensures, form-width s ok);
+      room = omega (arith, long, count, few, ap atomCount (at-body .body .ensures));
+      zeros = slice-zeros s (at-start .pre .1);
+    }
 
 same-length : tie.Need-same-length
 same-length c = search needs
@@ -79,15 +81,17 @@ partition-long-requires c κs =
     let ok = at-start .pre .0 in
     let long = slice-long s (at-start .pre .1) in
     let count = at-atom-table .atom-table .ensures .number in
-    let few = form-count s ok in (
-      form-atoms s ok (λ i. at-shared-slice-known .shared-slice-known .given i .fits) (at-body .body .ensures),
-      count,
-      omega (arith, at-if1 .if1 .left),
-      omega (arith, count, few, ap atomCount (at-body .body .ensures)),
-      omega (arith, at-width .width .ensures, form-width s ok),
-      omega (arith, long, count, few, ap atomCount (at-body .body .ensures)),
-      slice-zeros s (at-start .pre .1),
-    )
+    let few = form-count s ok in
+    record {
+      atoms =
+          form-atoms s ok (λ i. at-shared-slice-known .shared-slice-known .given i .fits) (at-body .body .ensures);
+      count = count;
+      some = omega (arith, at-if1 .if1 .left);
+      few = omega (arith, count, few, ap atomCount (at-body .body .ensures));
+      width-le = omega (arith, at-width .width .ensures, form-width s ok);
+      room = omega (arith, long, count, few, ap atomCount (at-body .body .ensures));
+      zeros = slice-zeros s (at-start .pre .1);
+    }
 
 same-length-2 : tie.Need-same-length-2
 same-length-2 c = search needs

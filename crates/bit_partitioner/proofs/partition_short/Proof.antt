@@ -16,20 +16,21 @@ array-borrow-prefix-profile c = search needs
 slice-aggregate-partition-atoms-2 : tie.Need-slice-aggregate-partition-atoms-2
 slice-aggregate-partition-atoms-2 c =
     let at-start = c .before .before .before .before in
-    sym (length-take-le (at-start .args .n) (replicate 16 0) (at-start .pre .3))
+    sym (length-take-le (at-start .args .n) (replicate 16 0) (at-start .pre .few))
 
 partition-atoms-requires : tie.Need-partition-atoms-requires
 partition-atoms-requires c κs =
     let at-start = c .before .before .before .before .before in
-    let pre = at-start .pre in (
-      pre .0,
-      omega (arith, pre .1, pre .2),
-      omega (arith, pre .1, pre .3),
-      length-take-le (at-start .args .n) (replicate 16 0) (pre .3) ∙ pre .1,
-      pre .4,
-      rw (← pre .1) (pre .5),
-      pre .6,
-    )
+    let pre = at-start .pre in
+    record {
+      atoms = pre .atoms;
+      some = omega (arith, pre .count, pre .some);
+      entries = omega (arith, pre .count, pre .few);
+      long = length-take-le (at-start .args .n) (replicate 16 0) (pre .few) ∙ pre .count;
+      width-le = pre .width-le;
+      room = rw (← pre .count) (pre .room);
+      zeros = pre .zeros;
+    }
 
 same-length : tie.Need-same-length
 same-length c = search needs

@@ -46,7 +46,30 @@ check-bitwise-below t =
     check-bitwise.Pre
 
 abbrev claims : ℕ → check-bitwise-lts.Claims
-claims t = (refuse-reads.Asked, refuse-reads.Learnt, root-ok-reads.Asked, root-ok-reads.Learnt, root-arity-reads.Asked, root-arity-reads.Learnt, leaf-checked-reads.Asked, leaf-checked-reads.Learnt, last-child-reads.Asked, last-child-reads.Learnt, check-bitwise-below t, check-bitwise.Post, kind-reads.Asked, kind-reads.Learnt, amount-reads.Asked, amount-reads.Learnt, one-checked-reads.Asked, one-checked-reads.Learnt, left-reads.Asked, left-reads.Learnt, two-checked-reads.Asked, two-checked-reads.Learnt)
+claims t = (
+  refuse-reads.Asked,
+  refuse-reads.Learnt,
+  root-ok-reads.Asked,
+  root-ok-reads.Learnt,
+  root-arity-reads.Asked,
+  root-arity-reads.Learnt,
+  leaf-checked-reads.Asked,
+  leaf-checked-reads.Learnt,
+  last-child-reads.Asked,
+  last-child-reads.Learnt,
+  check-bitwise-below t,
+  check-bitwise.Post,
+  kind-reads.Asked,
+  kind-reads.Learnt,
+  amount-reads.Asked,
+  amount-reads.Learnt,
+  one-checked-reads.Asked,
+  one-checked-reads.Learnt,
+  left-reads.Asked,
+  left-reads.Learnt,
+  two-checked-reads.Asked,
+  two-checked-reads.Learnt,
+)
 
 check-bitwise-refuse-requires : (t : ℕ) → check-bitwise-lts.Need-refuse-requires (claims t) (check-bitwise-at t) check-bitwise.Post
 check-bitwise-refuse-requires t c κs =

@@ -50,9 +50,8 @@ finish-requires : tie.Need-finish-requires
 finish-requires c κs =
     let at-table = c .before .before .before .before .before .before .before .before in
     let at-copy = at-table .before .before .before .before .before .before .before in
-    let p =
-    coalesce-room (at-table .coalesce-table .ensures) (c .before .before .load .ensures) (at-copy .copy-atoms .ensures .long) in
-    (p .0, p .1, p .2, omega arith, omega arith)
+    coalesce-room (at-table .coalesce-table .ensures) (c .before .before .load .ensures)
+    (at-copy .copy-atoms .ensures .long)
 
 same-length : tie.Need-same-length
 same-length c = search needs

@@ -31,7 +31,10 @@ same-length-2 c = search needs
 returns-2 : tie.Need-returns-2
 unfolding compactAtomTable
 returns-2 c =
-    pass-given _ _ _ (c .before .before .before .before .before .before .before .open-bytes .ensures) (c .before .before .before .before .if1 .left) (c .before .before .compact-form .result) (c .before .before .compact-form .ensures)
+    let compacted = c .before .before .compact-form in
+    let at-if1 = c .before .before .before .before in
+    let door = at-if1 .before .before .before .open-bytes in
+    pass-given _ _ _ (door .ensures) (at-if1 .if1 .left) (compacted .result) (compacted .ensures)
 
 pub compact-atom-table-spec : {M : Type 1} → statement M
 compact-atom-table-spec =

@@ -82,19 +82,20 @@ copy-row-requires c κs =
     let at-is-atom = c .before .before in
     let at-rest-from = at-is-atom .before in
     let at-loop = at-rest-from .before in
-    let at-start = at-loop .before .before .before .before in (
-      at-loop .loop .inv .inside,
-      at-loop .loop .inv .terms-inside,
-      at-loop .loop .inv .number-le,
-      (ap isAtom (sym (at-rest-from .rest-from .ensures))
-          ∙ sym (at-is-atom .is-atom .ensures)
-          ∙ not-false _ (c .before .if1 .left)),
-      copied-room (at-start .args .w) (now (at-start .args .f)) (at-start .pre .1) (at-loop .loop .x) _
-          (at-loop .loop .inv)
-          (ap isAtom (sym (at-rest-from .rest-from .ensures))
-          ∙ sym (at-is-atom .is-atom .ensures)
-          ∙ not-false _ (c .before .if1 .left)),
-    )
+    let at-start = at-loop .before .before .before .before in
+    let going = at-loop .loop .inv in
+    let atom =
+    ap isAtom (sym (at-rest-from .rest-from .ensures))
+    ∙ sym (at-is-atom .is-atom .ensures)
+    ∙ not-false _ (c .before .if1 .left) in
+    record {
+      at-le = going .inside;
+      next-le = going .terms-inside;
+      number-le = going .number-le;
+      atom = atom;
+      room =
+          copied-room (at-start .args .w) (now (at-start .args .f)) (at-start .pre .1) (at-loop .loop .x) _ going atom;
+    }
 
 loop-less : tie.Need-loop-less Inv-loop μ-loop
 loop-less c =

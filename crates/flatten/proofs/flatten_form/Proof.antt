@@ -52,9 +52,7 @@ finish-requires c κs =
     let at-load = c .before .before in
     let at-rows = at-load .before .before .before .before .before .before in
     let at-copy = at-rows .before .before .before .before .before .before .before in
-    let p =
-    flatten-room (at-rows .flatten-rows .ensures) (at-load .load .ensures) (at-copy .copy-atoms .ensures .long) in
-    (p .0, p .1, p .2, omega arith, omega arith)
+    flatten-room (at-rows .flatten-rows .ensures) (at-load .load .ensures) (at-copy .copy-atoms .ensures .long)
 
 same-length : tie.Need-same-length
 same-length c = search needs

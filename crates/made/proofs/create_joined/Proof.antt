@@ -29,7 +29,9 @@ unfolding fullTable
 returns-2 c =
     let a = c .before .before .before .before .before .args in
     let t = maskedBytes (a .w) (now (a .b)) (a .m) in
-    sym (create-past (a .w) 0 t (a .tab) (now (a .out)) (c .before .before .if1 .left) (fits-more-count (a .tab) t (c .if2 .taken)))
+    sym
+    (create-past (a .w) 0 t (a .tab) (now (a .out)) (c .before .before .if1 .left)
+    (fits-more-count (a .tab) t (c .if2 .taken)))
 
 add-if3 : tie.Need-add-if3
 add-if3 c = search needs
@@ -37,12 +39,15 @@ add-if3 c = search needs
 returns-3 : tie.Need-returns-3
 unfolding fullTable
 returns-3 c =
-    let a = c .before .before .before .before .before .before .args in
+    let at-size = c .before .before in
+    let at-start = at-size .before .before .before .before in
+    let a = at-start .args in
     let t = maskedBytes (a .w) (now (a .b)) (a .m) in
+    let more = masked-size (a .w) (a .hash) (now (a .b)) (at-start .pre .1) (a .m) in
     sym
-    (create-past (a .w) 0 t (a .tab) (now (a .out)) (c .before .before .before .if1 .left)
+    (create-past (a .w) 0 t (a .tab) (now (a .out)) (at-size .before .if1 .left)
     (fits-more-records (a .tab) t (omega (arith, c .before .if2 .left))
-    (omega (arith, masked-size (a .w) (a .hash) (now (a .b)) (c .before .before .before .before .before .before .pre .1) (a .m), c .before .before .size .ensures .0, c .if3 .taken))))
+    (omega (arith, more, at-size .size .ensures .0, c .if3 .taken))))
 
 put-masked-requires : tie.Need-put-masked-requires
 put-masked-requires c κs =
@@ -75,9 +80,14 @@ same-length c = search needs
 
 returns-4 : tie.Need-returns-4
 returns-4 c =
-    let a = c .before .before .before .before .before .before .before .before .before .before .args in
-    created-masked (a .w) (a .hash) (now (a .b)) (c .before .before .before .before .before .before .before .before .before .before .pre .1) (a .m) (a .tab) (now (a .out)) (c .before .before .before .before .before .before .before .if1 .left)
-    (omega (arith, c .before .before .before .before .before .if2 .left)) (c .before .before .before .before .before .before .size .ensures .0) (omega (arith, c .before .before .before .before .if3 .left)) (c .before .before .put-masked .ensures)
+    let at-if3 = c .before .before .before .before in
+    let at-if2 = at-if3 .before in
+    let at-size = at-if2 .before in
+    let at-start = at-size .before .before .before .before in
+    let a = at-start .args in
+    created-masked (a .w) (a .hash) (now (a .b)) (at-start .pre .1) (a .m) (a .tab) (now (a .out))
+    (at-size .before .if1 .left) (omega (arith, at-if2 .if2 .left)) (at-size .size .ensures .0)
+    (omega (arith, at-if3 .if3 .left)) (c .before .before .put-masked .ensures)
 
 pub create-joined-spec : {M : Type 1} → statement M
 create-joined-spec =

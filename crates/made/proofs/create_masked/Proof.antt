@@ -1,14 +1,10 @@
 use mathlib.Core.Path.{ap, sym, _∙_}
-use mathlib.Core.List.{List}
 use native.Mathlib.Omega.{arith}
-use Prim.Native.Nat.{ℕ}
-use lib.ListN.{length}
 use denote.Ref.{now}
 use Rattle.arith.proofs.WidthLaws.{bitmask-ones}
-use Rattle.record.specs.Tree.{encode}
 use Rattle.record.specs.Decode.{decode}
 use Rattle.atom_table.specs.declared.table.Table.{Table}
-use Rattle.atom_table.specs.Table.{Placed, storeOf, createAtom}
+use Rattle.atom_table.specs.Table.{storeOf, createAtom}
 use Rattle.made.proofs.WordsLaws.{basis-sized, grew-as, grew-create, grew-masked, masked-full, maskedBytes}
 use borrow.Author.Needs.{needs}
 use Rattle.made.proofs.create_masked.Statement.{statement}
@@ -43,12 +39,20 @@ same-length-2 c = search needs
 
 returns : tie.Need-returns
 returns c =
-    let a = c .before .before .before .before .before .before .before .before .before .before .before .before .before .before .before .args in
-    let pre = c .before .before .before .before .before .before .before .before .before .before .before .before .before .before .before .pre in
-    grew-as (λ l. masked-full (a .w) (a .mask) (decode (now (a .b))) l (c .before .before .before .before .before .before .before .before .if1 .taken ∙ c .before .before .before .before .before .before .before .before .before .bitmask .ensures ∙ bitmask-ones (a .w) (pre .width)))
-    (grew-create (a .w) 0 (now (a .b)) (basis-sized _ _ _ (pre .basis)) (pre .basis .same) (now (a .made)) (now (a .out)) (pre .room)
-    (c .before .before .before .before .before .before .create-atom .ensures ∙ ap (λ (t : Table). createAtom (a .w) 0 (now (a .b)) (storeOf t (now (a .out)))) (c .before .before .before .before .before .before .before .before .before .before .load .ensures))
-    (c .before .before .store .ensures))
+    let at-create = c .before .before .before .before .before .before in
+    let at-if1 = at-create .before .before in
+    let at-bitmask = at-if1 .before in
+    let at-load = at-bitmask .before in
+    let at-start = at-load .before .before .before .before .before in
+    let a = at-start .args in
+    let pre = at-start .pre in
+    let all = at-if1 .if1 .taken ∙ at-bitmask .bitmask .ensures ∙ bitmask-ones (a .w) (pre .width) in
+    let created =
+    at-create .create-atom .ensures
+    ∙ ap (λ (t : Table). createAtom (a .w) 0 (now (a .b)) (storeOf t (now (a .out)))) (at-load .load .ensures) in
+    grew-as (λ l. masked-full (a .w) (a .mask) (decode (now (a .b))) l all)
+    (grew-create (a .w) 0 (now (a .b)) (basis-sized _ _ _ (pre .basis)) (pre .basis .same) (now (a .made)) (now (a .out))
+    (pre .room) created (c .before .before .store .ensures))
 
 create-joined-requires : tie.Need-create-joined-requires
 create-joined-requires c κs =
@@ -66,12 +70,21 @@ same-length-4 c = search needs
 
 returns-2 : tie.Need-returns-2
 returns-2 c =
-    let a = c .before .before .before .before .before .before .before .before .before .before .before .before .before .before .before .args in
-    let pre = c .before .before .before .before .before .before .before .before .before .before .before .before .before .before .before .pre in
+    let at-create = c .before .before .before .before .before .before in
+    let at-if1 = at-create .before .before in
+    let at-bitmask = at-if1 .before in
+    let at-load = at-bitmask .before in
+    let at-start = at-load .before .before .before .before .before in
+    let a = at-start .args in
+    let pre = at-start .pre in
+    let mask-is = at-bitmask .bitmask .ensures ∙ bitmask-ones (a .w) (pre .width) in
+    let created =
+    at-create .create-joined .ensures
+    ∙ ap
+    (λ (t : Table). createAtom (a .w) 0 (maskedBytes (a .w) (now (a .b)) (a .mask)) (storeOf t (now (a .out))))
+    (at-load .load .ensures) in
     grew-masked (a .w) (a .hash) (now (a .b)) (pre .basis) (a .mask) (omega arith) (now (a .made)) (now (a .out)) (pre .room)
-    (λ e. c .before .before .before .before .before .before .before .before .if1 .left (e ∙ sym (bitmask-ones (a .w) (pre .width)) ∙ sym (c .before .before .before .before .before .before .before .before .before .bitmask .ensures)))
-    (c .before .before .before .before .before .before .create-joined .ensures ∙ ap (λ (t : Table). createAtom (a .w) 0 (maskedBytes (a .w) (now (a .b)) (a .mask)) (storeOf t (now (a .out)))) (c .before .before .before .before .before .before .before .before .before .before .load .ensures))
-    (c .before .before .store2 .ensures)
+    (λ e. at-if1 .if1 .left (e ∙ sym mask-is)) created (c .before .before .store2 .ensures)
 
 pub create-masked-spec : {M : Type 1} → statement M
 create-masked-spec =

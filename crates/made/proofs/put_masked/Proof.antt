@@ -42,11 +42,17 @@ same-length c = search needs
 
 returns : tie.Need-returns
 returns c =
-    let a = c .before .before .before .before .before .before .before .before .before .before .before .before .before .before .before .before .before .before .before .args in
-    let pre = c .before .before .before .before .before .before .before .before .before .before .before .before .before .before .before .before .before .before .before .pre in
-    wrote-masked (a .w) (a .hash) (now (a .b)) (pre .1) (a .m) (omega arith) (now (a .out)) (a .at) (a .size) (pre .0 .inside) (pre .0 .size-is)
-    (c .before .before .before .before .before .before .before .before .before .before .before .before .before .before .before .masked-hash .ensures) (c .before .before .before .before .before .before .before .before .before .before .before .before .before .before .put-record .ensures) (c .before .before .before .before .before .before .before .before .before .before .put-bytes .ensures) (c .before .before .before .before .before .before .put-record2 .ensures)
-    (c .before .before .put-record3 .ensures)
+    let at-and = c .before .before in
+    let at-literal = at-and .before .before .before .before in
+    let at-basis = at-literal .before .before .before .before in
+    let at-head = at-basis .before .before .before .before in
+    let at-hash = at-head .before in
+    let at-start = at-hash .before .before .before .before in
+    let a = at-start .args in
+    let pre = at-start .pre in
+    wrote-masked (a .w) (a .hash) (now (a .b)) (pre .1) (a .m) (omega arith) (now (a .out)) (a .at) (a .size) (pre .0 .inside)
+    (pre .0 .size-is) (at-hash .masked-hash .ensures) (at-head .put-record .ensures) (at-basis .put-bytes .ensures)
+    (at-literal .put-record2 .ensures) (at-and .put-record3 .ensures)
 
 pub put-masked-spec : {M : Type 1} → statement M
 put-masked-spec =

@@ -11,12 +11,12 @@ add-start : tie.Need-add-start
 add-start c = search needs
 
 detect-provenance-requires : tie.Need-detect-provenance-requires
-detect-provenance-requires c κs = sized-accepted _ _ (c .before .before .before .before .before .pre .1)
+detect-provenance-requires c κs = sized-accepted _ _ (c .before .before .before .before .before .pre .0 .accepted)
 
 create-atom-requires : tie.Need-create-atom-requires
 create-atom-requires c κs =
     let at-start = c .before .before .before .before .before .before in
-    (at-start .pre .0 .holds .placed, sized-accepted _ _ (at-start .pre .1), at-start .pre .2)
+    (at-start .pre .0 .indexed .holds .placed, sized-accepted _ _ (at-start .pre .0 .accepted), at-start .pre .1)
 
 same-length : tie.Need-same-length
 same-length c = search needs
@@ -29,8 +29,8 @@ returns c =
     let at-start = at-shared-slice-known .before in
     let a = at-start .args in
     let p = at-start .pre in
-    registers-past (a .w) (a .table) (now (a .index)) (now (a .out)) (p .0) (p .4) (a .c) (now (a .t))
-    (λ i. at-shared-slice-known .shared-slice-known .given i .fits) (p .1)
+    registers-past (a .w) (a .table) (now (a .index)) (now (a .out)) (p .0 .indexed) (p .0 .room) (a .c) (now (a .t))
+    (λ i. at-shared-slice-known .shared-slice-known .given i .fits) (p .0 .accepted)
     (at-detect-provenance .detect-provenance .ensures) (at-create-atom .create-atom .ensures)
     (c .if1 .taken)
 
@@ -46,10 +46,10 @@ put-entry-requires c κs =
     let at-start = at-shared-slice-known .before in
     let a = at-start .args in
     let p = at-start .pre in
-    room-more (a .w) (a .table) (now (a .index)) (now (a .out)) (p .0) (p .4) (a .c) (now (a .t))
-    (λ i. at-shared-slice-known .shared-slice-known .given i .fits) (p .1)
+    room-more (a .w) (a .table) (now (a .index)) (now (a .out)) (p .0 .indexed) (p .0 .room) (a .c) (now (a .t))
+    (λ i. at-shared-slice-known .shared-slice-known .given i .fits) (p .0 .accepted)
     (at-detect-provenance .detect-provenance .ensures) (at-create-atom .create-atom .ensures)
-    (at-if1 .if1 .left) (p .3)
+    (at-if1 .if1 .left) (p .2)
 
 same-length-2 : tie.Need-same-length-2
 same-length-2 c = search needs
@@ -68,10 +68,10 @@ returns-2 c =
     let at-start = at-shared-slice-known .before in
     let a = at-start .args in
     let p = at-start .pre in
-    registers-more (a .w) (a .table) (now (a .index)) (now (a .out)) (p .0) (p .4) (a .c) (now (a .t))
-    (λ i. at-shared-slice-known .shared-slice-known .given i .fits) (p .1)
+    registers-more (a .w) (a .table) (now (a .index)) (now (a .out)) (p .0 .indexed) (p .0 .room) (a .c) (now (a .t))
+    (λ i. at-shared-slice-known .shared-slice-known .given i .fits) (p .0 .accepted)
     (at-detect-provenance .detect-provenance .ensures) (at-create-atom .create-atom .ensures)
-    (at-if1 .if1 .left) (p .2) (p .3) (at-put-entry .put-entry .ensures)
+    (at-if1 .if1 .left) (p .1) (p .2) (at-put-entry .put-entry .ensures)
 
 pub append-atom-spec : {M : Type 1} → statement M
 append-atom-spec =

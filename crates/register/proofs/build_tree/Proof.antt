@@ -32,13 +32,13 @@ shared-slice-read-end : tie.Need-shared-slice-read-end
 shared-slice-read-end c = search needs
 
 sub-put-tree : tie.Need-sub-put-tree
-sub-put-tree c = c .before .before .before .before .before .pre .0 .rising
+sub-put-tree c = c .before .before .before .before .before .pre .span .rising
 
 part-put-tree-start : tie.Need-part-put-tree-start
-part-put-tree-start c = c .before .before .before .before .before .pre .0 .rising
+part-put-tree-start c = c .before .before .before .before .before .pre .span .rising
 
 part-put-tree-end : tie.Need-part-put-tree-end
-part-put-tree-end c = c .before .before .before .before .before .pre .0 .inside
+part-put-tree-end c = c .before .before .before .before .before .pre .span .inside
 
 add-put-tree : tie.Need-add-put-tree
 add-put-tree c = search needs
@@ -62,16 +62,18 @@ put-tree-requires : tie.Need-put-tree-requires
 unfolding spanOf
 put-tree-requires c κs =
     let at-start = c .before .before .before .before .before .before .before .before .before in
-    let a = at-start .pre .0 in
+    let pre = at-start .pre in
+    let a = pre .span in
     let words = now (at-start .args .spots) in
     let i = at-start .args .i in
     let n =
-    length-span (now (at-start .args .file)) (getD words (5 * i + 1) 0) (getD words (5 * i + 2) 0) (a .inside) in (
-      a .tree,
-      at-start .pre .1,
-      omega (arith, n, a .inside, at-start .pre .4),
-      omega (arith, n, a .inside, at-start .pre .3),
-    )
+    length-span (now (at-start .args .file)) (getD words (5 * i + 1) 0) (getD words (5 * i + 2) 0) (a .inside) in
+    record {
+      accepted = a .tree;
+      literal-lt = pre .literal-lt;
+      long = omega (arith, n, a .inside, pre .long);
+      room = omega (arith, n, a .inside, pre .room);
+    }
 
 same-length : tie.Need-same-length
 same-length c = search needs

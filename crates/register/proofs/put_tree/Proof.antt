@@ -21,7 +21,7 @@ returns c =
     let at-start = at-shared-slice-known .before in
     built-plain (at-start .args .w) (now (at-start .args .t))
     (λ i. at-shared-slice-known .shared-slice-known .given i .fits)
-    (at-start .pre .0) (at-start .args .literal) (c .if1 .taken) (omega (arith, at-start .pre .3))
+    (at-start .pre .accepted) (at-start .args .literal) (c .if1 .taken) (omega (arith, at-start .pre .room))
     (at-put-bytes .put-bytes .ensures)
 
 put-record-requires : tie.Need-put-record-requires
@@ -34,7 +34,7 @@ size-requires : tie.Need-size-requires
 size-requires c κs =
     let at-put-bytes = c .before .before .before .before .before .before .before .before in
     let at-start = at-put-bytes .before .before .before .before in
-    accepted-big _ _ (at-start .pre .0)
+    accepted-big _ _ (at-start .pre .accepted)
 
 add-put-record-2 : tie.Need-add-put-record-2
 add-put-record-2 c = search needs
@@ -43,8 +43,8 @@ put-record-requires-2 : tie.Need-put-record-requires-2
 put-record-requires-2 c κs =
     let at-put-bytes = c .before .before .before .before .before .before .before .before .before in
     let at-start = at-put-bytes .before .before .before .before in
-    let n = sized-length (now (at-start .args .t)) (sized-accepted _ _ (at-start .pre .0)) in
-    (search needs, omega (arith, n, at-start .pre .2, c .size .ensures .0))
+    let n = sized-length (now (at-start .args .t)) (sized-accepted _ _ (at-start .pre .accepted)) in
+    (search needs, omega (arith, n, at-start .pre .long, c .size .ensures .0))
 
 add-result : tie.Need-add-result
 add-result c = search needs
@@ -63,8 +63,8 @@ returns-2 c =
     let at-start = at-shared-slice-known .before in
     built-masked (at-start .args .w) (now (at-start .args .t))
     (λ i. at-shared-slice-known .shared-slice-known .given i .fits)
-    (at-start .pre .0) (at-start .args .literal) (at-start .pre .1) (at-if1 .if1 .left) (at-start .pre .3)
-    (at-size .size .ensures .0) (at-put-bytes .put-bytes .ensures) (at-put-record .put-record .ensures)
+    (at-start .pre .accepted) (at-start .args .literal) (at-start .pre .literal-lt) (at-if1 .if1 .left)
+    (at-start .pre .room) (at-size .size .ensures .0) (at-put-bytes .put-bytes .ensures) (at-put-record .put-record .ensures)
     (at-put-record2 .put-record2 .ensures)
 
 pub put-tree-spec : {M : Type 1} → statement M

@@ -27,7 +27,7 @@ loop-holds c =
     let at-start = c .before .before .before .before .before .before in
     let a = at-start .args in
     let p = at-start .pre in (
-      reached-start (a .w) (now (a .file)) (now (a .spots)) (a .n) (now (a .index)) (now (a .out)) (p .5)
+      reached-start (a .w) (now (a .file)) (now (a .spots)) (a .n) (now (a .index)) (now (a .out)) (p .1)
           (c .empty .ensures),
       refl,
       refl,
@@ -39,15 +39,16 @@ build-tree-requires c κs =
     let at-loop-test = c .before in
     let at-loop = at-loop-test .before in
     let at-start = at-loop .before .before .before .before .before .before .before in
-    let p = at-start .pre in
+    let p = at-start .pre .0 in
     let x = at-loop .loop in
-    let spot = p .0 (x .i) (at-loop-test .loop-test .taken) in (
-      spot .0,
-      spot .1,
-      omega (arith, p .1, at-loop-test .loop-test .taken),
-      omega (arith, p .2, x .inv .1),
-      p .3,
-    )
+    let spot = p .spots-ok (x .i) (at-loop-test .loop-test .taken) in
+    record {
+      span = spot .0;
+      literal-lt = spot .1;
+      inside = omega (arith, p .inside, at-loop-test .loop-test .taken);
+      room = omega (arith, p .room, x .inv .1);
+      long = p .long;
+    }
 
 mul-c : tie.Need-mul-c Inv-loop μ-loop
 mul-c c = search needs
@@ -69,12 +70,14 @@ register-atom-requires : tie.Need-register-atom-requires Inv-loop μ-loop
 register-atom-requires c κs =
     let at-build-tree = c .before .before .before .before .before .before in
     let at-loop = at-build-tree .before .before .before in
-    let at-start = at-loop .before .before .before .before .before .before .before in (
-      at-loop .loop .inv .0 .indexed,
-      at-build-tree .build-tree .ensures .accepted,
-      reached-room _ _ _ _ _ (at-loop .loop .inv .0) (at-build-tree .before .before .loop-test .taken)
-          (at-start .pre .4) (at-loop .loop .inv .2),
-    )
+    let at-start = at-loop .before .before .before .before .before .before .before in
+    record {
+      indexed = at-loop .loop .inv .0 .indexed;
+      accepted = at-build-tree .build-tree .ensures .accepted;
+      room =
+          reached-room _ _ _ _ _ (at-loop .loop .inv .0) (at-build-tree .before .before .loop-test .taken)
+          (at-start .pre .0 .entries) (at-loop .loop .inv .2);
+    }
 
 same-length : tie.Need-same-length Inv-loop μ-loop
 same-length c =

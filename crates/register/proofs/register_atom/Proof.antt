@@ -10,18 +10,18 @@ use Rattle.register.proofs.register_atom.Statement.{statement}
 use Rattle.register.proofs.register_atom.Tie as tie
 
 structural-hash-requires : tie.Need-structural-hash-requires
-structural-hash-requires c κs = sized-accepted _ _ (c .before .before .before .pre .1)
+structural-hash-requires c κs = sized-accepted _ _ (c .before .before .before .pre .accepted)
 
 row-by-hash-requires : tie.Need-row-by-hash-requires
 row-by-hash-requires c κs =
     let at-start = c .before .before .before .before .before .before in
-    (sized-accepted _ _ (at-start .pre .1), searchable-indexed _ _ _ _ (at-start .pre .0))
+    (sized-accepted _ _ (at-start .pre .accepted), searchable-indexed _ _ _ _ (at-start .pre .indexed))
 
 add-coeff-requires : tie.Need-add-coeff-requires
 add-coeff-requires c κs =
     let at-if1 = c .before in
     let at-start = at-if1 .before .before .before .before .before .before .before .before in
-    omega (arith, index-room _ _ _ _ (at-start .pre .0), at-if1 .if1 .taken)
+    omega (arith, index-room _ _ _ _ (at-start .pre .indexed), at-if1 .if1 .taken)
 
 same-length : tie.Need-same-length
 same-length c = search needs
@@ -40,29 +40,29 @@ returns c =
     let at-start = at-shared-slice-known .before in
     let a = at-start .args in
     let p = at-start .pre in
-    registers-by-hash (a .w) (a .table) (now (a .index)) (now (a .out)) (p .0) (a .c) (now (a .t))
+    registers-by-hash (a .w) (a .table) (now (a .index)) (now (a .out)) (p .indexed) (a .c) (now (a .t))
     (λ i. at-shared-slice-known .shared-slice-known .given i .fits) (λ i. at-slice-known2 .slice-known2 .given i .fits)
-    (p .1)
+    (p .accepted)
     (at-structural-hash .structural-hash .ensures) (at-row-by-hash .row-by-hash .ensures) (at-if1 .if1 .taken)
     (at-add-coeff .add-coeff .ensures)
 
 key-of-requires : tie.Need-key-of-requires
 key-of-requires c κs =
     let at-start = c .before .before .before .before .before .before .before .before in
-    sized-accepted _ _ (at-start .pre .1)
+    sized-accepted _ _ (at-start .pre .accepted)
 
 row-by-key-requires : tie.Need-row-by-key-requires
 row-by-key-requires c κs =
     let at-key-of = c .before .before in
     let at-start = at-key-of .before .before .before .before .before .before .before .before .before in
-    index-room _ _ _ _ (at-start .pre .0)
+    index-room _ _ _ _ (at-start .pre .indexed)
 
 add-coeff-requires-2 : tie.Need-add-coeff-requires-2
 add-coeff-requires-2 c κs =
     let at-if2 = c .before in
     let at-key-of = at-if2 .before .before .before .before in
     let at-start = at-key-of .before .before .before .before .before .before .before .before .before in
-    omega (arith, index-room _ _ _ _ (at-start .pre .0), at-if2 .if2 .taken)
+    omega (arith, index-room _ _ _ _ (at-start .pre .indexed), at-if2 .if2 .taken)
 
 same-length-3 : tie.Need-same-length-3
 same-length-3 c = search needs
@@ -84,9 +84,9 @@ returns-2 c =
     let at-start = at-shared-slice-known .before in
     let a = at-start .args in
     let p = at-start .pre in
-    registers-by-key (a .w) (a .table) (now (a .index)) (now (a .out)) (p .0) (a .c) (now (a .t))
+    registers-by-key (a .w) (a .table) (now (a .index)) (now (a .out)) (p .indexed) (a .c) (now (a .t))
     (λ i. at-shared-slice-known .shared-slice-known .given i .fits) (λ i. at-slice-known2 .slice-known2 .given i .fits)
-    (p .1)
+    (p .accepted)
     (at-structural-hash .structural-hash .ensures) (at-row-by-hash .row-by-hash .ensures)
     (omega (arith, at-if1 .if1 .left)) (at-key-of .key-of .ensures)
     (at-row-by-key .row-by-key .ensures) (at-if2 .if2 .taken) (at-add-coeff2 .add-coeff2 .ensures)
@@ -99,8 +99,7 @@ append-atom-requires c κs =
     let at-key-of = c .before .before .before .before .before .before .before in
     let at-structural-hash = at-key-of .before .before .before .before .before in
     let at-start = at-structural-hash .before .before .before .before in
-    let p = at-start .pre in
-    (p .0, p .1, at-structural-hash .structural-hash .ensures, at-key-of .key-of .ensures, p .2)
+    (at-start .pre, at-structural-hash .structural-hash .ensures, at-key-of .key-of .ensures)
 
 same-length-5 : tie.Need-same-length-5
 same-length-5 c = search needs
@@ -122,9 +121,9 @@ returns-3 c =
     let at-start = at-shared-slice-known .before in
     let a = at-start .args in
     let p = at-start .pre in
-    registers-new (a .w) (a .table) (now (a .index)) (now (a .out)) (p .0) (a .c) (now (a .t))
+    registers-new (a .w) (a .table) (now (a .index)) (now (a .out)) (p .indexed) (a .c) (now (a .t))
     (λ i. at-shared-slice-known .shared-slice-known .given i .fits) (λ i. at-slice-known2 .slice-known2 .given i .fits)
-    (p .1)
+    (p .accepted)
     (at-structural-hash .structural-hash .ensures) (at-row-by-hash .row-by-hash .ensures)
     (omega (arith, at-if1 .if1 .left)) (at-key-of .key-of .ensures)
     (at-row-by-key .row-by-key .ensures) (omega (arith, at-if2 .if2 .left)) (at-append-atom .append-atom .ensures)

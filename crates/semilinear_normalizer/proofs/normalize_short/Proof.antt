@@ -20,15 +20,16 @@ slice-aggregate-normalize-tree-4 c = search needs
 normalize-tree-requires : tie.Need-normalize-tree-requires
 normalize-tree-requires c κs =
     let at-start = c .before .before .before .before .before .before .before in
-    let room = size-room _ 64 _ (at-start .pre .0) (at-start .pre .1) in (
-      at-start .pre .0,
-      room,
-      omega (arith, room),
-      omega (arith, at-start .pre .1),
-      omega (arith, at-start .pre .1),
-      omega (arith, room),
-      at-start .pre .2,
-    )
+    let room = size-room _ 64 _ (at-start .pre .0) (at-start .pre .1) in
+    record {
+      accepted = at-start .pre .0;
+      marked = room;
+      collected = omega (arith, room);
+      built = omega (arith, at-start .pre .1);
+      long = omega (arith, at-start .pre .1);
+      entries = omega (arith, room);
+      written = at-start .pre .2;
+    }
 
 same-length : tie.Need-same-length
 same-length c = search needs

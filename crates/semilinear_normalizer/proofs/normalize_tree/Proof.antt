@@ -14,7 +14,7 @@ use Rattle.semilinear_normalizer.proofs.normalize_tree.Tie as tie
 mark-traits-requires : tie.Need-mark-traits-requires
 mark-traits-requires c κs =
     let at-start = c .before .before .before .before .before .before .before in
-    (sized-accepted _ _ (at-start .pre .0), omega (arith, at-start .pre .1))
+    record { whole = sized-accepted _ _ (at-start .pre .accepted); room = omega (arith, at-start .pre .marked) }
 
 refuse-requires : tie.Need-refuse-requires
 refuse-requires c κs = search needs
@@ -32,14 +32,14 @@ returns c =
     let at-marks = at-if .before .before .before in
     let at-known = at-marks .before .before .before .before .before .before .before in
     let at-start = at-known .before in
-    gives-seven _ _ (λ i. at-known .shared-slice-known .given i .fits) (at-start .pre .0)
+    gives-seven _ _ (λ i. at-known .shared-slice-known .given i .fits) (at-start .pre .accepted)
     (sym (refused-is (at-marks .mark-traits .ensures)) ∙ at-if .if1 .taken)
-    (at-start .pre .6) (at-refuse .refuse .result) (at-refuse .refuse .ensures)
+    (at-start .pre .written) (at-refuse .refuse .result) (at-refuse .refuse .ensures)
 
 size-requires : tie.Need-size-requires
 size-requires c κs =
     let at-start = c .before .before .before .before .before .before .before .before .before .before .before in
-    accepted-big _ _ (at-start .pre .0)
+    accepted-big _ _ (at-start .pre .accepted)
 
 start-requires : tie.Need-start-requires
 start-requires c κs = search needs
@@ -52,7 +52,7 @@ slice-aggregate-collect-terms c =
     let at-size = c .before .before in
     let at-marked = at-size .before .before .before in
     let at-start = at-marked .before .before .before .before .before .before .before .before .before in
-    sym (length-take-le _ _ (omega (arith, at-size .size .ensures .0, at-start .pre .1, at-marked .marks .given)))
+    sym (length-take-le _ _ (omega (arith, at-size .size .ensures .0, at-start .pre .marked, at-marked .marks .given)))
 
 collect-terms-requires : tie.Need-collect-terms-requires
 collect-terms-requires c κs =
@@ -60,10 +60,10 @@ collect-terms-requires c κs =
     let at-known = at-marks .before .before .before .before .before .before .before in
     let at-start = at-known .before in
     let at-nothing = c .before .before in (
-      whole-at _ _ (λ i. at-known .shared-slice-known .given i .fits) (at-start .pre .0)
-          (at-marks .mark-traits .ensures) (at-start .pre .1) (at-nothing .before .size .ensures .0) refl,
-      whole-ready _ _ (λ i. at-known .shared-slice-known .given i .fits) (at-start .pre .0) (at-start .pre .2)
-          (at-nothing .start .ensures),
+      whole-at _ _ (λ i. at-known .shared-slice-known .given i .fits) (at-start .pre .accepted)
+          (at-marks .mark-traits .ensures) (at-start .pre .marked) (at-nothing .before .size .ensures .0) refl,
+      whole-ready _ _ (λ i. at-known .shared-slice-known .given i .fits) (at-start .pre .accepted)
+          (at-start .pre .collected) (at-nothing .start .ensures),
     )
 
 refuse-requires-2 : tie.Need-refuse-requires-2
@@ -88,10 +88,10 @@ returns-2 c =
     let at-marks = at-if1 .before .before .before in
     let at-known = at-marks .before .before .before .before .before .before .before in
     let at-start = at-known .before in
-    gives-eight _ _ (λ i. at-known .shared-slice-known .given i .fits) (at-start .pre .0)
+    gives-eight _ _ (λ i. at-known .shared-slice-known .given i .fits) (at-start .pre .accepted)
     (sym (refused-is (at-marks .mark-traits .ensures)) ∙ at-if1 .if1 .left)
     (at-nothing .start .ensures) (at-all .collect-terms .ensures) (not-true _ (at-if2 .if2 .taken))
-    (at-start .pre .6) (at-refuse .refuse2 .result) (at-refuse .refuse2 .ensures)
+    (at-start .pre .written) (at-refuse .refuse2 .result) (at-refuse .refuse2 .ensures)
 
 write-form-requires : tie.Need-write-form-requires
 write-form-requires c κs =
@@ -102,16 +102,22 @@ write-form-requires c κs =
     let at-known = at-marks .before .before .before .before .before .before .before in
     let at-start = at-known .before in
     let plain = sym (refused-is (at-marks .mark-traits .ensures)) ∙ at-if1 .if1 .left in
-    let nothing = at-nothing .start .ensures in (
-      spots-whole _ _ (λ i. at-known .shared-slice-known .given i .fits) (at-start .pre .0) plain nothing
-          (at-all .collect-terms .ensures),
-      count-whole _ _ (λ i. at-known .shared-slice-known .given i .fits) (at-start .pre .0) plain nothing
-          (at-all .collect-terms .ensures) (at-start .pre .2),
-      at-start .pre .3,
-      at-start .pre .4,
-      index-whole _ _ (λ i. at-known .shared-slice-known .given i .fits) (at-start .pre .0) plain nothing
-          (at-all .collect-terms .ensures) (at-start .pre .5),
-      at-start .pre .6,
+    let nothing = at-nothing .start .ensures in
+    let pre = at-start .pre in (
+      record {
+        spots-ok =
+            spots-whole _ _ (λ i. at-known .shared-slice-known .given i .fits) (pre .accepted) plain nothing
+            (at-all .collect-terms .ensures);
+        inside =
+            count-whole _ _ (λ i. at-known .shared-slice-known .given i .fits) (pre .accepted) plain nothing
+            (at-all .collect-terms .ensures) (pre .collected);
+        room = pre .built;
+        long = pre .long;
+        entries =
+            index-whole _ _ (λ i. at-known .shared-slice-known .given i .fits) (pre .accepted) plain nothing
+            (at-all .collect-terms .ensures) (pre .entries);
+      },
+      pre .written,
     )
 
 same-length-6 : tie.Need-same-length-6
@@ -139,7 +145,7 @@ returns-3 c =
     let at-marks = at-if1 .before .before .before in
     let at-known = at-marks .before .before .before .before .before .before .before in
     let at-start = at-known .before in
-    gives-collected _ _ (λ i. at-known .shared-slice-known .given i .fits) (at-start .pre .0)
+    gives-collected _ _ (λ i. at-known .shared-slice-known .given i .fits) (at-start .pre .accepted)
     (sym (refused-is (at-marks .mark-traits .ensures)) ∙ at-if1 .if1 .left)
     (at-nothing .start .ensures) (at-all .collect-terms .ensures) (not-false _ (at-if2 .if2 .left))
     (at-form .write-form .result) (at-form .write-form .ensures)

@@ -50,9 +50,8 @@ finish-requires : tie.Need-finish-requires
 finish-requires c κs =
     let at-table = c .before .before .before .before .before .before .before .before in
     let at-copy = at-table .before .before .before .before .before .before .before in
-    let p =
-    refine-room (at-table .refine-table .ensures) (c .before .before .load .ensures) (at-copy .copy-atoms .ensures .long) in
-    (p .0, p .1, p .2, omega arith, omega arith)
+    refine-room (at-table .refine-table .ensures) (c .before .before .load .ensures)
+    (at-copy .copy-atoms .ensures .long)
 
 same-length : tie.Need-same-length
 same-length c = search needs
@@ -66,9 +65,10 @@ returns c =
     let at-width = at-literal .before in
     let at-known = at-width .before .before in
     let at-start = at-known .before in
+    let finished = c .before .before .finish in
     refine-end (now (at-start .args .s)) (λ i. at-known .shared-slice-known .given i .fits) (at-start .pre .0)
     (at-width .width .ensures) (at-literal .literal .ensures) (at-body .body .ensures) (at-copy .copy-atoms .ensures)
-    (at-table .refine-table .ensures) (c .before .before .before .before .before .load .ensures) (c .before .before .finish .result) (c .before .before .finish .ensures)
+    (at-table .refine-table .ensures) (c .before .before .before .before .before .load .ensures) (finished .result) (finished .ensures)
 
 pub refine-form-spec : {M : Type 1} → statement M
 refine-form-spec =

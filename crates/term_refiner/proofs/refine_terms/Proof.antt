@@ -30,7 +30,10 @@ same-length-2 c = search needs
 returns-2 : tie.Need-returns-2
 unfolding refineTerms
 returns-2 c =
-    pass-given _ _ _ (c .before .before .before .before .before .before .before .open-bytes .ensures) (c .before .before .before .before .if1 .left) (c .before .before .refine-form .result) (c .before .before .refine-form .ensures)
+    let refined = c .before .before .refine-form in
+    let at-if1 = c .before .before .before .before in
+    let door = at-if1 .before .before .before .open-bytes in
+    pass-given _ _ _ (door .ensures) (at-if1 .if1 .left) (refined .result) (refined .ensures)
 
 pub refine-terms-spec : {M : Type 1} → statement M
 refine-terms-spec =

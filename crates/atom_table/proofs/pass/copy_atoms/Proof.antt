@@ -23,14 +23,16 @@ slice-aggregate-put-bytes c = sym (length-take-le _ _ (c .before .before .atom-t
 put-bytes-requires : tie.Need-put-bytes-requires
 put-bytes-requires c κs =
     let found = c .before .before .atom-table in
-    let at-start = c .before .before .before .before .before .before in
+    let at-body = c .before .before .before in
+    let at-known = at-body .before .before in
+    let at-start = at-known .before in
     let most =
-    copy-room (now (at-start .args .s)) (λ i. c .before .before .before .before .before .shared-slice-known .given i .fits) (at-start .pre .0)
-    (c .before .before .before .body .ensures) (found .result) (found .ensures) in
+    copy-room (now (at-start .args .s)) (λ i. at-known .shared-slice-known .given i .fits) (at-start .pre .0)
+    (at-body .body .ensures) (found .result) (found .ensures) in
     omega (
       arith,
       most,
-      length-take-le (found .result .at) (c .before .before .before .body .result .now) (found .ensures .end .inside),
+      length-take-le (found .result .at) (at-body .body .result .now) (found .ensures .end .inside),
       ap length (at-start .pre .1) ∙ length-padded 57360 [] (omega arith),
     )
 
@@ -40,9 +42,11 @@ same-length c = search needs
 returns : tie.Need-returns
 returns c =
     let found = c .before .before .before .before .before .atom-table in
-    let at-start = c .before .before .before .before .before .before .before .before .before in
-    copied (now (at-start .args .s)) (λ i. c .before .before .before .before .before .before .before .before .shared-slice-known .given i .fits) (at-start .pre .0)
-    (c .before .before .before .before .before .before .body .ensures) (found .result) (found .ensures) (at-start .pre .1) (c .before .before .put-bytes .ensures)
+    let at-body = c .before .before .before .before .before .before in
+    let at-known = at-body .before .before in
+    let at-start = at-known .before in
+    copied (now (at-start .args .s)) (λ i. at-known .shared-slice-known .given i .fits) (at-start .pre .0)
+    (at-body .body .ensures) (found .result) (found .ensures) (at-start .pre .1) (c .before .before .put-bytes .ensures)
 
 pub copy-atoms-spec : {M : Type 1} → statement M
 copy-atoms-spec =

@@ -25,29 +25,34 @@ loop-holds c = (terms-put-start _ _ _ _ _, omega arith, refl, omega arith)
 
 mul-put-row : tie.Need-mul-put-row Inv-loop μ-loop
 mul-put-row c =
-    let most = word-bound _ (c .before .loop .i) _ (c .before .before .before .before .pre .2) (c .before .loop .inv .1) (c .before .before .before .before .pre .3) in
-    omega (arith, most, c .before .loop .inv .3)
+    let pre = c .before .before .before .before .pre in
+    let at-loop = c .before .loop in
+    omega (arith, word-bound _ (at-loop .i) _ (pre .step-le) (at-loop .inv .1) (pre .most), at-loop .inv .3)
 
 shared-slice-read-put-row : tie.Need-shared-slice-read-put-row Inv-loop μ-loop
 shared-slice-read-put-row c =
-    let less = word-inside _ (c .before .before .loop .i) _ _ (c .before .before .before .before .before .pre .1) (c .before .loop-test .taken) (c .before .before .before .before .before .pre .0) in
-    omega (arith, less, c .before .before .loop .inv .3)
+    let pre = c .before .before .before .before .before .pre in
+    let at-loop = c .before .before .loop in
+    let less = word-inside _ (at-loop .i) _ _ (pre .step-pos) (c .before .loop-test .taken) (pre .inside) in
+    omega (arith, less, at-loop .inv .3)
 
 put-row-requires : tie.Need-put-row-requires Inv-loop μ-loop
 put-row-requires c κs =
     let at-loop = c .before .before .before in
-    let at-start = c .before .before .before .before .before .before in
+    let pre = at-loop .before .before .before .pre in
     let room = terms-put-room _ _ _ _ _ _ _ _ (at-loop .loop .inv .0) in
     let less = c .before .before .loop-test .taken in (
-      omega (arith, room .0, less, at-start .pre .4, at-loop .loop .inv .2),
-      omega (arith, less, at-start .pre .3),
-      omega (arith, room .1, less, at-start .pre .3),
+      omega (arith, room .0, less, pre .room, at-loop .loop .inv .2),
+      omega (arith, less, pre .most),
+      omega (arith, room .1, less, pre .most),
     )
 
 add-at : tie.Need-add-at Inv-loop μ-loop
 add-at c =
-    let most = word-bound _ (c .before .before .before .before .before .before .loop .i) _ (c .before .before .before .before .before .before .before .before .before .pre .2) (c .before .before .before .before .before .before .loop .inv .1) (c .before .before .before .before .before .before .before .before .before .pre .3) in
-    omega (arith, most, c .before .before .before .before .before .before .loop .inv .3, c .before .before .before .before .before .before .before .before .before .pre .2)
+    let at-loop = c .before .before .before .before .before .before in
+    let pre = at-loop .before .before .before .pre in
+    let most = word-bound _ (at-loop .loop .i) _ (pre .step-le) (at-loop .loop .inv .1) (pre .most) in
+    omega (arith, most, at-loop .loop .inv .3, pre .step-le)
 
 add-i : tie.Need-add-i Inv-loop μ-loop
 add-i c = search needs
@@ -58,14 +63,14 @@ loop-less c = omega (arith, c .before .before .before .before .before .loop-test
 loop-again : tie.Need-loop-again Inv-loop μ-loop
 loop-again c =
     let at-loop = c .before .before .before .before .before .before in
-    let at-start = c .before .before .before .before .before .before .before .before .before in
+    let pre = at-loop .before .before .before .pre in
     let less = c .before .before .before .before .before .loop-test .taken in
+    let one = c .before .before .put-row .ensures in
     let room = terms-put-room _ _ _ _ _ _ _ _ (at-loop .loop .inv .0) in (
-      terms-put-next _ _ _ _ _ (at-loop .loop .i) _ _ _ _ (omega (arith, less, at-start .pre .4)) (at-loop .loop .inv .0)
-          (at-loop .loop .at) (at-loop .loop .inv .3) (c .before .before .put-row .ensures),
+      terms-put-next _ _ _ _ _ (at-loop .loop .i) _ _ _ _ (omega (arith, less, pre .room)) (at-loop .loop .inv .0)
+          (at-loop .loop .at) (at-loop .loop .inv .3) one,
       omega (arith, less),
-      length-term-put (omega (arith, room .0, less, at-start .pre .4, at-loop .loop .inv .2)) (c .before .before .put-row .ensures)
-          ∙ at-loop .loop .inv .2,
+      length-term-put (omega (arith, room .0, less, pre .room, at-loop .loop .inv .2)) one ∙ at-loop .loop .inv .2,
       omega (arith, at-loop .loop .inv .3),
     )
 

@@ -18,12 +18,12 @@ abbrev μ-loop : tie.MeasureT-loop
 loop-holds : tie.Need-loop-holds Inv-loop μ-loop
 loop-holds c =
     let at-start = c .before .before .before .before in
-    (placed-none _ _ _ _ (at-start .pre .2) (at-start .pre .5), omega arith, refl)
+    (placed-none _ _ _ _ (at-start .pre .1) (at-start .pre .2), omega arith, refl)
 
 same-length : tie.Need-same-length Inv-loop μ-loop
 same-length c =
     let at-start = c .before .before .before .before .before .before in
-    c .before .loop .inv .0 .long ∙ sym (at-start .pre .2)
+    c .before .loop .inv .0 .long ∙ sym (at-start .pre .1)
 
 same-length-2 : tie.Need-same-length-2 Inv-loop μ-loop
 same-length-2 c = c .before .loop .inv .2
@@ -40,12 +40,14 @@ join-place-requires c κs =
     let at-start = at-loop .before .before .before .before .before in
     let inv = at-loop .loop .inv in
     let pre = at-start .pre in (
-      pre .0,
-      pre .1,
+      record {
+        indexed = pre .0 .indexed;
+        some = pre .0 .some;
+        width-le = pre .0 .width-le;
+        room = omega (arith, inv .0 .long, pre .1, pre .0 .room, inv .2);
+      },
       inv .0,
       omega (arith, at-if1 .if1 .left),
-      pre .3,
-      omega (arith, inv .0 .long, pre .2, pre .4, inv .2),
     )
 
 loop-less : tie.Need-loop-less Inv-loop μ-loop

@@ -16,12 +16,14 @@ join-places-requires c κs =
     let at-start = at-put-index .before .before .before .before .before .before in
     let pre = at-start .pre in
     let count = trees-count (now (at-start .args .f)) in (
-      at-put-index .put-index .ensures,
-      omega (arith, count, pre .1),
-      pre .3 ∙ sym count,
-      pre .4,
-      rw (pre .3) (pre .5),
-      pre .6,
+      record {
+        indexed = at-put-index .put-index .ensures;
+        some = omega (arith, count, pre .some);
+        width-le = pre .width-le;
+        room = rw (pre .long) (pre .room);
+      },
+      pre .long ∙ sym count,
+      pre .zeros,
     )
 
 same-length : tie.Need-same-length

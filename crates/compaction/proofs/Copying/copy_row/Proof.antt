@@ -13,7 +13,7 @@ rest-from-requires : tie.Need-rest-from-requires
 rest-from-requires c κs = search needs
 
 atom-length-requires : tie.Need-atom-length-requires
-atom-length-requires c κs = rw (c .rest-from .ensures) (c .before .before .before .pre .3)
+atom-length-requires c κs = rw (c .rest-from .ensures) (c .before .before .before .pre .atom)
 
 rest-from-requires-2 : tie.Need-rest-from-requires-2
 rest-from-requires-2 c κs = search needs
@@ -31,8 +31,8 @@ returns : tie.Need-returns
 returns c =
     let at-atom-length = c .before .before .before in
     let at-start = at-atom-length .before .before .before .before in
-    copied-without (now (at-start .args .f)) (at-start .args .self) (at-start .pre .0) (at-start .pre .1)
-    (at-start .pre .3) (at-atom-length .before .rest-from .ensures) (c .before .before .rest-from2 .ensures)
+    copied-without (now (at-start .args .f)) (at-start .args .self) (at-start .pre .at-le) (at-start .pre .next-le)
+    (at-start .pre .atom) (at-atom-length .before .rest-from .ensures) (c .before .before .rest-from2 .ensures)
     (at-atom-length .atom-length .ensures .0) (sym (c .before .has-term .ensures) ∙ not-true _ (c .if1 .taken)) _
 
 slice-aggregate-put-bytes : tie.Need-slice-aggregate-put-bytes
@@ -45,10 +45,10 @@ put-bytes-requires c κs =
     let at-has-term = c .before .before .before in
     let at-rest-from = at-has-term .before .before .before in
     let at-start = at-rest-from .before .before .before in
-    room-with (now (at-start .args .f)) (at-start .args .self) (at-start .pre .0) (at-start .pre .1) (at-start .pre .3)
-    (at-rest-from .rest-from .ensures) (at-has-term .before .rest-from2 .ensures)
+    room-with (now (at-start .args .f)) (at-start .args .self) (at-start .pre .at-le) (at-start .pre .next-le)
+    (at-start .pre .atom) (at-rest-from .rest-from .ensures) (at-has-term .before .rest-from2 .ensures)
     (at-has-term .before .before .atom-length .ensures .0)
-    (sym (at-has-term .has-term .ensures) ∙ not-false _ (c .before .before .if1 .left)) (at-start .pre .4)
+    (sym (at-has-term .has-term .ensures) ∙ not-false _ (c .before .before .if1 .left)) (at-start .pre .room)
 
 add-t20 : tie.Need-add-t20
 add-t20 c = search needs
@@ -70,8 +70,8 @@ returns-2 c =
     let at-if1 = c .before .before .before .before .before in
     let at-atom-length = at-if1 .before .before .before in
     let at-start = at-atom-length .before .before .before .before in
-    copied-with (now (at-start .args .f)) (at-start .args .self) (at-start .pre .0) (at-start .pre .1)
-    (at-start .pre .3) (at-atom-length .before .rest-from .ensures) (at-if1 .before .before .rest-from2 .ensures)
+    copied-with (now (at-start .args .f)) (at-start .args .self) (at-start .pre .at-le) (at-start .pre .next-le)
+    (at-start .pre .atom) (at-atom-length .before .rest-from .ensures) (at-if1 .before .before .rest-from2 .ensures)
     (at-atom-length .atom-length .ensures .0)
     (sym (at-if1 .before .has-term .ensures) ∙ not-false _ (at-if1 .if1 .left)) _ _
     (c .before .before .put-bytes .ensures)

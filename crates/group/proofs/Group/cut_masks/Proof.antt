@@ -97,7 +97,9 @@ same-length-2 c = c .before .loop .inv .1 .long
 returns : tie.Need-returns Inv-loop μ-loop
 returns c =
     let h = c .before .loop in
-    cut-loop (decode (now (c .before .before .before .before .before .args .b))) (loop-done (cutAt (c .before .before .before .before .before .args .w) (decode (now (c .before .before .before .before .before .args .b)))) 0 (h .i) _ (omega arith) (omega arith) (omega arith) (h .inv .1))
+    let a = c .before .before .before .before .before .args in
+    let t = decode (now (a .b)) in
+    cut-loop t (loop-done (cutAt (a .w) t) 0 (h .i) _ (omega arith) (omega arith) (omega arith) (h .inv .1))
 
 pub cut-masks-spec : {M : Type 1} → statement M
 cut-masks-spec =

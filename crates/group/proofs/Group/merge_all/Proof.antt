@@ -2,7 +2,7 @@
 use mathlib.Core.Path.{sym, _∙_}
 use native.Mathlib.Omega.{arith}
 use Rattle.made.proofs.WordsLaws.{makes-fewer, makes-later}
-use Rattle.group.proofs.StagesLaws.{len-negated, merge-all}
+use Rattle.group.proofs.StagesLaws.{len-minus-one, merge-all}
 use borrow.Author.Needs.{needs}
 use Rattle.group.proofs.Group.merge_all.Statement.{statement}
 use Rattle.group.proofs.Group.merge_all.Tie as tie
@@ -31,16 +31,16 @@ to-minus-one-requires c κs =
 
 pair-merge-requires-2 : tie.Need-pair-merge-requires-2
 pair-merge-requires-2 c κs =
-    let at-pair = c .before .before .before .before .before .before .before in
-    let at-bucket = at-pair .before .before .before .before .before .before .before in
-    let one = at-bucket .bucket-merge .ensures in
-    let two = at-pair .pair-merge .ensures in
-    let pre = at-bucket .before .before .before .before .before .before .pre in
+    let at-pairs = c .before .before .before .before .before .before .before in
+    let at-buckets = at-pairs .before .before .before .before .before .before .before in
+    let one = at-buckets .bucket-merge .ensures in
+    let two = at-pairs .pair-merge .ensures in
+    let pre = at-buckets .before .before .before .before .before .before .pre in
     record {
       makes = makes-later (pre .makes) (two .room) (omega (arith, one .later .rows-le, two .later .rows-le));
       few = omega (
         arith,
-        len-negated _ _ (c .before .before .to-minus-one .ensures),
+        len-minus-one _ _ (c .before .before .to-minus-one .ensures),
         one .len,
         two .len,
         pre .few,
@@ -48,19 +48,25 @@ pair-merge-requires-2 c κs =
     }
 
 same-length : tie.Need-same-length
-same-length c = c .before .before .before .before .pair-merge2 .ensures .room .words ∙ sym (c .before .before .before .before .before .before .before .before .before .before .before .before .before .before .before .before .before .before .before .before .before .before .before .before .before .pre .makes .room .words)
+same-length c =
+    let at-again = c .before .before .before .before in
+    let at-minus-one = at-again .before .before .before in
+    let at-pairs = at-minus-one .before .before .before .before .before in
+    let at-buckets = at-pairs .before .before .before .before .before .before .before in
+    let at-start = at-buckets .before .before .before .before .before .before in
+    at-again .pair-merge2 .ensures .room .words ∙ sym (at-start .pre .makes .room .words)
 
 same-length-2 : tie.Need-same-length-2
 same-length-2 c = search needs
 
 returns : tie.Need-returns
 returns c =
-    let at-pair2 = c .before .before .before .before in
-    let at-minus-one = at-pair2 .before .before .before in
-    let at-pair = at-minus-one .before .before .before .before .before in
-    let at-bucket = at-pair .before .before .before .before .before .before .before in
-    merge-all _ (at-bucket .bucket-merge .ensures) (at-pair .pair-merge .ensures) (at-minus-one .to-minus-one .ensures)
-    (at-pair2 .pair-merge2 .ensures)
+    let at-again = c .before .before .before .before in
+    let at-minus-one = at-again .before .before .before in
+    let at-pairs = at-minus-one .before .before .before .before .before in
+    let at-buckets = at-pairs .before .before .before .before .before .before .before in
+    merge-all _ (at-buckets .bucket-merge .ensures) (at-pairs .pair-merge .ensures)
+    (at-minus-one .to-minus-one .ensures) (at-again .pair-merge2 .ensures)
 
 pub merge-all-spec : {M : Type 1} → statement M
 merge-all-spec =

@@ -5,13 +5,13 @@ use native.Mathlib.Omega.{arith}
 use Rattle.base.specs.Loop.{forIn}
 use Rattle.base.proofs.LoopLaws.{for-none, for-turn, for-done}
 use Rattle.group.specs.Steps.{minusOneAt, toMinusOne}
-use Rattle.group.proofs.NegateLaws.{negate-at-same, negate-at-negate}
+use Rattle.group.proofs.MinusOneLaws.{minus-one-at-same, minus-one-at-set}
 use Rattle.group.proofs.Group.to_minus_one.Statement.{statement}
 use Rattle.group.proofs.Group.to_minus_one.Tie as tie
 use Rattle.group.proofs.Group.to_minus_one.Reads as reads
 use Rattle.group.proofs.Group.to_minus_one.Lts as lts
 use Rattle.arith.proofs.bitmask.Reads as bitmask-reads
-use Rattle.entries.proofs.single.negates.Reads as negates-reads
+use Rattle.entries.proofs.single.becomes_minus_one.Reads as becomes-reads
 
 abbrev Inv-loop : tie.InvT-loop
 Inv-loop w self₀ n minus i₀ self i = (i ≤ n) × (self ≡ forIn (minusOneAt w) 0 i self₀)
@@ -25,23 +25,23 @@ bitmask-requires c κs = tt
 loop-holds : tie.Need-loop-holds Inv-loop μ-loop
 loop-holds c = (omega arith, sym (for-none _ 0 0 _ (omega arith)))
 
-element-copy-out-negates : tie.Need-element-copy-out-negates Inv-loop μ-loop
-element-copy-out-negates c = omega arith
+element-copy-out-becomes-minus-one : tie.Need-element-copy-out-becomes-minus-one Inv-loop μ-loop
+element-copy-out-becomes-minus-one c = omega arith
 
-mul-negates : tie.Need-mul-negates Inv-loop μ-loop
-mul-negates c = omega arith
+mul-becomes-minus-one : tie.Need-mul-becomes-minus-one Inv-loop μ-loop
+mul-becomes-minus-one c = omega arith
 
-element-copy-out-negates-2 : tie.Need-element-copy-out-negates-2 Inv-loop μ-loop
-element-copy-out-negates-2 c = omega arith
+element-copy-out-becomes-minus-one-2 : tie.Need-element-copy-out-becomes-minus-one-2 Inv-loop μ-loop
+element-copy-out-becomes-minus-one-2 c = omega arith
 
-mul-negates-2 : tie.Need-mul-negates-2 Inv-loop μ-loop
-mul-negates-2 c = omega arith
+mul-becomes-minus-one-2 : tie.Need-mul-becomes-minus-one-2 Inv-loop μ-loop
+mul-becomes-minus-one-2 c = omega arith
 
-element-copy-out-negates-3 : tie.Need-element-copy-out-negates-3 Inv-loop μ-loop
-element-copy-out-negates-3 c = omega arith
+element-copy-out-becomes-minus-one-3 : tie.Need-element-copy-out-becomes-minus-one-3 Inv-loop μ-loop
+element-copy-out-becomes-minus-one-3 c = omega arith
 
-negates-requires : tie.Need-negates-requires Inv-loop μ-loop
-negates-requires c κs = omega arith
+becomes-minus-one-requires : tie.Need-becomes-minus-one-requires Inv-loop μ-loop
+becomes-minus-one-requires c κs = omega arith
 
 mul-self : tie.Need-mul-self Inv-loop μ-loop
 mul-self c = omega arith
@@ -61,12 +61,12 @@ loop-again c =
     let h = turn .loop in
     let w = turn .before .before .args .w in
     let minus = turn .before .bitmask .ensures in
-    let test = c .before .negates .ensures in (
+    let test = c .before .becomes-minus-one .ensures in (
       omega arith,
       for-turn (minusOneAt w) (h .i) _ (h .inv .1)
           (⊎-elim
-          (λ k. k .1 ∙ sym (negate-at-negate w (h .i) (h .self) (omega arith) minus (sym test ∙ k .0 .taken)))
-          (λ k. k .1 ∙ sym (negate-at-same w (h .i) (h .self) (sym test ∙ k .0 .left)))
+          (λ k. k .1 ∙ sym (minus-one-at-set w (h .i) (h .self) (omega arith) minus (sym test ∙ k .0 .taken)))
+          (λ k. k .1 ∙ sym (minus-one-at-same w (h .i) (h .self) (sym test ∙ k .0 .left)))
           (c .if1 .came)),
     )
 
@@ -84,12 +84,12 @@ to-minus-one-spec =
     μ-loop
     bitmask-requires
     loop-holds
-    element-copy-out-negates
-    mul-negates
-    element-copy-out-negates-2
-    mul-negates-2
-    element-copy-out-negates-3
-    negates-requires
+    element-copy-out-becomes-minus-one
+    mul-becomes-minus-one
+    element-copy-out-becomes-minus-one-2
+    mul-becomes-minus-one-2
+    element-copy-out-becomes-minus-one-3
+    becomes-minus-one-requires
     mul-self
     element-write-self
     add-i

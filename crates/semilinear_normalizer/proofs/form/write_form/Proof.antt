@@ -17,22 +17,22 @@ register-all-requires c κs =
     let at-clear = c .before .before .before .before .before in
     let at-start = at-clear .before .before .before .before .before .before .before in (
       at-start .pre .0,
-      at-start .pre .1,
-      at-start .pre .2,
-      at-start .pre .3,
-      at-start .pre .4,
-      at-clear .clear .ensures ∙ ap (λ (n : ℕ). replicate n 0) (at-start .pre .5) ∙ padded-nil 57360,
+      at-clear .clear .ensures ∙ ap (λ (n : ℕ). replicate n 0) (at-start .pre .1) ∙ padded-nil 57360,
     )
 
 finish-requires : tie.Need-finish-requires
 finish-requires c κs =
-    let reg = c .before .before .before .before .before .before .before .before .register-all .ensures in (
-      table-placed _ _ reg,
-      c .before .before .before .out2 .given ∙ c .before .before .before .before .before .before .before .before .before .before .before .before .before .out .given ∙ c .before .before .before .before .before .before .before .before .before .before .before .before .before .before .before .before .before .before .before .before .before .pre .5,
-      index-room _ _ reg,
-      omega arith,
-      omega arith,
-    )
+    let at-register = c .before .before .before .before .before .before .before .before in
+    let at-cleared = at-register .before .before .before .before .before in
+    let at-start = at-cleared .before .before .before .before .before .before .before .before in
+    let reg = at-register .register-all .ensures in
+    record {
+      placed = table-placed _ _ reg;
+      long = c .before .before .before .out2 .given ∙ at-cleared .out .given ∙ at-start .pre .1;
+      coeffs = index-room _ _ reg;
+      step-pos = omega arith;
+      step-le = omega arith;
+    }
 
 same-length : tie.Need-same-length
 same-length c = search needs
@@ -45,7 +45,9 @@ same-length-3 c = search needs
 
 returns : tie.Need-returns
 returns c =
-    gives-collected _ _ (c .before .before .before .before .before .before .before .before .before .before .before .register-all .ensures) _ (c .before .before .finish .result) (c .before .before .finish .ensures)
+    let at-register = c .before .before .before .before .before .before .before .before .before .before .before in
+    let finished = c .before .before .finish in
+    gives-collected _ _ (at-register .register-all .ensures) _ (finished .result) (finished .ensures)
 
 pub write-form-spec : {M : Type 1} → statement M
 write-form-spec =

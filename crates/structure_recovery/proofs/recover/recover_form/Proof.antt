@@ -52,9 +52,10 @@ slice-aggregate-finish c = search needs
 
 finish-requires : tie.Need-finish-requires
 finish-requires c κs =
-    let p = recover-room (c .before .before .before .before .before .before .before .before .recover-table .ensures) (c .before .before .load .ensures)
-    (c .before .before .before .before .before .before .before .before .before .before .before .before .before .before .before .copy-atoms .ensures .long) in
-    (p .0, p .1, p .2, omega arith, omega arith)
+    let at-table = c .before .before .before .before .before .before .before .before in
+    let at-copy = at-table .before .before .before .before .before .before .before in
+    recover-room (at-table .recover-table .ensures) (c .before .before .load .ensures)
+    (at-copy .copy-atoms .ensures .long)
 
 same-length : tie.Need-same-length
 same-length c = search needs

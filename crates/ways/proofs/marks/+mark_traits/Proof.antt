@@ -67,17 +67,17 @@ claims t = (
 
 mark-traits-root-arity-requires : (t : ℕ)
     → mark-traits-lts.Need-root-arity-requires (claims t) (mark-traits-at t) mark-traits.Post
-mark-traits-root-arity-requires t c κs = sized-big _ (c .before .before .pre .1 .0)
+mark-traits-root-arity-requires t c κs = sized-big _ (c .before .before .pre .1 .whole)
 
 mark-traits-leaf-traits-requires : (t : ℕ)
     → mark-traits-lts.Need-leaf-traits-requires (claims t) (mark-traits-at t) mark-traits.Post
-mark-traits-leaf-traits-requires t c κs = sized-big _ (c .before .before .before .before .pre .1 .0)
+mark-traits-leaf-traits-requires t c κs = sized-big _ (c .before .before .before .before .pre .1 .whole)
 
 mark-traits-put-mark-requires : (t : ℕ)
     → mark-traits-lts.Need-put-mark-requires (claims t) (mark-traits-at t) mark-traits.Post
 mark-traits-put-mark-requires t c κs =
     let at-start = c .before .before .before .before .before .before in
-    omega (arith, at-start .pre .1 .1, size-pos (now (at-start .args .t)) (at-start .pre .1 .0))
+    omega (arith, at-start .pre .1 .room, size-pos (now (at-start .args .t)) (at-start .pre .1 .whole))
 
 mark-traits-same-length : (t : ℕ) → mark-traits-lts.Need-same-length (claims t) (mark-traits-at t) mark-traits.Post
 mark-traits-same-length t c = search needs
@@ -87,28 +87,28 @@ mark-traits-returns t c =
     let at-mark = c .before .before in
     let at-if1 = at-mark .before .before .before in
     let at-start = at-if1 .before .before .before .before in
-    marked-leaf (now (at-start .args .t)) (at-start .pre .1 .0) (at-if1 .before .root-arity .ensures)
-    (at-start .args .at) (now (at-start .args .marks)) (at-start .pre .1 .1)
+    marked-leaf (now (at-start .args .t)) (at-start .pre .1 .whole) (at-if1 .before .root-arity .ensures)
+    (at-start .args .at) (now (at-start .args .marks)) (at-start .pre .1 .room)
     (at-mark .put-mark .ensures .0) (at-if1 .if1 .taken)
     (at-mark .before .before .leaf-traits .ensures) (at-mark .put-mark .ensures .1)
 
 mark-traits-kind-requires : (t : ℕ)
     → mark-traits-lts.Need-kind-requires (claims t) (mark-traits-at t) mark-traits.Post
-mark-traits-kind-requires t c κs = sized-big _ (c .before .before .before .before .pre .1 .0)
+mark-traits-kind-requires t c κs = sized-big _ (c .before .before .before .before .pre .1 .whole)
 
 mark-traits-size-requires : (t : ℕ)
     → mark-traits-lts.Need-size-requires (claims t) (mark-traits-at t) mark-traits.Post
-mark-traits-size-requires t c κs = sized-big _ (c .before .before .before .before .before .pre .1 .0)
+mark-traits-size-requires t c κs = sized-big _ (c .before .before .before .before .before .pre .1 .whole)
 
 mark-traits-add-last : (t : ℕ) → mark-traits-lts.Need-add-last (claims t) (mark-traits-at t) mark-traits.Post
 mark-traits-add-last t c =
     let at-start = c .before .before .before .before .before .before in
-    omega (arith, at-start .pre .1 .1, c .size .ensures .0)
+    omega (arith, at-start .pre .1 .room, c .size .ensures .0)
 
 mark-traits-sub-last : (t : ℕ) → mark-traits-lts.Need-sub-last (claims t) (mark-traits-at t) mark-traits.Post
 mark-traits-sub-last t c =
     let at-start = c .before .before .before .before .before .before in
-    omega (arith, c .size .ensures .0, size-pos (now (at-start .args .t)) (at-start .pre .1 .0))
+    omega (arith, c .size .ensures .0, size-pos (now (at-start .args .t)) (at-start .pre .1 .whole))
 
 mark-traits-body-requires : (t : ℕ)
     → mark-traits-lts.Need-body-requires (claims t) (mark-traits-at t) mark-traits.Post
@@ -121,9 +121,11 @@ mark-traits-mark-traits-requires t c κs =
     let at-root-arity = at-if2 .before .before .before .before in
     let at-start = at-root-arity .before .before .before in
     let r =
-    child-body (now (at-start .args .t)) (at-start .pre .1 .0) (at-root-arity .root-arity .ensures) (at-if2 .if2 .taken)
-    (c .before .body .ensures) in
-    (omega (arith, r .falls, at-start .pre .0), (r .ok, omega (arith, r .falls, at-start .pre .1 .1)))
+    child-body (now (at-start .args .t)) (at-start .pre .1 .whole) (at-root-arity .root-arity .ensures)
+    (at-if2 .if2 .taken) (c .before .body .ensures) in (
+      omega (arith, r .falls, at-start .pre .0),
+      record { whole = r .ok; room = omega (arith, r .falls, at-start .pre .1 .room) },
+    )
 
 mark-traits-node-traits-requires : (t : ℕ)
     → mark-traits-lts.Need-node-traits-requires (claims t) (mark-traits-at t) mark-traits.Post
@@ -134,8 +136,8 @@ mark-traits-put-mark-requires-2 : (t : ℕ)
 mark-traits-put-mark-requires-2 t c κs =
     let at-size = c .before .before .before .before .before .before .before .before in
     let at-start = at-size .before .before .before .before .before .before in
-    let pos = size-pos (now (at-start .args .t)) (at-start .pre .1 .0) in
-    omega (arith, at-start .pre .1 .1, pos, at-size .size .ensures .0)
+    let pos = size-pos (now (at-start .args .t)) (at-start .pre .1 .whole) in
+    omega (arith, at-start .pre .1 .room, pos, at-size .size .ensures .0)
 
 mark-traits-same-length-2 : (t : ℕ)
     → mark-traits-lts.Need-same-length-2 (claims t) (mark-traits-at t) mark-traits.Post
@@ -148,8 +150,8 @@ mark-traits-returns-2 t c =
     let at-if2 = at-below .before .before .before in
     let at-kind = at-if2 .before .before in
     let at-start = at-kind .before .before .before .before .before in
-    marked-one (now (at-start .args .t)) (at-start .pre .1 .0) (at-kind .before .before .root-arity .ensures)
-    (at-start .args .at) (now (at-start .args .marks)) (at-start .pre .1 .1)
+    marked-one (now (at-start .args .t)) (at-start .pre .1 .whole) (at-kind .before .before .root-arity .ensures)
+    (at-start .args .at) (now (at-start .args .marks)) (at-start .pre .1 .room)
     (at-mark .put-mark2 .ensures .0) (at-kind .kind .ensures)
     (ap (λ (n : ℕ). at-start .args .at + n - 1) (at-if2 .before .size .ensures .0)) (at-if2 .if2 .taken)
     (at-below .before .before .body .ensures) (at-below .mark-traits .ensures)
@@ -166,10 +168,12 @@ mark-traits-mark-traits-requires-2 t c κs =
     let at-root-arity = at-if2 .before .before .before .before in
     let at-start = at-root-arity .before .before .before in
     let r =
-    child-left (now (at-start .args .t)) (at-start .pre .1 .0) (at-root-arity .root-arity .ensures)
+    child-left (now (at-start .args .t)) (at-start .pre .1 .whole) (at-root-arity .root-arity .ensures)
     (at-if2 .before .before .before .if1 .left)
-    (at-if2 .if2 .left) (c .before .left .ensures) in
-    (omega (arith, r .falls, at-start .pre .0), (r .ok, omega (arith, r .falls, at-start .pre .1 .1)))
+    (at-if2 .if2 .left) (c .before .left .ensures) in (
+      omega (arith, r .falls, at-start .pre .0),
+      record { whole = r .ok; room = omega (arith, r .falls, at-start .pre .1 .room) },
+    )
 
 mark-traits-left-requires-2 : (t : ℕ)
     → mark-traits-lts.Need-left-requires-2 (claims t) (mark-traits-at t) mark-traits.Post
@@ -182,7 +186,7 @@ mark-traits-size-requires-2 t c κs =
     let at-if1 = at-if2 .before .before .before in
     let at-start = at-if1 .before .before .before .before in
     sized-big _
-    (child-left (now (at-start .args .t)) (at-start .pre .1 .0) (at-if1 .before .root-arity .ensures)
+    (child-left (now (at-start .args .t)) (at-start .pre .1 .whole) (at-if1 .before .root-arity .ensures)
     (at-if1 .if1 .left) (at-if2 .if2 .left) (c .left2 .ensures) .ok)
 
 mark-traits-add-middle : (t : ℕ) → mark-traits-lts.Need-add-middle (claims t) (mark-traits-at t) mark-traits.Post
@@ -191,9 +195,9 @@ mark-traits-add-middle t c =
     let at-if1 = at-if2 .before .before .before in
     let at-start = at-if1 .before .before .before .before in
     let r =
-    child-left (now (at-start .args .t)) (at-start .pre .1 .0) (at-if1 .before .root-arity .ensures) (at-if1 .if1 .left)
-    (at-if2 .if2 .left) (c .before .left2 .ensures) in
-    omega (arith, r .falls, at-start .pre .1 .1, c .size2 .ensures .0)
+    child-left (now (at-start .args .t)) (at-start .pre .1 .whole) (at-if1 .before .root-arity .ensures)
+    (at-if1 .if1 .left) (at-if2 .if2 .left) (c .before .left2 .ensures) in
+    omega (arith, r .falls, at-start .pre .1 .room, c .size2 .ensures .0)
 
 mark-traits-right-requires : (t : ℕ)
     → mark-traits-lts.Need-right-requires (claims t) (mark-traits-at t) mark-traits.Post
@@ -206,14 +210,17 @@ mark-traits-mark-traits-requires-3 t c κs =
     let at-if1 = at-if2 .before .before .before in
     let at-start = at-if1 .before .before .before .before in
     let r =
-    child-right (now (at-start .args .t)) (at-start .pre .1 .0) (at-if1 .before .root-arity .ensures)
+    child-right (now (at-start .args .t)) (at-start .pre .1 .whole) (at-if1 .before .root-arity .ensures)
     (at-if1 .if1 .left)
     (at-if2 .if2 .left) (c .before .right .ensures) in
     let sizes =
-    size-two (now (at-start .args .t)) (at-start .pre .1 .0) (at-if1 .before .root-arity .ensures) (at-if1 .if1 .left)
-    (at-if2 .if2 .left) (c .before .before .before .left2 .ensures) (c .before .right .ensures) in (
+    size-two (now (at-start .args .t)) (at-start .pre .1 .whole) (at-if1 .before .root-arity .ensures)
+    (at-if1 .if1 .left) (at-if2 .if2 .left) (c .before .before .before .left2 .ensures) (c .before .right .ensures) in (
       omega (arith, r .falls, at-start .pre .0),
-      (r .ok, omega (arith, sizes, at-start .pre .1 .1, c .before .before .size2 .ensures .0)),
+      record {
+        whole = r .ok;
+        room = omega (arith, sizes, at-start .pre .1 .room, c .before .before .size2 .ensures .0);
+      },
     )
 
 mark-traits-join-traits-requires : (t : ℕ)
@@ -230,10 +237,10 @@ mark-traits-put-mark-requires-3 t c κs =
     let at-start =
     c .before .before .before .before .before .before .before .before .before .before .before
     .before .before .before .before .before .before .before .before .before .before .before in
-    let pos = size-pos (now (at-start .args .t)) (at-start .pre .1 .0) in
+    let pos = size-pos (now (at-start .args .t)) (at-start .pre .1 .whole) in
     omega (
       arith,
-      at-start .pre .1 .1,
+      at-start .pre .1 .room,
       pos,
       c .before .before .before .before .before .before .before .before .before .before
           .before .before .before .before .before .before .size .ensures .0,
@@ -253,8 +260,8 @@ mark-traits-returns-3 t c =
     let at-if2 = at-first .before .before .before in
     let at-kind = at-if2 .before .before in
     let at-start = at-kind .before .before .before .before .before in
-    marked-two (now (at-start .args .t)) (at-start .pre .1 .0) (at-kind .before .before .root-arity .ensures)
-    (at-start .args .at) (now (at-start .args .marks)) (at-start .pre .1 .1) (at-mark .put-mark3 .ensures .0)
+    marked-two (now (at-start .args .t)) (at-start .pre .1 .whole) (at-kind .before .before .root-arity .ensures)
+    (at-start .args .at) (now (at-start .args .marks)) (at-start .pre .1 .room) (at-mark .put-mark3 .ensures .0)
     (at-kind .kind .ensures)
     (ap (λ (n : ℕ). at-start .args .at + n - 1) (at-if2 .before .size .ensures .0)) (at-kind .before .if1 .left)
     (at-if2 .if2 .left) (at-first .before .before .left .ensures) (at-right .right .ensures)

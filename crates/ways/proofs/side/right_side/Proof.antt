@@ -23,7 +23,7 @@ left-requires c κs = search needs
 size-requires : tie.Need-size-requires
 size-requires c κs =
     let at-span = c .before .before .before .before in
-    rw (c .left .ensures, at-span .span-of .ensures) (at-span .before .before .before .pre .3)
+    rw (c .left .ensures, at-span .span-of .ensures) (at-span .before .before .before .pre .left-long)
 
 sub-t12 : tie.Need-sub-t12
 sub-t12 c = search needs

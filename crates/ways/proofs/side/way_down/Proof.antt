@@ -1,5 +1,5 @@
 -- `way_down` meets its contract: no way, the left side of an Add, or the way of another root.
-use mathlib.Core.Path.{ap, sym, _∙_}
+use mathlib.Core.Path.{refl, ap, sym, _∙_}
 use native.Mathlib.Omega.{arith}
 use mathlib.Core.Bool.{true}
 use borrow.Author.Tests.{eqb-false, ne-eqb, not-true, not-false}
@@ -84,7 +84,14 @@ way-on-requires c κs =
     let variable = spot-variable at (at-variable .has-variable .ensures) (not-false _ (at-if2 .if2 .left)) in
     let kinds = at-kind .kind .ensures ∙ ap kind (at-kind .before .span-of .ensures) in
     let some = ne-eqb _ 0 (at-if1 .if1 .left) in
-    (at, at-start .pre .1, some, variable, ne-eqb _ 2 (λ e. c .if3 .left (kinds ∙ e)))
+    record {
+      spot = at;
+      width-le = at-start .pre .1;
+      some = some;
+      variable = variable;
+      kind-is = refl;
+      no-add = ne-eqb _ 2 (λ e. c .if3 .left (kinds ∙ e));
+    }
 
 returns-4 : tie.Need-returns-4
 returns-4 c =

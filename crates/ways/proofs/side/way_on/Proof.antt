@@ -22,12 +22,12 @@ part-t-end c = search needs
 
 kind-requires : tie.Need-kind-requires
 unfolding spanOf
-kind-requires c κs = span-big (c .before .before .before .pre .0 .span)
+kind-requires c κs = span-big (c .before .before .before .pre .spot .span)
 
 way-neg-requires : tie.Need-way-neg-requires
 way-neg-requires c κs =
     let at-start = c .before .before .before .before .before in
-    (omega (arith, span-end (at-start .pre .0 .span)), spot-some (at-start .pre .0))
+    (omega (arith, span-end (at-start .pre .spot .span)), spot-some (at-start .pre .spot))
 
 returns : tie.Need-returns
 unfolding spanOf
@@ -35,12 +35,12 @@ returns c =
     let at-if1 = c .before in
     let at-start = at-if1 .before .before .before .before .before in
     rw (c .way-neg .ensures)
-    (way-neg (at-start .pre .0) (at-start .pre .2) (at-start .pre .3)
+    (way-neg (at-start .pre .spot) (at-start .pre .some) (at-start .pre .variable)
     (sym (at-if1 .before .kind .ensures) ∙ at-if1 .if1 .taken))
 
 root-arity-requires : tie.Need-root-arity-requires
 unfolding spanOf
-root-arity-requires c κs = span-big (c .before .before .before .before .before .pre .0 .span)
+root-arity-requires c κs = span-big (c .before .before .before .before .before .pre .spot .span)
 
 nowhere-requires : tie.Need-nowhere-requires
 nowhere-requires c κs = search needs
@@ -51,7 +51,7 @@ returns-2 c =
     let at-if2 = c .before in
     let at-if1 = at-if2 .before .before in
     let at-start = at-if1 .before .before .before .before .before in
-    way-end (at-start .pre .0) (at-start .pre .2) (at-start .pre .3)
+    way-end (at-start .pre .spot) (at-start .pre .some) (at-start .pre .variable)
     (λ e. at-if1 .if1 .left (at-if1 .before .kind .ensures ∙ e))
     (λ e. at-if2 .if2 .taken (at-if2 .before .root-arity .ensures ∙ e)) (c .nowhere .ensures)
 
@@ -59,14 +59,17 @@ way-two-requires : tie.Need-way-two-requires
 unfolding spanOf
 way-two-requires c κs =
     let at-start = c .before .before .before .before .before .before .before in
+    let root = at-start .pre in
     let kind-is = c .before .before .before .kind .ensures in (
-      at-start .pre .0,
-      at-start .pre .1,
-      at-start .pre .2,
-      at-start .pre .3,
-      kind-is,
-      ap (λ (k : ℕ). eqb k 2) kind-is ∙ at-start .pre .4,
-      binary-two (at-start .pre .0 .span) (sym (c .before .root-arity .ensures) ∙ c .if2 .left),
+      record {
+        spot = root .spot;
+        width-le = root .width-le;
+        some = root .some;
+        variable = root .variable;
+        kind-is = kind-is;
+        no-add = ap (λ (k : ℕ). eqb k 2) kind-is ∙ root .no-add;
+      },
+      binary-two (at-start .pre .spot .span) (sym (c .before .root-arity .ensures) ∙ c .if2 .left),
     )
 
 returns-3 : tie.Need-returns-3

@@ -15,8 +15,9 @@ mod-mul-requires c κs = search needs
 returns : tie.Need-returns
 returns c =
     let at-start = c .before .before .before .before .before in
-    way-mul (at-start .pre .0) (at-start .pre .2) (at-start .pre .3) (at-start .pre .4) (at-start .pre .5)
-    (at-start .pre .6) (c .before .before .if1 .taken) (c .before .side-of .ensures) (c .mod-mul .ensures)
+    let root = at-start .pre .0 in
+    way-mul (root .spot) (root .some) (root .variable) (root .kind-is) (root .no-add) (at-start .pre .1)
+    (c .before .before .if1 .taken) (c .before .side-of .ensures) (c .mod-mul .ensures)
 
 nowhere-requires : tie.Need-nowhere-requires
 nowhere-requires c κs = search needs
@@ -24,14 +25,15 @@ nowhere-requires c κs = search needs
 returns-2 : tie.Need-returns-2
 returns-2 c =
     let at-start = c .before .before .before .before .before in
-    way-and (at-start .pre .0) (at-start .pre .2) (at-start .pre .3) (at-start .pre .4) (at-start .pre .5)
-    (at-start .pre .6) (c .before .if2 .taken) (c .nowhere .ensures)
+    let root = at-start .pre .0 in
+    way-and (root .spot) (root .some) (root .variable) (root .kind-is) (root .no-add) (at-start .pre .1)
+    (c .before .if2 .taken) (c .nowhere .ensures)
 
 sub-last : tie.Need-sub-last
-sub-last c = spot-some (c .before .before .before .before .pre .0)
+sub-last c = spot-some (c .before .before .before .before .pre .0 .spot)
 
 shared-slice-read-has-arith : tie.Need-shared-slice-read-has-arith
-shared-slice-read-has-arith c = omega (arith, spot-some (c .before .before .before .before .before .pre .0))
+shared-slice-read-has-arith c = omega (arith, spot-some (c .before .before .before .before .before .pre .0 .spot))
 
 has-arith-requires : tie.Need-has-arith-requires
 has-arith-requires c κs = search needs
@@ -44,10 +46,10 @@ returns-3 c =
     let at-if3 = c .before in
     let at-if2 = at-if3 .before .before .before in
     let at-start = at-if2 .before .before .before .before in
-    let spot = at-start .pre .0 in
-    way-arith spot (at-start .pre .2) (at-start .pre .3) (at-start .pre .4) (at-start .pre .5) (at-start .pre .6)
+    let root = at-start .pre .0 in
+    way-arith (root .spot) (root .some) (root .variable) (root .kind-is) (root .no-add) (at-start .pre .1)
     (at-if2 .before .if1 .left) (at-if2 .if2 .left)
-    (spot-arith spot (at-if3 .before .has-arith .ensures) (at-if3 .if3 .taken)) (c .nowhere2 .ensures)
+    (spot-arith (root .spot) (at-if3 .before .has-arith .ensures) (at-if3 .if3 .taken)) (c .nowhere2 .ensures)
 
 side-of-requires-2 : tie.Need-side-of-requires-2
 side-of-requires-2 c κs = search needs
@@ -57,10 +59,10 @@ returns-4 c =
     let at-if3 = c .before in
     let at-if2 = at-if3 .before .before .before in
     let at-start = at-if2 .before .before .before .before in
-    let spot = at-start .pre .0 in
-    way-masked spot (at-start .pre .2) (at-start .pre .3) (at-start .pre .4) (at-start .pre .5) (at-start .pre .6)
+    let root = at-start .pre .0 in
+    way-masked (root .spot) (root .some) (root .variable) (root .kind-is) (root .no-add) (at-start .pre .1)
     (at-if2 .before .if1 .left) (at-if2 .if2 .left)
-    (spot-arith spot (at-if3 .before .has-arith .ensures) (at-if3 .if3 .left)) (c .side-of2 .ensures)
+    (spot-arith (root .spot) (at-if3 .before .has-arith .ensures) (at-if3 .if3 .left)) (c .side-of2 .ensures)
 
 pub way-two-spec : {M : Type 1} → statement M
 way-two-spec =

@@ -18,8 +18,8 @@ mul-at c =
     let at-start = c .before .before .before .before .before .before in
     let pre = at-start .pre in
     let room =
-    still-room _ _ _ _ _ (pre .2) _ _ (pre .0) (pre .1) (pre .3) (pre .4)
-    (sym (c .before .bit .ensures) ∙ c .if1 .taken) (pre .5) in
+    still-room _ _ _ _ _ (pre .1) _ _ (pre .0 .indexed) (pre .0 .some) (pre .2) (pre .0 .width-le)
+    (sym (c .before .bit .ensures) ∙ c .if1 .taken) (pre .0 .room) in
     omega (arith, room)
 
 add-place-requires : tie.Need-add-place-requires
@@ -28,9 +28,9 @@ add-place-requires c κs =
     let at-start = at-bit .before .before .before .before .before in
     let pre = at-start .pre in
     let room =
-    still-room _ _ _ _ _ (pre .2) _ _ (pre .0) (pre .1) (pre .3) (pre .4)
-    (sym (at-bit .bit .ensures) ∙ c .before .if1 .taken) (pre .5) in
-    (room, omega (arith, pre .3, pre .4))
+    still-room _ _ _ _ _ (pre .1) _ _ (pre .0 .indexed) (pre .0 .some) (pre .2) (pre .0 .width-le)
+    (sym (at-bit .bit .ensures) ∙ c .before .if1 .taken) (pre .0 .room) in
+    (room, omega (arith, pre .2, pre .0 .width-le))
 
 add-t20 : tie.Need-add-t20
 add-t20 c = search needs
@@ -45,7 +45,7 @@ returns c =
     let at-bit = at-if1 .before in
     let at-start = at-bit .before .before .before .before .before in
     let pre = at-start .pre in
-    placed-still _ _ _ _ _ (pre .2) _ _ (pre .0) (pre .1) (pre .3) (pre .4)
+    placed-still _ _ _ _ _ (pre .1) _ _ (pre .0 .indexed) (pre .0 .some) (pre .2) (pre .0 .width-le)
     (sym (at-bit .bit .ensures) ∙ at-if1 .if1 .taken) (at-add-place .add-place .ensures)
 
 move-profile-requires : tie.Need-move-profile-requires
@@ -56,8 +56,8 @@ join-class-requires c κs =
     let at-move-profile = c .before .before .before .before in
     let at-start = at-move-profile .before .before .before .before .before .before .before .before in
     let pre = at-start .pre in
-    let room = room-next _ _ _ _ _ (pre .2) (omega (arith, pre .3, pre .4)) (pre .5) in
-    (rw (at-move-profile .move-profile .ensures .long) room, omega (arith, pre .3, pre .4))
+    let room = room-next _ _ _ _ _ (pre .1) (omega (arith, pre .2, pre .0 .width-le)) (pre .0 .room) in
+    (rw (at-move-profile .move-profile .ensures .long) room, omega (arith, pre .2, pre .0 .width-le))
 
 add-t28 : tie.Need-add-t28
 add-t28 c = search needs
@@ -67,7 +67,7 @@ add-t29 c =
     let at-move-profile = c .before .before .before .before .before .before .before .before in
     let at-start = at-move-profile .before .before .before .before .before .before .before .before in
     let pre = at-start .pre in
-    omega (arith, count-place _ _ _ _ _ (pre .2), pre .3, pre .4)
+    omega (arith, count-place _ _ _ _ _ (pre .1), pre .2, pre .0 .width-le)
 
 same-length-2 : tie.Need-same-length-2
 same-length-2 c = search needs
@@ -82,7 +82,7 @@ returns-2 c =
     let at-start = at-move-profile .before .before .before .before .before .before .before .before in
     let x = at-start .args .self in
     let pre = at-start .pre in
-    placed-joined _ _ _ _ _ (pre .2) _ (pre .0 .readable) (pre .3) (pre .4)
+    placed-joined _ _ _ _ _ (pre .1) _ (pre .0 .indexed .readable) (pre .2) (pre .0 .width-le)
     (at-move-profile .move-profile .ensures)
     (at-join-class .join-class .ensures)
     (omega (arith, count-new (x .count) (at-join-class .join-class .result) (c .if2 .taken)))
@@ -103,7 +103,7 @@ returns-3 c =
     let at-start = at-move-profile .before .before .before .before .before .before .before .before in
     let x = at-start .args .self in
     let pre = at-start .pre in
-    placed-joined _ _ _ _ _ (pre .2) _ (pre .0 .readable) (pre .3) (pre .4)
+    placed-joined _ _ _ _ _ (pre .1) _ (pre .0 .indexed .readable) (pre .2) (pre .0 .width-le)
     (at-move-profile .move-profile .ensures)
     (at-join-class .join-class .ensures)
     (omega (arith, count-same (x .count) (at-join-class .join-class .result) (c .if2 .left)))

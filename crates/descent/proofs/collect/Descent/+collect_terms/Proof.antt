@@ -313,13 +313,15 @@ collect-terms-collect-masked-requires t c κs =
     let kinds = at-kind .kind .ensures ∙ ap kind (at-kind .before .span-of .ensures) in
     let way = at-way .way-down .ensures in
     let hw = going .ready .width in
-    let literal = down-literal (going .at) way found hw spot first more (λ e. at-if4 .if4 .taken (kinds ∙ e)) in (
-      literal .side,
-      down-ready-literal (going .at) way found hw spot first more (λ e. at-if4 .if4 .taken (kinds ∙ e))
-          (going .ready) (not-false _ (at-if3 .if3 .left)),
-      literal .value-lt,
-      literal .variable,
-    )
+    let literal = down-literal (going .at) way found hw spot first more (λ e. at-if4 .if4 .taken (kinds ∙ e)) in
+    record {
+      span = literal .side;
+      ready =
+          down-ready-literal (going .at) way found hw spot first more (λ e. at-if4 .if4 .taken (kinds ∙ e))
+          (going .ready) (not-false _ (at-if3 .if3 .left));
+      value-lt = literal .value-lt;
+      variable = literal .variable;
+    }
 
 collect-terms-same-length-3 :
     (t : ℕ)
@@ -376,7 +378,13 @@ collect-terms-right-side-requires t c κs =
     let going = at-way .before .loop .inv in
     let two = kind-read (at-kind .before .span-of .ensures) (at-kind .kind .ensures) (c .if4 .left) in
     let at = going .at in
-    (at .span .rising, at .span .inside, spot-some at, left-big at two, omega (arith, span-end (at .span)))
+    record {
+      rising = at .span .rising;
+      inside = at .span .inside;
+      some = spot-some at;
+      left-long = left-big at two;
+      root = omega (arith, span-end (at .span));
+    }
 
 collect-terms-side-spot-requires-2 :
     (t : ℕ)

@@ -19,7 +19,7 @@ use Rattle.descent.proofs.collect.Descent.collect_and.Tie as tie
 side-of-requires : tie.Need-side-of-requires
 side-of-requires c κs =
     let at-start = c .before .before .before in
-    (at-start .pre .0, at-start .pre .1 .width, and-binary _ (at-start .pre .4))
+    (at-start .pre .0 .spot, at-start .pre .0 .ready .width, and-binary _ (at-start .pre .1))
 
 push-spot-requires : tie.Need-push-spot-requires
 push-spot-requires c κs = search needs
@@ -34,9 +34,9 @@ returns c =
     let at-side = at-if .before .before in
     let at-start = at-side .before .before .before .before in
     collects-as
-    (and-no-side _ _ _ _ _ _ _ (at-start .pre .2) (at-side .side-of .ensures) (not-true _ (at-if .if1 .taken))
-    ∙ ap (collectAtom (at-start .args .x .coeff)) (sym (at-start .pre .4)))
-    (atom-push _ _ _ _ _ _ (at-start .pre .1) _ _ _ (at-start .pre .0 .span) (at-push .push-spot .ensures))
+    (and-no-side _ _ _ _ _ _ _ (at-start .pre .0 .some) (at-side .side-of .ensures) (not-true _ (at-if .if1 .taken))
+    ∙ ap (collectAtom (at-start .args .x .coeff)) (sym (at-start .pre .1)))
+    (atom-push _ _ _ _ _ _ (at-start .pre .0 .ready) _ _ _ (at-start .pre .0 .spot .span) (at-push .push-spot .ensures))
 
 span-of-requires : tie.Need-span-of-requires
 span-of-requires c κs =
@@ -67,10 +67,11 @@ returns-2 c =
     let of = at-side .side-of .ensures in
     let kinds = at-kind .kind .ensures ∙ ap kind (at-kind .before .span-of .ensures) in
     collects-as
-    (and-plain-side _ _ _ _ _ _ _ (at-start .pre .2) of found
+    (and-plain-side _ _ _ _ _ _ _ (at-start .pre .0 .some) of found
     (other-root (side-at _ _ _ _ _ _ of found .span) (λ e. at-if .if2 .taken (kinds ∙ e)))
-    ∙ ap (collectAtom (at-start .args .x .coeff)) (sym (at-start .pre .4)))
-    (atom-push _ _ _ _ _ _ (at-start .pre .1) _ _ _ (at-start .pre .0 .span) (at-push .push-spot2 .ensures))
+    ∙ ap (collectAtom (at-start .args .x .coeff)) (sym (at-start .pre .1)))
+    (atom-push _ _ _ _ _ _ (at-start .pre .0 .ready) _ _ _ (at-start .pre .0 .spot .span)
+    (at-push .push-spot2 .ensures))
 
 sub-collect-not : tie.Need-sub-collect-not
 sub-collect-not c =
@@ -96,12 +97,12 @@ returns-3 c =
     let span = side-at _ _ _ _ _ _ of found .span in
     let seven = kind-read (at-kind .before .span-of .ensures) (at-kind .kind .ensures) (at-if .if2 .left) in
     collects-as
-    (and-not-side _ _ _ _ _ _ _ (at-start .pre .2) of found (not-root span seven)
-    (and-variable _ (at-start .pre .4) (at-start .pre .3))
+    (and-not-side _ _ _ _ _ _ _ (at-start .pre .0 .some) of found (not-root span seven)
+    (and-variable _ (at-start .pre .1) (at-start .pre .0 .variable))
     ∙ ap
     (λ (t : Tree). collectNot (at-start .args .w) (at-start .args .x .coeff) t (at-side .side-of .result .value))
     (not-operand span seven))
-    (not-push _ _ _ _ _ _ (at-start .pre .1) _ _ _ (not-inner span seven) _ (side-value-lt _ _ _ _ _ _ of found)
+    (not-push _ _ _ _ _ _ (at-start .pre .0 .ready) _ _ _ (not-inner span seven) _ (side-value-lt _ _ _ _ _ _ of found)
     (at-not .collect-not .ensures))
 
 pub collect-and-spec : {M : Type 1} → statement M

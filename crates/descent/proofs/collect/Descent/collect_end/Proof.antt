@@ -66,12 +66,13 @@ collect-whole-requires c κs =
     let at-variable = at-if2 .before in
     let at-if1 = at-variable .before .before in
     let at-start = at-if1 .before .before .before .before in
-    let at = at-start .pre .0 in (
-      at,
-      ready-less 1 (omega (arith, spot-some at, spot-marks at)) (at-start .pre .1),
-      ne-eqb _ 0 (at-if1 .if1 .left),
-      spot-variable at (at-variable .has-variable .ensures) (not-false _ (at-if2 .if2 .left)),
-    )
+    let at = at-start .pre .0 in
+    record {
+      spot = at;
+      ready = ready-less 1 (omega (arith, spot-some at, spot-marks at)) (at-start .pre .1);
+      some = ne-eqb _ 0 (at-if1 .if1 .left);
+      variable = spot-variable at (at-variable .has-variable .ensures) (not-false _ (at-if2 .if2 .left));
+    }
 
 same-length : tie.Need-same-length
 same-length c = search needs

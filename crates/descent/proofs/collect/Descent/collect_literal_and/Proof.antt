@@ -13,7 +13,7 @@ use Rattle.descent.proofs.collect.Descent.collect_literal_and.Tie as ti
 returns : tie.Need-returns
 returns c =
     let at-start = c .before .before .before in
-    literal-and-zero _ _ _ _ (at-start .pre .1) _ _ _ (c .if1 .taken)
+    literal-and-zero _ _ _ _ (at-start .pre .ready) _ _ _ (c .if1 .taken)
 
 sub-kind : tie.Need-sub-kind
 sub-kind c = search needs
@@ -28,7 +28,7 @@ kind-requires : tie.Need-kind-requires
 unfolding spanOf
 kind-requires c κs =
     let at-start = c .before .before .before .before in
-    accepted-big _ _ (at-start .pre .0 .tree)
+    accepted-big _ _ (at-start .pre .span .tree)
 
 push-spot-requires : tie.Need-push-spot-requires
 push-spot-requires c κs = search needs
@@ -42,14 +42,14 @@ returns-2 c =
     let at-push = c .before .before in
     let at-kind = at-push .before .before .before in
     let at-start = at-kind .before .before .before .before .before in
-    literal-and-plain _ _ _ _ _ _ (at-start .pre .1) _ _ _ _ (at-start .pre .0) (at-start .pre .2)
+    literal-and-plain _ _ _ _ _ _ (at-start .pre .ready) _ _ _ _ (at-start .pre .span) (at-start .pre .value-lt)
     (ne-eqb _ 0 (at-kind .before .before .if1 .left))
     (λ e. at-push .before .before .if2 .taken (at-kind .kind .ensures ∙ e)) (at-push .push-spot .ensures)
 
 sub-collect-not : tie.Need-sub-collect-not
 sub-collect-not c =
     let at-start = c .before .before .before .before .before .before in
-    omega (arith, span-end (at-start .pre .0))
+    omega (arith, span-end (at-start .pre .span))
 
 collect-not-requires : tie.Need-collect-not-requires
 collect-not-requires c κs = search needs
@@ -63,9 +63,9 @@ returns-3 c =
     let at-not = c .before .before in
     let at-kind = at-not .before .before .before in
     let at-start = at-kind .before .before .before .before .before in
-    literal-and-not _ _ _ _ _ _ (at-start .pre .1) _ _ _ _ (at-start .pre .0) (at-start .pre .2)
+    literal-and-not _ _ _ _ _ _ (at-start .pre .ready) _ _ _ _ (at-start .pre .span) (at-start .pre .value-lt)
     (ne-eqb _ 0 (at-kind .before .before .if1 .left)) (sym (at-kind .kind .ensures) ∙ at-not .before .before .if2 .left)
-    (at-start .pre .3) (at-not .collect-not .ensures)
+    (at-start .pre .variable) (at-not .collect-not .ensures)
 
 pub collect-literal-and-spec : {M : Type 1} → statement M
 collect-literal-and-spec =

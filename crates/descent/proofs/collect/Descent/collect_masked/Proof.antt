@@ -13,12 +13,14 @@ add-constant-requires c κs = search needs
 
 collect-literal-and-requires : tie.Need-collect-literal-and-requires
 collect-literal-and-requires c κs =
-    let at-start = c .before .before .before .before .before in (
-      at-start .pre .0,
-      ready-literal _ (now (at-start .args .file)) _ _ (at-start .pre .1) _ _ _ (c .before .add-constant .ensures),
-      at-start .pre .2,
-      at-start .pre .3,
-    )
+    let at-start = c .before .before .before .before .before in
+    let pre = at-start .pre in
+    record {
+      span = pre .span;
+      ready = ready-literal _ (now (at-start .args .file)) _ _ (pre .ready) _ _ _ (c .before .add-constant .ensures);
+      value-lt = pre .value-lt;
+      variable = pre .variable;
+    }
 
 same-length : tie.Need-same-length
 same-length c = search needs
@@ -28,7 +30,7 @@ returns c =
     let at-and = c .before .before in
     let at-add = at-and .before .before in
     let at-start = at-add .before .before .before .before in
-    collects-literal _ _ _ _ (at-start .pre .1) _ _ _ (at-add .add-constant .ensures) _ _ _ _
+    collects-literal _ _ _ _ (at-start .pre .ready) _ _ _ (at-add .add-constant .ensures) _ _ _ _
     (rw (← at-add .before .and-coeff .ensures) (at-and .collect-literal-and .ensures))
 
 pub collect-masked-spec : {M : Type 1} → statement M

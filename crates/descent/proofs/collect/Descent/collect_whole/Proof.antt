@@ -24,17 +24,17 @@ kind-requires : tie.Need-kind-requires
 unfolding spanOf
 kind-requires c κs =
     let at-start = c .before .before .before .before in
-    accepted-big _ _ (at-start .pre .0 .span .tree)
+    accepted-big _ _ (at-start .pre .spot .span .tree)
 
 sub-last : tie.Need-sub-last
 sub-last c =
     let at-start = c .before .before .before .before .before in
-    spot-some (at-start .pre .0)
+    spot-some (at-start .pre .spot)
 
 shared-slice-read-has-arith : tie.Need-shared-slice-read-has-arith
 shared-slice-read-has-arith c =
     let at-start = c .before .before .before .before .before .before in
-    omega (arith, spot-some (at-start .pre .0))
+    omega (arith, spot-some (at-start .pre .spot))
 
 has-arith-requires : tie.Need-has-arith-requires
 has-arith-requires c κs = search needs
@@ -47,8 +47,8 @@ returns c =
     let at-arith = c .before .before in
     let at-start = at-arith .before .before .before .before .before .before .before in
     collects-as
-    (whole-nonlinear _ _ _ (spot-arith (at-start .pre .0) (at-arith .has-arith .ensures) (c .before .if1 .taken)))
-    (collects-nonlinear _ _ _ _ _ (at-start .pre .1) _ (c .not-linear .ensures))
+    (whole-nonlinear _ _ _ (spot-arith (at-start .pre .spot) (at-arith .has-arith .ensures) (c .before .if1 .taken)))
+    (collects-nonlinear _ _ _ _ _ (at-start .pre .ready) _ (c .not-linear .ensures))
 
 collect-and-requires : tie.Need-collect-and-requires
 unfolding spanOf
@@ -56,11 +56,9 @@ collect-and-requires c κs =
     let at-arith = c .before .before .before in
     let at-kind = at-arith .before .before in
     let at-start = at-kind .before .before .before .before .before in (
-      at-start .pre .0,
-      at-start .pre .1,
-      at-start .pre .2,
-      at-start .pre .3,
-      is-and _ (accepted-big _ _ (at-start .pre .0 .span .tree)) (sym (at-kind .kind .ensures) ∙ c .before .if2 .taken),
+      at-start .pre,
+      is-and _ (accepted-big _ _ (at-start .pre .spot .span .tree))
+          (sym (at-kind .kind .ensures) ∙ c .before .if2 .taken),
     )
 
 same-length : tie.Need-same-length
@@ -76,8 +74,8 @@ returns-2 c =
     let at-kind = at-arith .before .before in
     let at-start = at-kind .before .before .before .before .before in
     collects-as
-    (whole-and _ _ _ (spot-arith (at-start .pre .0) (at-arith .has-arith .ensures) (at-if1 .if1 .left))
-    (is-and _ (accepted-big _ _ (at-start .pre .0 .span .tree)) (sym (at-kind .kind .ensures) ∙ at-if2 .if2 .taken)))
+    (whole-and _ _ _ (spot-arith (at-start .pre .spot) (at-arith .has-arith .ensures) (at-if1 .if1 .left))
+    (is-and _ (accepted-big _ _ (at-start .pre .spot .span .tree)) (sym (at-kind .kind .ensures) ∙ at-if2 .if2 .taken)))
     (at-and .collect-and .ensures)
 
 push-spot-requires : tie.Need-push-spot-requires
@@ -96,10 +94,10 @@ returns-3 c =
     let at-kind = at-arith .before .before in
     let at-start = at-kind .before .before .before .before .before in
     collects-as
-    (whole-atom _ _ _ (spot-arith (at-start .pre .0) (at-arith .has-arith .ensures) (at-if1 .if1 .left))
-    (other-kind _ (accepted-big _ _ (at-start .pre .0 .span .tree))
+    (whole-atom _ _ _ (spot-arith (at-start .pre .spot) (at-arith .has-arith .ensures) (at-if1 .if1 .left))
+    (other-kind _ (accepted-big _ _ (at-start .pre .spot .span .tree))
     (λ e. at-if2 .if2 .left (at-kind .kind .ensures ∙ e))))
-    (atom-push _ _ _ _ _ _ (at-start .pre .1) _ _ _ (at-start .pre .0 .span) (at-push .push-spot .ensures))
+    (atom-push _ _ _ _ _ _ (at-start .pre .ready) _ _ _ (at-start .pre .spot .span) (at-push .push-spot .ensures))
 
 pub collect-whole-spec : {M : Type 1} → statement M
 collect-whole-spec =

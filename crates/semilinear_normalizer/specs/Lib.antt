@@ -1,0 +1,2 @@
+-- The room that normalising works in.
+pub mod WorkRoom
