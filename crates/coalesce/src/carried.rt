@@ -14,7 +14,9 @@ ghost use Rattle.coalesce.specs.Coalescing.{carriedIn, CarryReady, IsCar
 ghost use Rattle.coalesce.specs.Coalescing.{PutReady, carriedRow, Coalesced};
 ghost use Rattle.base.specs.Limits.{groupEntries};
 
-// The sum of the coefficients, of n, whose masks have the bit p. It is cut only in the end.
+// The sum of the coefficients, of n, whose masks have the bit p. It is cut only in the end. Each
+// coefficient is added before the test, which then chooses between two numbers and needs no jump: the
+// bits of masks may be like random ones.
 fn bit_coeff<'a>(
     coeffs: &'a [u64; limits::GROUP_ENTRIES],
     masks: &'a [u64; limits::GROUP_ENTRIES],
@@ -28,8 +30,9 @@ fn bit_coeff<'a>(
     let mut sum = 0;
     let mut i = 0;
     while i < n {
+        let more = std::num::wrapping_add_u64(sum, coeffs[i]);
         if (masks[i] >> p) & 1 == 1 {
-            sum = std::num::wrapping_add_u64(sum, coeffs[i]);
+            sum = more;
         }
         i += 1;
     }

@@ -8,8 +8,8 @@ use mathlib.Core.Bool.{Bool, true, false, not}
 use Rattle.base.specs.Choice.{when}
 use Rattle.record.specs.Fields.{kind, amount, size, arity}
 use Rattle.record.specs.Span.{body, sized}
-use Rattle.record.specs.Decode.{decode}
-use Rattle.record.proofs.DecodeLaws.{decode-one, child-body}
+use Rattle.record.specs.Decode.{leaf, decode}
+use Rattle.record.proofs.DecodeLaws.{decode-leaf, decode-one, child-body}
 use Rattle.truth.specs.Truth.{tableF}
 use Rattle.truth.proofs.TruthLaws.{tableF-lt}
 use Rattle.truth.proofs.RowsLaws.{rows-not, rows-shift, rows-past}
@@ -26,6 +26,11 @@ flipped-not false x h = refl
 -- the rows of the span s at the place and the width of n, over the variables vs
 abbrev pub rowsOf : List ℕ → List ℕ → ℕ → ℕ
 rowsOf vs s n = tableF 64 (n / 4294967296) (n % 4294967296) vs (decode s)
+
+-- at a root without children
+pub rows-leaf : (vs s : List ℕ) (n : ℕ) → sized s ≡ true → {j : ℕ} → j ≡ arity (kind s) → j ≡ 0 → {x : ℕ}
+    → ((w : ℕ) → x ≡ tableF 64 w (n % 4294967296) vs (leaf s)) → x ≡ rowsOf vs s n
+rows-leaf vs s n h ej none e = rw (decode-leaf s h ej none) (e (n / 4294967296))
 
 -- from the span t at n to the span s at m
 pub record ChainPassed (vs t : List ℕ) (n : ℕ) (s : List ℕ) (m : ℕ) (b : Bool) : Type 0 where

@@ -94,7 +94,8 @@ fn complement(flip: bool, x: u64) -> u64
 // The rows of the tree of t, over the variables of a list, at the place and the width that are the
 // low and the high half of `at`: a recursion of 1,536 levels carries one number less. A loop passes
 // Not and Shr: `flip` says whether the rows below are complemented. A shift reads a higher place,
-// and is 0 from the width on. Corresponds to `eval_atom_at_bit`.
+// and is 0 from the width on. A leaf under a root with two children is read without a call of its
+// own. Corresponds to `eval_atom_at_bit`.
 fn rows_in(t: &[u8], vars: &[u64], at: u64) -> u64
     requires { ⌜ sized (now t) ≡ true ⌝ }
     ensures { λ r. ⌜ r ≡ tableF 64 (at / 4294967296) (at % 4294967296) (now (vars .entry))
@@ -105,13 +106,24 @@ fn rows_in(t: &[u8], vars: &[u64], at: u64) -> u64
     let mut flip = false;
     loop {
         let children = record::root_arity(s);
+        let place = (here % 0x1_0000_0000) as u32;
         if children == 0 {
-            return complement(flip, leaf_rows(s, vars, (here % 0x1_0000_0000) as u32));
+            return complement(flip, leaf_rows(s, vars, place));
         }
         let k = record::kind(s);
         if children != 1 {
-            let x = rows_in(record::left(s), vars, here);
-            let y = rows_in(record::right(s), vars, here);
+            let l = record::left(s);
+            let r = record::right(s);
+            let y = if record::root_arity(r) == 0 {
+                leaf_rows(r, vars, place)
+            } else {
+                rows_in(r, vars, here)
+            };
+            let x = if record::root_arity(l) == 0 {
+                leaf_rows(l, vars, place)
+            } else {
+                rows_in(l, vars, here)
+            };
             return complement(flip, join_rows(k, x, y));
         }
         if k == 7 {
@@ -134,5 +146,8 @@ pub fn rows_at(t: &[u8], vars: &[u64], place: u32, w: u32) -> u64
     requires { ⌜ sized (now t) ≡ true ⌝ }
     ensures { λ r. ⌜ r ≡ tableF 64 w place (now (vars .entry)) (decode (now (t .entry))) ⌝ }
 {
+    if record::root_arity(t) == 0 {
+        return leaf_rows(t, vars, place);
+    }
     rows_in(t, vars, place as u64 + w as u64 * 0x1_0000_0000)
 }

@@ -24,23 +24,23 @@ loop-holds c =
     let a = c .args in
     (omega arith, bit-start (a .w) (c .pre .2) (now (a .coeffs)) (now (a .masks)) (a .n) (a .p))
 
-mul-if1 : tie.Need-mul-if1 Inv-loop μ-loop
-mul-if1 c = omega (arith, c .before .before .pre .0)
-
-element-copy-out-if1 : tie.Need-element-copy-out-if1 Inv-loop μ-loop
-element-copy-out-if1 c = omega (arith, c .before .before .pre .0)
-
-shr-if1 : tie.Need-shr-if1 Inv-loop μ-loop
-shr-if1 c = c .before .before .before .pre .1
-
 mul-wrapping-add-u64 : tie.Need-mul-wrapping-add-u64 Inv-loop μ-loop
-mul-wrapping-add-u64 c = omega (arith, c .before .before .before .before .pre .0)
+mul-wrapping-add-u64 c = omega (arith, c .before .before .pre .0)
 
 element-copy-out-wrapping-add-u64 : tie.Need-element-copy-out-wrapping-add-u64 Inv-loop μ-loop
-element-copy-out-wrapping-add-u64 c = omega (arith, c .before .before .before .before .pre .0)
+element-copy-out-wrapping-add-u64 c = omega (arith, c .before .before .pre .0)
 
 wrapping-add-u64-requires : tie.Need-wrapping-add-u64-requires Inv-loop μ-loop
 wrapping-add-u64-requires c κs = search needs
+
+mul-if1 : tie.Need-mul-if1 Inv-loop μ-loop
+mul-if1 c = omega (arith, c .before .before .before .before .pre .0)
+
+element-copy-out-if1 : tie.Need-element-copy-out-if1 Inv-loop μ-loop
+element-copy-out-if1 c = omega (arith, c .before .before .before .before .pre .0)
+
+shr-if1 : tie.Need-shr-if1 Inv-loop μ-loop
+shr-if1 c = c .before .before .before .before .before .pre .1
 
 add-i : tie.Need-add-i Inv-loop μ-loop
 add-i c = omega arith
@@ -50,14 +50,15 @@ loop-less c = omega arith
 
 loop-again : tie.Need-loop-again Inv-loop μ-loop
 loop-again c =
-    let at-loop = c .before .before .before in
+    let at-more = c .before .before in
+    let at-loop = at-more .before .before .before in
     let a = at-loop .before .args in
     let h = at-loop .loop in
     let hw = at-loop .before .pre .2 in (
       omega arith,
       ⊎-elim
           (λ k. bit-one (a .w) hw (now (a .coeffs)) (now (a .masks)) (a .n) (a .p) (h .i) (h .sum) (h .inv .1)
-          (k .0 .taken) _ (k .3 ∙ k .2 .ensures))
+          (k .0 .taken) _ (k .1 ∙ at-more .wrapping-add-u64 .ensures))
           (λ k. bit-none (a .w) hw (now (a .coeffs)) (now (a .masks)) (a .n) (a .p) (h .i) (h .sum) (h .inv .1)
           (k .0 .left) _ (k .1))
           (c .if1 .came),
@@ -81,12 +82,12 @@ bit-coeff-spec =
     Inv-loop
     μ-loop
     loop-holds
-    mul-if1
-    element-copy-out-if1
-    shr-if1
     mul-wrapping-add-u64
     element-copy-out-wrapping-add-u64
     wrapping-add-u64-requires
+    mul-if1
+    element-copy-out-if1
+    shr-if1
     add-i
     loop-less
     loop-again
