@@ -8,3 +8,4 @@ pub mod Bucket
 pub mod Stages
 pub mod Gathered
 pub mod Fair
+pub mod Turns
