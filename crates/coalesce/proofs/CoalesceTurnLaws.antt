@@ -1,19 +1,17 @@
 -- Laws of a group coalesced in turn (specs/Coalescing.antt): it is settled or rewritten, and the groups follow each other.
 use mathlib.Core.Path.{_≡_, refl, ap, sym, subst, _∙_}
-use Prim.Native.Nat.{ℕ, zero, suc, _+_, _*_, _≤_, _<_}
+use Prim.Native.Nat.{ℕ, _+_, _≤_, _<_}
 use native.Mathlib.Omega.{arith}
-use mathlib.Core.List.{List, [], _∷_, _++_}
-use mathlib.Core.Bool.{Bool, true, false, _||_}
-use lib.ListN.{length, getD, take, drop, length-drop}
-use lib.Seq.{take-suc, take-all, getD-drop}
+use mathlib.Core.List.{List, [], _∷_}
+use mathlib.Core.Bool.{false, _||_}
+use lib.ListN.{length, drop}
 use lib.Dec.{ltb, leb}
 use borrow.Author.Tests.{lt-ltb, le-ltb, le-leb, lt-leb}
-use Rattle.base.specs.Choice.{when}
 use Rattle.record.specs.Tree.{Tree}
 use Rattle.base.proofs.LoopLaws.{when-both}
 use Rattle.semilinear.specs.Form.{Row, fitsTable}
 use Rattle.group.specs.declared.Group.{Group}
-use Rattle.group.specs.Group.{at, isLive, emptyGroup, groupOf, settle}
+use Rattle.group.specs.Group.{at, emptyGroup, groupOf, settle}
 use Rattle.views.specs.Grouping.{variableBasis}
 use Rattle.made.specs.Made.{Room}
 use Rattle.views.specs.declared.View.{View}
@@ -22,13 +20,15 @@ use Rattle.lone.specs.Lone.{loneGroup}
 use Rattle.group.proofs.GatherLaws.{gathered-atoms}
 use Rattle.group.proofs.SettleWordsLaws.{length-settle}
 use Rattle.group.proofs.ShownLaws.{settle-fits, settle-length, shown-settle}
+use Rattle.group.specs.Turns.{inTurn, EachAllowed}
+use Rattle.group.proofs.TurnsLaws as turns
 use Rattle.lone.proofs.LoneLaws.{lone-len, settle-lone}
 use Rattle.structure_laws.specs.Carried.{Carried, carriedOf}
 use Rattle.structure_laws.specs.CoalesceTerms.{carriedRows, coalesceGroup, coalesceAll}
 use Rattle.bare.specs.Showing.{Shows}
 use Rattle.coalesce.specs.Coalescing.{carriedIn, IsCarried, Coalesced}
 use Rattle.coalesce.proofs.CarriedToLaws.{carried-few}
-use Rattle.coalesce.proofs.NewTermsLaws.{rows-past, rows-longer, coalesced-as, coalesced-then}
+use Rattle.coalesce.proofs.NewTermsLaws.{rows-past, rows-longer, coalesced-as}
 
 -- ---- one group
 
@@ -145,57 +145,64 @@ coalesced-of w m n t {made = made} {out} {coeffs} {made′} {out′} {coeffs′}
 
 -- ---- the groups in turn
 
-take-next : (l : List Tree) (k : ℕ) {b : Tree} → drop k l ≡ b ∷ drop (k + 1) l → take (k + 1) l ≡ take k l ++ (b ∷ [])
-take-next l k {b} e =
-    let s : k + 1 ≡ suc k = omega arith in
-    let z : k + 0 ≡ k = omega arith in
-    let lt : k < length l = omega (arith, length-drop k l, ap length e) in
-    let is : getD l k b ≡ b =
-    sym (getD-drop k l 0 b ∙ ap (λ (i : ℕ). getD l i b) z) ∙ ap (λ (x : List Tree). getD x 0 b) e in
-    rw s (take-suc l k b lt ∙ ap (λ (x : Tree). take k l ++ (x ∷ [])) is)
+-- at least n rows are shown
+pub record ShowsMany (w n : ℕ) (made out coeffs : List ℕ) (l : List Row) : Type 0 where
+  pub many : n ≤ length l
+  pub shows : Shows w made out coeffs l
+
+-- one basis, as `coalesceAll` takes it
+unfoldable pub coalesceTurn : ℕ → List Row → Tree → List Row → List Row
+coalesceTurn w before b = coalesceGroup w b (groupOf variableBasis w b 0 before emptyGroup)
+
+-- nothing is asked of the rows
+abbrev Any : Tree → List Row → Type 0
+Any b l = Unit {0}
+
+-- the loop of group/proofs/TurnsLaws.antt
+abbrev pub Going : (w : ℕ) (before : List Row) (bases : List Tree) (n k : ℕ) (made₀ out₀ coeffs₀ made out coeffs : List ℕ)
+    → Type 0
+Going w before bases n = turns.Going (coalesceTurn w before) Any (ShowsMany w n) 64 bases
 
 module _ (w : ℕ) (hw : w ≤ 64) (before : List Row) where
-  -- one basis, as `coalesceAll` takes it
-  abbrev one : Tree → List Row → List Row
-  one b = coalesceGroup w b (groupOf variableBasis w b 0 before emptyGroup)
+  all-in-turn : (a : List Tree) (l : List Row) → inTurn (coalesceTurn w before) a l ≡ coalesceAll w before a l
+  unfolding inTurn coalesceTurn coalesceAll
+  all-in-turn [] l = refl
+  all-in-turn (b ∷ a) l = all-in-turn a (coalesceTurn w before b l)
 
-  all-last : (a : List Tree) (b : Tree) (l : List Row)
-      → coalesceAll w before (a ++ (b ∷ [])) l ≡ one b (coalesceAll w before a l)
-  unfolding coalesceAll
-  all-last [] b l = refl
-  all-last (x ∷ a) b l = all-last a b (one x l)
-
-  all-longer : (a : List Tree) (l : List Row) → length l ≤ length (coalesceAll w before a l)
-  unfolding coalesceAll
-  all-longer [] l = omega arith
-  all-longer (x ∷ a) l =
-      omega (
-        arith,
-        group-longer w x (groupOf variableBasis w x 0 before emptyGroup) hw l,
-        all-longer a (one x l),
-      )
+  any-all : (a : List Tree) (l : List Row) → EachAllowed (coalesceTurn w before) Any a l
+  unfolding EachAllowed
+  any-all [] l = tt
+  any-all (b ∷ a) l = (tt, any-all a (coalesceTurn w before b l))
 
   module _ (bases : List Tree) (n : ℕ) {made₀ out₀ coeffs₀ : List ℕ} where
-    pub all-none : Room made₀ out₀
-        → Coalesced w n 0 (coalesceAll w before (take 0 bases)) made₀ out₀ coeffs₀ made₀ out₀ coeffs₀
-    unfolding coalesceAll
-    all-none room = record { room = room; rows-le = omega arith; long = refl; wide = refl; shows = λ l _ s. s }
+    pub all-none : Room made₀ out₀ → Going w before bases n 0 made₀ out₀ coeffs₀ made₀ out₀ coeffs₀
+    all-none = turns.turns-start (coalesceTurn w before) Any (ShowsMany w n) 64 bases made₀ out₀ coeffs₀
 
-    module _ (k : ℕ) {made out coeffs : List ℕ}
-        (p : Coalesced w n (k * 64) (coalesceAll w before (take k bases)) made₀ out₀ coeffs₀ made out coeffs) where
+    module _ (k : ℕ) {made out coeffs : List ℕ} (p : Going w before bases n k made₀ out₀ coeffs₀ made out coeffs) where
       pub all-next : {b : Tree} {g : Group} {made′ out′ coeffs′ : List ℕ} → drop k bases ≡ b ∷ drop (k + 1) bases
           → g ≡ groupOf variableBasis w b 0 before emptyGroup
           → Coalesced w n 64 (coalesceGroup w b g) made out coeffs made′ out′ coeffs′
-          → Coalesced w n ((k + 1) * 64) (coalesceAll w before (take (k + 1) bases)) made₀ out₀ coeffs₀ made′ out′ coeffs′
+          → Going w before bases n (k + 1) made₀ out₀ coeffs₀ made′ out′ coeffs′
+      unfolding coalesceTurn
       all-next {b} next own q =
-          coalesced-as (omega arith) (omega arith)
-          (λ l. sym (ap (λ (x : List Tree). coalesceAll w before x l) (take-next bases k next)
-          ∙ all-last (take k bases) b l))
-          (coalesced-then (λ l le. omega (arith, le, all-longer (take k bases) l)) p (coalesced-of w n 64 b own q))
+          turns.turns-next (coalesceTurn w before) Any (ShowsMany w n) 64 bases k p next (q .room) (q .rows-le)
+          (q .long) (q .wide)
+          (λ l _ s.
+          record {
+            many = omega (arith, s .many, group-longer w b (groupOf variableBasis w b 0 before emptyGroup) hw l);
+            shows = coalesced-of w n 64 b own q .shows l (s .many) (s .shows);
+          })
 
       pub all-done : k ≤ 256 → drop k bases ≡ []
           → Coalesced w n 16384 (coalesceAll w before bases) made₀ out₀ coeffs₀ made out coeffs
       all-done few none =
-          let short : length bases ≤ k = omega (arith, length-drop k bases, ap length none) in
-          coalesced-as (omega arith) (omega arith)
-          (λ l. ap (λ (x : List Tree). coalesceAll w before x l) (take-all k bases short)) p
+          record {
+            room = p .room;
+            rows-le = omega (arith, p .rows-le, few);
+            long = p .long;
+            wide = p .wide;
+            shows = λ l le s.
+                rw (← all-in-turn bases l)
+                (turns.turns-done (coalesceTurn w before) Any (ShowsMany w n) 64 bases k p none l (any-all bases l)
+                (record { many = le; shows = s }) .shows);
+          }

@@ -20,3 +20,4 @@ pub mod GatherLaws
 pub mod SettleWordsLaws
 pub mod ShownLaws
 pub mod PassLaws
+pub mod TurnsLaws

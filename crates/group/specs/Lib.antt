@@ -9,3 +9,4 @@ pub mod Bucket
 pub mod Stages
 pub mod Gathered
 pub mod Fair
+pub mod Turns

@@ -4,7 +4,7 @@
 use mathlib.Core.Path.{_≡_}
 use mathlib.Core.Logic.{_≢_}
 use Prim.Native.Nat.{ℕ, _+_, _-_, _^_, _≤_, _<_}
-use mathlib.Core.List.{List, [], _∷_}
+use mathlib.Core.List.{List, []}
 use mathlib.Core.Bool.{Bool, true, false, _&&_}
 use lib.ListN.{length, getD}
 use lib.Dec.{eqb}
@@ -20,6 +20,7 @@ use Rattle.views.specs.Grouping.{anyBasis, basesOf, ungrouped}
 use Rattle.made.specs.Made.{tableOf, Room, Held, Makes}
 use Rattle.made.specs.Shown.{Shown}
 use Rattle.group.specs.Fair.{Fair}
+use Rattle.group.specs.Turns.{EachAllowed}
 use Rattle.structure_laws.specs.RecoverStructure.{Recovery, recoverGroup, recoverAll}
 use Rattle.bare.specs.Showing.{Shows}
 use Rattle.base.specs.Limits.{groupEntries}
@@ -137,11 +138,16 @@ pub record GroupRecovered (w n : ℕ) (t : Tree) (g : Group) (made out coeffs ma
 abbrev pub oneRecovered : ℕ → List Row → Tree → List Row → ℕ → Recovery
 oneRecovered w before b l c = recoverGroup w b (recovery (groupOf anyBasis w b 0 before emptyGroup) l c)
 
-unfoldable pub AllFairRecovery : ℕ → List Row → List Tree → List Row → ℕ → Type 0
-AllFairRecovery w before [] l c = Unit {0}
-AllFairRecovery w before (b ∷ bs) l c =
-    FairRecovery l (oneRecovered w before b l c)
-    × AllFairRecovery w before bs (settledForm w (oneRecovered w before b l c) .rows) (oneRecovered w before b l c .constant)
+unfoldable pub recoverTurn : ℕ → List Row → Tree → Form → Form
+recoverTurn w before b x = settledForm w (oneRecovered w before b (x .rows) (x .constant))
+
+unfoldable pub FairTurn : ℕ → List Row → Tree → Form → Type 0
+FairTurn w before b x = FairRecovery (x .rows) (oneRecovered w before b (x .rows) (x .constant))
+
+-- each of them is fair, from the rows l and the constant c on
+abbrev pub AllFairRecovery : ℕ → List Row → List Tree → List Row → ℕ → Type 0
+AllFairRecovery w before bases l c =
+    EachAllowed (recoverTurn w before) (FairTurn w before) bases (record { bitwidth = w; constant = c; rows = l })
 
 -- all groups recovered
 pub record AllRecovered (w : ℕ) (before : List Row) (bases : List Tree) (made out coeffs made′ out′ coeffs′ : List ℕ)

@@ -29,6 +29,8 @@ use Rattle.group.proofs.ExtendsLaws.{ungrouped-extends}
 use Rattle.group.proofs.FitsLaws.{fits-fresh}
 use Rattle.structure_laws.specs.RecoverStructure.{Recovery, recoverAll, recoverForm}
 use Rattle.recover_pair.specs.Recovering.{FairRecovery, settledForm, oneRecovered, AllFairRecovery}
+use Rattle.recover_pair.specs.Recovering.{recoverTurn, FairTurn}
+use Rattle.group.specs.Turns.{EachAllowed}
 use Rattle.structure_laws.proofs.HeldLaws.{notRewritten, KeptRecovery, owedSum, kept-start}
 use Rattle.structure_laws.proofs.RecoverGroupLaws.{recover-group-keeps}
 use Rattle.structure_laws.proofs.FreshLaws.{owed-total}
@@ -90,7 +92,7 @@ module _ (w : ℕ) (hw : w ≤ 64) (vars : List ℕ) (before : List Row) (ok : r
 
   fair-all : (l : List Tree) (n : ℕ) → risingFrom n l ≡ true → (rows : List Row) (c : ℕ) → c < 2 ^ w
       → Extends w vars before rows → AllFairRecovery w before l rows c
-  unfolding AllFairRecovery settledForm
+  unfolding EachAllowed recoverTurn FairTurn settledForm
   fair-all [] n up rows c hc x = tt
   fair-all (b ∷ l) n up rows c hc x =
       let p = risen n b l up in

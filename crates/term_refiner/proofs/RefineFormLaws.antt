@@ -1,18 +1,17 @@
 -- Refining a semilinear form keeps its value and its validity.
 use mathlib.Core.Path.{_≡_, refl, ap, sym, _∙_}
-use Prim.Native.Nat.{ℕ, _+_, _*_, _^_, _≤_, _<_}
+use Prim.Native.Nat.{ℕ, _*_, _^_, _≤_, _<_}
 use native.Mathlib.Omega.{arith}
 use mathlib.Core.List.{List, [], _∷_}
 use mathlib.Core.Bool.{Bool, true, false}
 use lib.ListN.{length}
 use borrow.Author.Tests.{le-leb, lt-ltb}
-use Rattle.arith.specs.Congruence.{Eqm}
 use Rattle.arith.proofs.CongruenceLaws.{eqm-of-eq, eqm-refl, eqm-trans, eqm-add}
 use Rattle.record.specs.Tree.{Tree}
 use Rattle.expr.specs.Hash.{structuralHash}
 use Rattle.expr.specs.Value.{value}
 use Rattle.group.specs.declared.Group.{Group}
-use Rattle.semilinear.specs.Form.{Row, Form, isAtomTree, sumRows, formValue, rowsOk, fitsTable, validForm}
+use Rattle.semilinear.specs.Form.{Row, Form, isAtomTree, formValue, rowsOk, fitsTable, validForm}
 use Rattle.group.specs.Group.{Work, work, at, isLive, emptyGroup, groupOf}
 use Rattle.views.specs.Grouping.{anyBasis, basesOf, ungrouped}
 use Rattle.group.specs.Group.{settle}
@@ -28,7 +27,8 @@ use Rattle.group.proofs.WorkLaws.{Extends, extends-trans, Added, added-refl, ad
 use Rattle.group.proofs.ExtendsLaws.{ungrouped-extends}
 use Rattle.group.proofs.FitsLaws.{AllFit, fits-fresh}
 use Rattle.term_refiner.specs.RefineTerms.{refineGroup, refineAll, refineForm}
-use Rattle.term_refiner.specs.Refining.{FairWork, settledRows, oneRefined, AllFairWork}
+use Rattle.term_refiner.specs.Refining.{FairWork, settledRows, oneRefined, refineTurn, FairTurn, AllFairWork}
+use Rattle.group.specs.Turns.{EachAllowed}
 use Rattle.term_refiner.proofs.KeptLaws.{anyEntry, KeptWork, kept-start}
 use Rattle.term_refiner.proofs.RefineLaws.{refine-keeps}
 
@@ -97,7 +97,7 @@ module _ (w : ℕ) (hw : w ≤ 64) (vars : List ℕ) (before : List Row) (most :
 
   fair-steps : (bases : List Tree) (n : ℕ) → risingFrom n bases ≡ true → (rows : List Row) → Extends w vars before rows
       → AllFairWork w before bases rows
-  unfolding AllFairWork settledRows
+  unfolding EachAllowed refineTurn FairTurn settledRows
   fair-steps [] n r rows e = tt
   fair-steps (b ∷ l) n r rows e =
       let p = risen n b l r in

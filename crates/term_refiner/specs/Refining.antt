@@ -2,7 +2,7 @@
 -- and of the bytes, said for all rows that they show.
 use mathlib.Core.Path.{_≡_}
 use Prim.Native.Nat.{ℕ}
-use mathlib.Core.List.{List, [], _∷_}
+use mathlib.Core.List.{List, []}
 use lib.ListN.{length}
 use Rattle.record.specs.Tree.{Tree}
 use Rattle.semilinear.specs.Form.{Row}
@@ -12,6 +12,7 @@ use Rattle.views.specs.Grouping.{anyBasis, basesOf, ungrouped}
 use Rattle.made.specs.Made.{Room, Later, Held}
 use Rattle.made.specs.Shown.{Shown}
 use Rattle.group.specs.Fair.{Fair}
+use Rattle.group.specs.Turns.{EachAllowed}
 use Rattle.term_refiner.specs.RefineTerms.{refineGroup, refineAll}
 use Rattle.base.specs.Limits.{atomLimit}
 
@@ -36,10 +37,15 @@ pub record GroupRefined (w n : ℕ) (t : Tree) (g : Group) (made out coeffs made
 abbrev pub oneRefined : ℕ → List Row → Tree → List Row → Work
 oneRefined w before b l = refineGroup w b (work (groupOf anyBasis w b 0 before emptyGroup) l)
 
-unfoldable pub AllFairWork : ℕ → List Row → List Tree → List Row → Type 0
-AllFairWork w before [] l = Unit {0}
-AllFairWork w before (b ∷ bs) l =
-    FairWork l (oneRefined w before b l) × AllFairWork w before bs (settledRows w (oneRefined w before b l))
+unfoldable pub refineTurn : ℕ → List Row → Tree → List Row → List Row
+refineTurn w before b l = settledRows w (oneRefined w before b l)
+
+unfoldable pub FairTurn : ℕ → List Row → Tree → List Row → Type 0
+FairTurn w before b l = FairWork l (oneRefined w before b l)
+
+-- each of them is fair
+abbrev pub AllFairWork : ℕ → List Row → List Tree → List Row → Type 0
+AllFairWork w before = EachAllowed (refineTurn w before) (FairTurn w before)
 
 -- all groups refined
 pub record AllRefined (w : ℕ) (before : List Row) (bases : List Tree) (made out coeffs made′ out′ coeffs′ : List ℕ)

@@ -1,26 +1,22 @@
 -- `coalesce_all` meets its contract: after k turns k groups are coalesced.
 use mathlib.Core.Path.{sym, _∙_}
 use mathlib.Core.List.{[]}
-use Prim.Native.Nat.{_-_, _*_, _≤_}
+use Prim.Native.Nat.{_-_, _≤_}
 use native.Mathlib.Omega.{arith}
 use denote.Ref.{now}
-use lib.ListN.{take}
 use Rattle.semilinear.specs.Items.{afterAtoms}
 use Rattle.semilinear.specs.DecodeForm.{rowsOf}
 use Rattle.views.specs.Grouping.{variableBasis, basesOf}
 use Rattle.group.proofs.PassLaws.{count-few, count-room, next-at, end-at, group-at, all-at}
-use Rattle.structure_laws.specs.CoalesceTerms.{coalesceAll}
-use Rattle.coalesce.specs.Coalescing.{Coalesced}
-use Rattle.coalesce.proofs.CoalesceTurnLaws.{all-none, all-next, all-done}
+use Rattle.coalesce.proofs.CoalesceTurnLaws.{Going, all-none, all-next, all-done}
 use Rattle.coalesce.proofs.coalesce_all.Statement.{statement}
 use Rattle.coalesce.proofs.coalesce_all.Tie as tie
 
 abbrev Inv-loop : tie.InvT-loop
 Inv-loop count bases n views f w made₀ coeffs₀ out₀ k₀ made coeffs out k =
     (k ≤ count)
-    × Coalesced w n (k * 64)
-    (coalesceAll w (rowsOf 0 f (afterAtoms f)) (take k (basesOf variableBasis w (rowsOf 0 f (afterAtoms f)) [])))
-    made₀ out₀ coeffs₀ made out coeffs
+    × Going w (rowsOf 0 f (afterAtoms f)) (basesOf variableBasis w (rowsOf 0 f (afterAtoms f)) []) n k made₀ out₀
+    coeffs₀ made out coeffs
 
 abbrev μ-loop : tie.MeasureT-loop
 μ-loop count bases n views f w made₀ coeffs₀ out₀ k₀ made coeffs out k = count - k
