@@ -16,7 +16,7 @@ use Rattle.structure_laws.specs.RecoverStructure.{rowWith, withBare}
 use Rattle.structure_laws.specs.Carried.{Carried}
 use Rattle.structure_laws.specs.CoalesceTerms.{coalesceAll}
 use Rattle.bare.specs.Showing.{Shows}
-use Rattle.base.specs.Limits.{atomLimit}
+use Rattle.base.specs.Limits.{atomLimit, groupEntries}
 
 -- ---- the two arrays
 
@@ -35,6 +35,13 @@ pub record CarryReady (p count : ℕ) (carried bits : List ℕ) : Type 0 where
   pub carried-room : count < length carried
   pub bits-room : count < length bits
   pub below : (k : ℕ) → k < count → getD bits k 0 < 2 ^ p
+
+-- n entries, and room in both for what all bits carry
+pub record CarriedReady (w n : ℕ) (carried bits : List ℕ) : Type 0 where
+  pub width : w ≤ 64
+  pub few : n ≤ groupEntries
+  pub carried-long : length carried ≡ 64
+  pub bits-long : length bits ≡ 64
 
 -- the first r of both are now l
 pub record IsCarried (l : List Carried) (carried bits carried′ bits′ : List ℕ) (r : ℕ) : Type 0 where

@@ -5,12 +5,11 @@ use group::settle;
 use views::bases;
 ghost use mathlib.Core.Path.{_≡_};
 ghost use Prim.Native.Nat.{_<_, _≤_};
-ghost use lib.ListN.{length};
 ghost use Rattle.record.specs.Decode.{decode};
 ghost use Rattle.made.specs.Made.{Makes};
 ghost use Rattle.structure_laws.specs.Carried.{bitCoeff, carry, carryAt, carriedOf};
 ghost use Rattle.structure_laws.specs.CoalesceTerms.{carriedRows};
-ghost use Rattle.coalesce.specs.Coalescing.{carriedIn, CarryReady, IsCarried};
+ghost use Rattle.coalesce.specs.Coalescing.{carriedIn, CarryReady, CarriedReady, IsCarried};
 ghost use Rattle.coalesce.specs.Coalescing.{PutReady, carriedRow, Coalesced};
 ghost use Rattle.base.specs.Limits.{groupEntries};
 
@@ -89,7 +88,7 @@ pub fn carried_of<'a>(
     carried: &mut [u64],
     bits: &mut [u64],
 ) -> usize
-    requires { ⌜ (n ≤ groupEntries) × (w ≤ 64) × (length (now carried) ≡ 64) × (length (now bits) ≡ 64) ⌝ }
+    requires { ⌜ CarriedReady w n (now carried) (now bits) ⌝ }
     ensures { λ r. ⌜ IsCarried (carriedOf w (now (coeffs .entry)) (now (masks .entry)) n)
         (now (carried .entry)) (now (bits .entry)) (now (carried .exit)) (now (bits .exit)) r ⌝ }
 {

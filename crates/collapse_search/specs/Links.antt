@@ -8,6 +8,7 @@ use lib.ListN.{getD}
 use lib.Bits.{bitAnd, bitXor}
 use lib.Dec.{eqb}
 use Rattle.base.specs.Choice.{when}
+use Rattle.base.specs.Limits.{groupEntries}
 use Rattle.base.specs.Loop.{firstIn}
 use Rattle.group.specs.declared.Group.{Group}
 use Rattle.collapse_search.specs.declared.find.Two.{Two}
@@ -54,6 +55,13 @@ pub record Linked (g : Group) (m a : ℕ) (first next : List ℕ) : Type 0 where
   pub heads : (h : ℕ) → h < folds → getD first h 0 ≡ firstIn (linkFits g m h) a (g .len)
   pub links : (k : ℕ) → a ≤ k → k < g .len → apartAt g m k ≡ true
       → getD next k 0 ≡ firstIn (linkFits g m (foldOf (getD (g .coeffs) k 0))) (k + 1) (g .len)
+
+-- entries i and j are two of n, and the entries that share no bit with entry i are linked
+pub record ThirdReady (coeffs masks marks first next : List ℕ) (n i j : ℕ) : Type 0 where
+  pub few : n ≤ groupEntries
+  pub i-lt : i < n
+  pub j-lt : j < n
+  pub linked : Linked (lent coeffs masks marks n) (getD masks i 0) 0 first next
 
 -- ---- what is found
 

@@ -7,7 +7,7 @@ ghost use mathlib.Core.Bool.{false};
 ghost use Prim.Native.Nat.{ℕ, _<_, _≤_};
 ghost use lib.ListN.{length, getD, replicate};
 ghost use Rattle.collapse_search.specs.Links.{folds, foldOf, apartOf, restOf, lent, Linked};
-ghost use Rattle.collapse_search.specs.Links.{thirdIn};
+ghost use Rattle.collapse_search.specs.Links.{ThirdReady, thirdIn};
 ghost use Rattle.base.specs.Limits.{groupEntries};
 
 // How many folds there are.
@@ -110,9 +110,7 @@ pub fn third_for<'a>(
     j: usize,
     w: u32,
 ) -> usize
-    requires { ⌜ (n ≤ groupEntries) × (i < n) × (j < n)
-        × Linked (lent (now coeffs) (now masks) (now marks) n) (getD (now masks) i 0) 0
-        (now first) (now next) ⌝ }
+    requires { ⌜ ThirdReady (now coeffs) (now masks) (now marks) (now first) (now next) n i j ⌝ }
     ensures { λ r. ⌜ r ≡ thirdIn w
         (lent (now (coeffs .entry)) (now (masks .entry)) (now (marks .entry)) n) i j ⌝ }
 {

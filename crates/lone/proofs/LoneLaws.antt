@@ -18,12 +18,13 @@ use Rattle.views.specs.declared.View.{View}
 use Rattle.group.specs.Group.{emptyGroup, pushEntry}
 use Rattle.made.specs.Made.{Room}
 use Rattle.group.specs.Made.{Stepped}
+use Rattle.group.specs.Ready.{AtReady}
 use Rattle.group.specs.Stages.{cutAndDrop, mergeAll}
 use Rattle.entries.specs.Tests.{NoSingle, NoMerge}
 use Rattle.group.specs.Collapse.{threeTermCollapse}
 use Rattle.views.specs.Views.{viewAt, basisBytes, hasBasis, InGroup}
 use Rattle.group.specs.Gathered.{gatherAt, gathered, addWord, settleWordAt, settleWords}
-use Rattle.lone.specs.Lone.{loneGroup, Stays}
+use Rattle.lone.specs.Lone.{LoneReady, loneGroup, Stays}
 use Rattle.views.proofs.HasBasisLaws.{basis-same}
 use Rattle.group.proofs.GatherLaws.{gather-same, gather-push}
 use Rattle.group.proofs.SettleWordsLaws.{word-live}
@@ -95,6 +96,11 @@ some-end {w} {f} {v} h z =
 -- a row has its own basis
 pub own-basis : {w : ℕ} {f : List ℕ} (v : View) → InGroup w f v → hasBasis f v (v .hash) (basisBytes f v) ≡ true
 own-basis {f = f} v h = basis-same f v (v .hash) (basisBytes f v) refl (some-end h) ∙ eq-list-self (basisBytes f v)
+
+pub at-lone : {w k : ℕ} {f views : List ℕ} {x n : ℕ} {made out : List ℕ} → AtReady w k f views x n made out
+    → LoneReady f views (viewAt views x .hash) (basisBytes f (viewAt views x)) x n
+at-lone {views = views} {x} h =
+    record { readable = h .readable; within = h .within; has-basis = own-basis (viewAt views x) (h .in-group) }
 
 -- ---- its entry
 

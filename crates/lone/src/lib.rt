@@ -6,7 +6,7 @@ ghost use mathlib.Core.Bool.{true, false};
 ghost use Prim.Native.Nat.{ℕ, _<_, _≤_};
 ghost use Rattle.views.specs.Views.{viewAt, hasBasis, Readable};
 ghost use Rattle.group.specs.Gathered.{gathered};
-ghost use Rattle.lone.specs.Lone.{loneGroup, Stays, StaysAlone};
+ghost use Rattle.lone.specs.Lone.{LoneReady, loneGroup, Stays, StaysAlone};
 
 // Whether no row from a to below n has the basis b with this hash.
 fn none_has(a: usize, n: usize, hash: u64, b: &[u8], views: &[u64], f: &[u8]) -> bool
@@ -26,8 +26,7 @@ fn none_has(a: usize, n: usize, hash: u64, b: &[u8], views: &[u64], f: &[u8]) ->
 
 // Whether of n rows only `first`, which has it, has the basis b with this hash.
 pub fn is_lone(first: usize, n: usize, hash: u64, b: &[u8], views: &[u64], f: &[u8]) -> bool
-    requires { ⌜ Readable (now f) (now views) n × (first < n)
-        × (hasBasis (now f) (viewAt (now views) first) hash (now b) ≡ true) ⌝ }
+    requires { ⌜ LoneReady (now f) (now views) hash (now b) first n ⌝ }
     ensures { λ r. ⌜ (r ≡ true
         → gathered (now (f .entry)) (now (views .entry)) hash (now (b .entry)) n
         ≡ loneGroup (viewAt (now (views .entry)) first) first) ⌝ }
@@ -62,8 +61,7 @@ pub fn stays_alone(
     f: &[u8],
     w: u32,
 ) -> bool
-    requires { ⌜ Readable (now f) (now views) n × (first < n) × (w ≤ 64)
-        × (hasBasis (now f) (viewAt (now views) first) hash (now b) ≡ true) ⌝ }
+    requires { ⌜ (w ≤ 64) × LoneReady (now f) (now views) hash (now b) first n ⌝ }
     ensures { λ r. ⌜ (r ≡ true → StaysAlone w (now (f .entry)) (now (views .entry)) hash
         (now (b .entry)) n first) ⌝ }
 {

@@ -3,7 +3,7 @@
 -- pass a limit, and nothing else is said of them (bare/specs/Showing.antt).
 use mathlib.Core.Path.{_≡_}
 use mathlib.Core.Logic.{_≢_}
-use Prim.Native.Nat.{ℕ, _+_, _-_, _^_, _≤_, _<_}
+use Prim.Native.Nat.{ℕ, _+_, _-_, _*_, _^_, _≤_, _<_}
 use mathlib.Core.List.{List, []}
 use mathlib.Core.Bool.{Bool, true, false, _&&_}
 use lib.ListN.{length, getD}
@@ -23,7 +23,7 @@ use Rattle.group.specs.Fair.{Fair}
 use Rattle.group.specs.Turns.{EachAllowed}
 use Rattle.structure_laws.specs.RecoverStructure.{Recovery, recoverGroup, recoverAll}
 use Rattle.bare.specs.Showing.{Shows}
-use Rattle.base.specs.Limits.{groupEntries}
+use Rattle.base.specs.Limits.{groupEntries, recordLength}
 
 -- the Xor of a literal and a basis
 abbrev pub xorTree : ℕ → Tree → Tree
@@ -43,6 +43,13 @@ abbrev pub NoPartner : ℕ → List ℕ → List ℕ → ℕ → Type 0
 NoPartner full masks marks n = (i : ℕ) → i < n → n ≤ partnerIn (full - getD masks i 0) masks marks (i + 1) n
 
 -- ---- what a step asks
+
+-- the Xor of a literal and the tree of the bytes b, of `size` records, has room in out from index `at` on
+pub record TreeFits (w at size : ℕ) (b out : List ℕ) : Type 0 where
+  pub inside : at + 32 + length b ≤ length out
+  pub same : encode w (decode b) ≡ b
+  pub size-lt : size < 65536
+  pub size-is : size * recordLength ≡ length b + 32
 
 -- the Xor of a literal and the tree of the bytes b can be made
 pub record XorMakes (w : ℕ) (b made out : List ℕ) : Type 0 where

@@ -3,7 +3,6 @@ use atom_table::table;
 use atom_table::table::Table;
 use base::limits;
 ghost use mathlib.Core.Path.{_≡_};
-ghost use Prim.Native.Nat.{_+_, _*_, _<_, _≤_};
 ghost use lib.ListN.{length};
 ghost use Rattle.record.specs.Tree.{encode, Encodable};
 ghost use Rattle.base.specs.Put.{put};
@@ -12,13 +11,11 @@ ghost use Rattle.semilinear.specs.Form.{xorFamily};
 ghost use Rattle.atom_table.specs.Table.{Placed, storeOf, atomSpan, createAtom};
 ghost use Rattle.made.specs.Rows.{createRow};
 ghost use Rattle.made.specs.Made.{Grew, AtomFits};
-ghost use Rattle.recover_pair.specs.Recovering.{xorTree, XorMakes};
-ghost use Rattle.base.specs.Limits.{recordLength};
+ghost use Rattle.recover_pair.specs.Recovering.{xorTree, TreeFits, XorMakes};
 
 // Puts the Xor of the literal m and the tree b into out from index `at` on; it has `size` records.
 fn put_tree(out: &mut [u8], at: usize, b: &[u8], m: u64, size: u64, w: u8)
-    requires { ⌜ (at + 32 + length (now b) ≤ length (now out)) × (encode w (decode (now b)) ≡ now b)
-        × (size < 65536) × (size * recordLength ≡ length (now b) + 32) ⌝ }
+    requires { ⌜ TreeFits w at size (now b) (now out) ⌝ }
     ensures { λ _. ⌜ now (out .exit)
         ≡ put (now (out .entry)) at (encode w (xorTree m (decode (now (b .entry))))) ⌝ }
 {

@@ -11,6 +11,7 @@ use Rattle.semilinear_value.specs.declared.Running.{Running}
 use Rattle.semilinear.specs.Items.{isAtom, treeSpan, afterAtom}
 use Rattle.semilinear.specs.Valid.{atomsOk}
 use Rattle.semilinear.specs.DecodeForm.{coeffAt, afterTerm}
+use Rattle.semilinear.specs.Scan.{AtomsEnd}
 use Rattle.base.specs.Limits.{recordLength}
 
 -- ---- what is asked
@@ -28,6 +29,13 @@ pub record AddReady (w : ℕ) (f : List ℕ) (x : Running) : Type 0 where
   pub row : AtRow w f (x .at) (x .next)
   pub number-le : x .number ≤ x .at
   pub fits : x .sum < 2 ^ w
+
+-- f is atoms as they must be and, from `terms` on, terms; the constant is one of w bits
+pub record SumReady (w : ℕ) (f : List ℕ) (terms constant : ℕ) : Type 0 where
+  pub width : w ≤ 64
+  pub atoms-ok : atomsOk w f ≡ true
+  pub ends : AtomsEnd f terms
+  pub fits : constant < 2 ^ w
 
 -- ---- what is done
 

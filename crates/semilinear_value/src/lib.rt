@@ -3,14 +3,11 @@ use base::limits;
 use semilinear::items;
 use semilinear::scan;
 ghost use mathlib.Core.Path.{_≡_};
-ghost use mathlib.Core.Bool.{true};
-ghost use Prim.Native.Nat.{ℕ, _+_, _%_, _^_, _<_, _≤_};
+ghost use Prim.Native.Nat.{_+_, _%_, _^_};
 ghost use Rattle.semilinear.specs.Form.{sumRows};
 ghost use Rattle.semilinear.specs.Items.{afterAtoms};
-ghost use Rattle.semilinear.specs.Valid.{atomsOk};
 ghost use Rattle.semilinear.specs.DecodeForm.{rowsOf};
-ghost use Rattle.semilinear.specs.Scan.{AtomsEnd};
-ghost use Rattle.semilinear_value.specs.Running.{AddReady, RowAdded};
+ghost use Rattle.semilinear_value.specs.Running.{AddReady, SumReady, RowAdded};
 ghost use Rattle.semilinear_value.specs.Value.{IsSemilinearValue};
 
 // A sum on its way: the places of the next atom and the next term, the atom's number, and the sum so far.
@@ -55,7 +52,7 @@ impl Running {
 
 // The constant and each coefficient times its atom, modulo 2^w; the terms begin at `terms`.
 fn sum_rows(f: &[u8], terms: usize, constant: u64, vars: &[u64], w: u32) -> u64
-    requires { ⌜ (w ≤ 64) × (constant < 2 ^ w) × (atomsOk w (now f) ≡ true) × AtomsEnd (now f) terms ⌝ }
+    requires { ⌜ SumReady w (now f) terms constant ⌝ }
     ensures { λ r. ⌜ r ≡ (constant + sumRows w (now (vars .entry)) (rowsOf 0 (now (f .entry)) (afterAtoms (now (f .entry))))) % 2 ^ w ⌝ }
 {
     let mut x = Running {

@@ -12,6 +12,7 @@ use Rattle.base.specs.Put.{put}
 use Rattle.record.specs.Tree.{Tree}
 use Rattle.record.specs.Tree.Tree.{Constant}
 use Rattle.record.specs.Decode.{decode}
+use Rattle.expr_refusal.specs.Refusal.{treeRefusal}
 use Rattle.semilinear.specs.Form.{Row}
 use Rattle.semilinear.specs.Items.{atomCount}
 use Rattle.semilinear.specs.Valid.{atomsOk}
@@ -87,6 +88,13 @@ pub record Views (only : Tree → Bool) (w : ℕ) (f views : List ℕ) (rows : L
   pub each : (i : ℕ) → i < length rows → Viewed only w f (viewAt views i) (getD rows i blankRow)
 
 -- ---- reading
+
+-- the part of f from `from` to `to` is a tree that no refusal is about
+pub record ViewReady (w : ℕ) (f : List ℕ) (from to : ℕ) : Type 0 where
+  pub width : w ≤ 64
+  pub from-le : from ≤ to
+  pub to-le : to ≤ length f
+  pub accepted : treeRefusal w (take (to - from) (drop from f)) ≡ 0
 
 -- x is before an atom, and there is room for the row's view and coefficient
 pub record ReadReady (w : ℕ) (f : List ℕ) (x : Reading) (views coeffs : List ℕ) : Type 0 where

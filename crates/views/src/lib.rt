@@ -10,10 +10,9 @@ ghost use Prim.Native.Nat.{_+_, _-_, _*_, _≤_};
 ghost use lib.ListN.{length, take, drop};
 ghost use Rattle.base.specs.Put.{put};
 ghost use Rattle.record.specs.Decode.{decode};
-ghost use Rattle.expr_refusal.specs.Refusal.{treeRefusal};
 ghost use Rattle.semilinear.specs.Items.{afterAtoms};
 ghost use Rattle.semilinear.specs.DecodeForm.{rowsOf};
-ghost use Rattle.views.specs.Views.{onlyOf, viewAt, viewWords, keptOf, ViewsTree, ReadReady};
+ghost use Rattle.views.specs.Views.{onlyOf, viewAt, viewWords, keptOf, ViewsTree, ViewReady, ReadReady};
 ghost use Rattle.views.specs.Views.{RowRead, ViewsReady, ViewsRead, Readable, hasBasis};
 
 pub const VIEW_WORDS: usize = 5;
@@ -55,8 +54,7 @@ fn no_view() -> View
 // The view of an atom with the coefficient c, whose tree stands in f from `from` to `to`; `only`: only
 // variables count as bases.
 fn view_of(f: &[u8], from: usize, to: usize, c: u64, w: u8, only: bool) -> View
-    requires { ⌜ (w ≤ 64) × (from ≤ to) × (to ≤ length (now f))
-        × (treeRefusal w (take (to - from) (drop from (now f))) ≡ 0) ⌝ }
+    requires { ⌜ ViewReady w (now f) from to ⌝ }
     ensures { λ r. ⌜ ViewsTree (onlyOf only) w (now (f .entry))
         (decode (take (to - from) (drop from (now (f .entry))))) c r ⌝ }
 {

@@ -3,7 +3,7 @@ use mathlib.Core.Path.{refl}
 use denote.Ref.{now}
 use borrow.Author.Needs.{needs}
 use Rattle.views.specs.Views.{viewAt, basisBytes}
-use Rattle.lone.proofs.LoneLaws.{own-basis}
+use Rattle.lone.proofs.LoneLaws.{at-lone}
 use Rattle.group.proofs.PassLaws.{at-group}
 use Rattle.coalesce.proofs.CoalesceTurnLaws.{lone-turn}
 use Rattle.coalesce.proofs.coalesce_at.Statement.{statement}
@@ -53,10 +53,7 @@ part-is-lone-end c = c .before .before .before .before .before .before .before .
 
 is-lone-requires : tie.Need-is-lone-requires
 unfolding viewAt basisBytes
-is-lone-requires c κs =
-    let at-start = c .before .before .before .before .before .before .before .before .before in
-    let pre = at-start .pre in
-    (pre .readable, pre .within, own-basis (viewAt (now (at-start .args .views)) (at-start .args .first)) (pre .in-group))
+is-lone-requires c κs = at-lone (c .before .before .before .before .before .before .before .before .before .pre)
 
 mul-add-word : tie.Need-mul-add-word
 mul-add-word c = search needs

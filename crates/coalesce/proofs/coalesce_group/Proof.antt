@@ -63,7 +63,13 @@ carried-of-requires c κs =
     let at-gather = c .before .before .before .before .before .before in
     let at-start = at-gather .before .before .before .before .before .before .before .before .before in
     let a = at-start .args in
-    (few-entries (now (a .f)) (now (a .views)) (a .hash) (now (a .b)) (a .n) (at-gather .gather .ensures) (at-start .pre .few), at-start .pre .makes .width, refl, refl)
+    record {
+      width = at-start .pre .makes .width;
+      few = few-entries (now (a .f)) (now (a .views)) (a .hash) (now (a .b)) (a .n) (at-gather .gather .ensures)
+          (at-start .pre .few);
+      carried-long = refl;
+      bits-long = refl;
+    }
 
 settle-requires-2 : tie.Need-settle-requires-2
 settle-requires-2 c κs =

@@ -14,7 +14,7 @@ use Rattle.lone.proofs.none_has.Reads as none-has-reads
 none-has-requires : tie.Need-none-has-requires
 none-has-requires c κs =
     let pre = c .before .before .before .pre in
-    readable-fewer (pre .0) _ (omega (arith, pre .1))
+    readable-fewer (pre .readable) _ (omega (arith, pre .within))
 
 returns : tie.Need-returns
 returns c = λ e. false-true e
@@ -29,7 +29,7 @@ returns-2 : tie.Need-returns-2
 returns-2 c =
     let at-none-has = c .before .before in
     let pre = at-none-has .before .before .before .before .pre in
-    λ e. gathered-lone _ _ _ _ _ _ (pre .1) (pre .2) (at-none-has .none-has .ensures (not-false _ (c .before .if1 .left)))
+    λ e. gathered-lone _ _ _ _ _ _ (pre .within) (pre .has-basis) (at-none-has .none-has .ensures (not-false _ (c .before .if1 .left)))
     (c .none-has2 .ensures e)
 
 pub is-lone-spec : {M : Type 1} → statement M

@@ -42,12 +42,13 @@ sum-rows-requires c κs =
     let p =
     semilinear-parts _
     (accepted-semilinear _
-    (sym (at-width .before .before .semilinear-refusal .ensures) ∙ at-width .before .if1 .left)) in (
-      rw (at-width .width .ensures) (p .0 .width-le),
-      rw (c .before .before .literal .ensures, at-width .width .ensures) (p .0 .fits),
-      rw (at-width .width .ensures, c .before .body .ensures) (p .1 .atoms),
-      c .terms-at .ensures,
-    )
+    (sym (at-width .before .before .semilinear-refusal .ensures) ∙ at-width .before .if1 .left)) in
+    record {
+      width = rw (at-width .width .ensures) (p .0 .width-le);
+      atoms-ok = rw (at-width .width .ensures, c .before .body .ensures) (p .1 .atoms);
+      ends = c .terms-at .ensures;
+      fits = rw (c .before .before .literal .ensures, at-width .width .ensures) (p .0 .fits);
+    }
 
 returns-2 : tie.Need-returns-2
 returns-2 c =

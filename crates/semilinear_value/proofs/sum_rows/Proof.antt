@@ -21,8 +21,8 @@ abbrev μ-loop : tie.MeasureT-loop
 loop-holds : tie.Need-loop-holds Inv-loop μ-loop
 loop-holds c =
     let at-start = c .before .before in
-    summed-start _ _ _ (at-start .args .terms) (at-start .args .constant) (at-start .pre .1) (at-start .pre .2)
-    (at-start .pre .3)
+    summed-start _ _ _ (at-start .args .terms) (at-start .args .constant) (at-start .pre .fits) (at-start .pre .atoms-ok)
+    (at-start .pre .ends)
 
 rest-from-requires : tie.Need-rest-from-requires Inv-loop μ-loop
 rest-from-requires c κs = c .loop .inv .inside
@@ -45,7 +45,7 @@ add-row-requires c κs =
     let inv = at-loop .loop .inv in
     record {
       row = record {
-        width = at-start .pre .0;
+        width = at-start .pre .width;
         inside = inv .inside;
         terms-inside = inv .terms-inside;
         atom = ap isAtom (sym (c .before .before .rest-from .ensures))

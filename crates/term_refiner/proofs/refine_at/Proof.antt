@@ -2,7 +2,7 @@
 use denote.Ref.{now}
 use borrow.Author.Needs.{needs}
 use Rattle.views.specs.Views.{viewAt, basisBytes}
-use Rattle.lone.proofs.LoneLaws.{own-basis}
+use Rattle.lone.proofs.LoneLaws.{at-lone}
 use Rattle.group.proofs.PassLaws.{at-group}
 use Rattle.term_refiner.proofs.RefiningLaws.{lone-refined}
 use Rattle.term_refiner.proofs.refine_at.Statement.{statement}
@@ -58,9 +58,8 @@ part-stays-alone-end c = c .before .before .before .before .before .before .befo
 stays-alone-requires : tie.Need-stays-alone-requires
 unfolding viewAt basisBytes
 stays-alone-requires c κs =
-    let at-start = c .before .before .before .before .before .before .before .before .before in
-    let pre = at-start .pre in
-    (pre .readable, pre .within, pre .width, own-basis (viewAt (now (at-start .args .views)) (at-start .args .first)) (pre .in-group))
+    let pre = c .before .before .before .before .before .before .before .before .before .pre in
+    (pre .width, at-lone pre)
 
 mul-add-word : tie.Need-mul-add-word
 mul-add-word c = search needs

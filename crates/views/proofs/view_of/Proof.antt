@@ -31,7 +31,7 @@ part-decompose-atom-end c = search needs
 decompose-atom-requires : tie.Need-decompose-atom-requires
 decompose-atom-requires c κs =
     let at-start = c .before .before .before in
-    (sized-accepted _ _ (at-start .pre .3), at-start .pre .0)
+    (sized-accepted _ _ (at-start .pre .accepted), at-start .pre .width)
 
 no-view-requires-2 : tie.Need-no-view-requires-2
 no-view-requires-2 c κs = search needs
@@ -46,7 +46,7 @@ returns-2 c =
     λ x et ec.
     viewed-no-basis _ (now (at-start .args .f)) (λ i. at-shared-slice-known .shared-slice-known .given i .fits)
     (at-start .args .from) (at-start .args .to)
-    (at-start .pre .1) (at-start .pre .2) (at-start .pre .3) (at-decompose-atom .decompose-atom .ensures)
+    (at-start .pre .from-le) (at-start .pre .to-le) (at-start .pre .accepted) (at-decompose-atom .decompose-atom .ensures)
     (not-true _ (at-if2 .if2 .taken)) (at-start .args .only) x et (λ z. at-if1 .if1 .left (sym ec ∙ z)) _
     (c .no-view2 .ensures)
 
@@ -73,7 +73,7 @@ kind-requires c κs =
     let at-start = at-shared-slice-known .before in
     basis-big _ (now (at-start .args .f)) (λ i. at-shared-slice-known .shared-slice-known .given i .fits)
     (at-start .args .from) (at-start .args .to)
-    (at-start .pre .1) (at-start .pre .2) (at-start .pre .3) (at-decompose-atom .decompose-atom .ensures)
+    (at-start .pre .from-le) (at-start .pre .to-le) (at-start .pre .accepted) (at-decompose-atom .decompose-atom .ensures)
     (not-false _ (at-if2 .if2 .left)) refl
 
 no-view-requires-3 : tie.Need-no-view-requires-3
@@ -92,7 +92,7 @@ returns-3 c =
     λ x et ec.
     viewed-other _ (now (at-start .args .f)) (λ i. at-shared-slice-known .shared-slice-known .given i .fits)
     (at-start .args .from) (at-start .args .to)
-    (at-start .pre .1) (at-start .pre .2) (at-start .pre .3) (at-decompose-atom .decompose-atom .ensures)
+    (at-start .pre .from-le) (at-start .pre .to-le) (at-start .pre .accepted) (at-decompose-atom .decompose-atom .ensures)
     (not-false _ (at-if2 .if2 .left)) refl
     (at-start .args .only) x et (λ z. at-if1 .if1 .left (sym ec ∙ z)) _ (c .no-view3 .ensures) (at-if3 .if3 .taken)
     (λ k. at-if4 .if4 .taken (at-kind .kind .ensures ∙ k))
@@ -105,7 +105,7 @@ structural-hash-requires c κs =
     let at-start = at-shared-slice-known .before in
     basis-sized _ (now (at-start .args .f)) (λ i. at-shared-slice-known .shared-slice-known .given i .fits)
     (at-start .args .from) (at-start .args .to)
-    (at-start .pre .1) (at-start .pre .2) (at-start .pre .3) (at-decompose-atom .decompose-atom .ensures)
+    (at-start .pre .from-le) (at-start .pre .to-le) (at-start .pre .accepted) (at-decompose-atom .decompose-atom .ensures)
     (not-false _ (at-if2 .if2 .left)) refl
 
 returns-4 : tie.Need-returns-4
@@ -120,18 +120,18 @@ returns-4 c =
     let n : x .coeff ≡ 0 → ⊥ = λ z. at-if1 .if1 .left (sym ec ∙ z) in
     viewed-basis _ (now (at-start .args .f)) (λ i. at-shared-slice-known .shared-slice-known .given i .fits)
     (at-start .args .from) (at-start .args .to)
-    (at-start .pre .1) (at-start .pre .2) (at-start .pre .3) (at-decompose-atom .decompose-atom .ensures)
+    (at-start .pre .from-le) (at-start .pre .to-le) (at-start .pre .accepted) (at-decompose-atom .decompose-atom .ensures)
     (not-false _ (at-if2 .if2 .left)) refl
     (at-start .args .only) x et n (c .structural-hash .ensures) ec
     (⊎-elim
     (λ k. counts-variable _ (now (at-start .args .f)) (λ i. at-shared-slice-known .shared-slice-known .given i .fits)
     (at-start .args .from) (at-start .args .to)
-    (at-start .pre .1) (at-start .pre .2) (at-start .pre .3) (at-decompose-atom .decompose-atom .ensures)
+    (at-start .pre .from-le) (at-start .pre .to-le) (at-start .pre .accepted) (at-decompose-atom .decompose-atom .ensures)
     (not-false _ (at-if2 .if2 .left)) refl (at-start .args .only) x et n (k .0 .taken)
     (sym (k .1 .ensures) ∙ k .2 .left))
     (λ k. counts-any _ (now (at-start .args .f)) (λ i. at-shared-slice-known .shared-slice-known .given i .fits)
     (at-start .args .from) (at-start .args .to)
-    (at-start .pre .1) (at-start .pre .2) (at-start .pre .3) (at-decompose-atom .decompose-atom .ensures)
+    (at-start .pre .from-le) (at-start .pre .to-le) (at-start .pre .accepted) (at-decompose-atom .decompose-atom .ensures)
     (not-false _ (at-if2 .if2 .left)) refl (at-start .args .only) x et n (k .left))
     (at-if3 .if3 .came))
 

@@ -30,17 +30,17 @@ carry-at-requires c κs =
     let h = at-loop .loop in
     let cs = now (a .coeffs) in
     let ms = now (a .masks) in
-    let few = to-few (a .w) cs ms (a .n) (pre .1) (h .p) (h .count) (h .inv .1) in
+    let few = to-few (a .w) cs ms (a .n) (pre .width) (h .p) (h .count) (h .inv .1) in
     let lt = c .before .before .loop-test .taken in (
-      pre .0,
-      pre .1,
+      pre .few,
+      pre .width,
       record {
-        place = omega (arith, pre .1, lt);
-        carried-room = omega (arith, few, pre .1, lt, pre .2, h .inv .1 .long);
-        bits-room = omega (arith, few, pre .1, lt, pre .3, h .inv .1 .wide);
-        below = to-below (a .w) cs ms (a .n) (pre .1) (h .p) (h .count) (h .inv .1)
-            (omega (arith, few, pre .1, lt, pre .2, h .inv .1 .long))
-            (omega (arith, few, pre .1, lt, pre .3, h .inv .1 .wide));
+        place = omega (arith, pre .width, lt);
+        carried-room = omega (arith, few, pre .width, lt, pre .carried-long, h .inv .1 .long);
+        bits-room = omega (arith, few, pre .width, lt, pre .bits-long, h .inv .1 .wide);
+        below = to-below (a .w) cs ms (a .n) (pre .width) (h .p) (h .count) (h .inv .1)
+            (omega (arith, few, pre .width, lt, pre .carried-long, h .inv .1 .long))
+            (omega (arith, few, pre .width, lt, pre .bits-long, h .inv .1 .wide));
       },
     )
 
@@ -57,7 +57,7 @@ loop-again c =
     let a = at-start .args in
     let h = at-loop .loop in (
       omega arith,
-      carried-turn (a .w) (now (a .coeffs)) (now (a .masks)) (a .n) (at-start .pre .1) (h .p) (h .count)
+      carried-turn (a .w) (now (a .coeffs)) (now (a .masks)) (a .n) (at-start .pre .width) (h .p) (h .count)
           (h .inv .1) (c .before .before .before .before .carry-at .ensures),
     )
 
@@ -72,7 +72,7 @@ returns c =
     let at-start = c .before .before .before .before in
     let a = at-start .args in
     let h = c .before .loop in
-    carried-done (a .w) (now (a .coeffs)) (now (a .masks)) (a .n) (at-start .pre .1) (h .p) (h .count) (h .inv .1)
+    carried-done (a .w) (now (a .coeffs)) (now (a .masks)) (a .n) (at-start .pre .width) (h .p) (h .count) (h .inv .1)
     (h .inv .0) (c .loop-test .left)
 
 pub carried-of-spec : {M : Type 1} → statement M

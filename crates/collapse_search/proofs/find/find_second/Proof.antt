@@ -60,7 +60,13 @@ unfolding findSecond
 loop-holds c = (omega arith, omega arith, refl)
 
 third-for-requires : tie.Need-third-for-requires Inv-loop μ-loop
-third-for-requires c κs = (omega arith, omega arith, omega arith, c .before .before .before .before .put-links .ensures)
+third-for-requires c κs =
+    record {
+      few = omega arith;
+      i-lt = omega arith;
+      j-lt = omega arith;
+      linked = c .before .before .before .before .put-links .ensures;
+    }
 
 returns-3 : tie.Need-returns-3 Inv-loop μ-loop
 returns-3 c =

@@ -60,7 +60,7 @@ element-copy-out-k c = omega (arith, fold-below _ (c .fold .ensures))
 cast-k : tie.Need-cast-k Inv-loop μ-loop
 cast-k c =
     let start = c .before .before .before .before .before .before .before .before in
-    omega (arith, head-le (start .pre .3) _ (fold-below _ (c .before .fold .ensures)))
+    omega (arith, head-le (start .pre .linked) _ (fold-below _ (c .before .fold .ensures)))
 
 loop-holds : tie.Need-loop-holds Inv-loop μ-loop
 loop-holds c =
@@ -68,7 +68,7 @@ loop-holds c =
     let start = sums .before .before .before .before .before in
     let a = start .args in
     let g = lent (now (a .coeffs)) (now (a .masks)) (now (a .marks)) (a .n) in
-    chase-start (a .w) g (a .i) (a .j) (start .pre .3) (sums .before .before .before .if1 .left)
+    chase-start (a .w) g (a .i) (a .j) (start .pre .linked) (sums .before .before .before .if1 .left)
     (sums .mod-add .ensures) (c .before .fold .ensures) refl
 
 mul-third-fits : tie.Need-mul-third-fits Inv-loop μ-loop
@@ -93,7 +93,7 @@ returns-2 c =
     let start = sums .before .before .before .before .before in
     let a = start .args in
     let g = lent (now (a .coeffs)) (now (a .masks)) (now (a .marks)) (a .n) in
-    chase-here (a .w) g (a .i) (a .j) (start .pre .3) (turn .loop .inv) (omega arith) (sums .mod-add .ensures)
+    chase-here (a .w) g (a .i) (a .j) (start .pre .linked) (turn .loop .inv) (omega arith) (sums .mod-add .ensures)
     (c .before .third-fits .ensures) (c .if2 .taken)
 
 mul-k-2 : tie.Need-mul-k-2 Inv-loop μ-loop
@@ -108,7 +108,7 @@ cast-k-2 c =
     let start = turn .before .before .before .before .before .before .before .before .before in
     let a = start .args in
     let g = lent (now (a .coeffs)) (now (a .masks)) (now (a .marks)) (a .n) in
-    let le = chase-le (a .w) g (a .i) (a .j) (start .pre .3) (turn .loop .inv) (omega arith) in
+    let le = chase-le (a .w) g (a .i) (a .j) (start .pre .linked) (turn .loop .inv) (omega arith) in
     omega (arith, le)
 
 loop-less : tie.Need-loop-less Inv-loop μ-loop
@@ -117,7 +117,7 @@ loop-less c =
     let start = turn .before .before .before .before .before .before .before .before .before in
     let a = start .args in
     let g = lent (now (a .coeffs)) (now (a .masks)) (now (a .marks)) (a .n) in
-    let less = chase-less (a .w) g (a .i) (a .j) (start .pre .3) (turn .loop .inv) (omega arith) in
+    let less = chase-less (a .w) g (a .i) (a .j) (start .pre .linked) (turn .loop .inv) (omega arith) in
     omega (arith, less)
 
 loop-again : tie.Need-loop-again Inv-loop μ-loop
@@ -127,7 +127,7 @@ loop-again c =
     let start = sums .before .before .before .before .before in
     let a = start .args in
     let g = lent (now (a .coeffs)) (now (a .masks)) (now (a .marks)) (a .n) in
-    chase-next (a .w) g (a .i) (a .j) (start .pre .3) (turn .loop .inv) (omega arith) (sums .mod-add .ensures)
+    chase-next (a .w) g (a .i) (a .j) (start .pre .linked) (turn .loop .inv) (omega arith) (sums .mod-add .ensures)
     (c .before .before .third-fits .ensures) (c .before .if2 .left) refl
 
 returns-3 : tie.Need-returns-3 Inv-loop μ-loop

@@ -30,7 +30,7 @@ returns : tie.Need-returns
 returns c =
     let a = c .before .before .before .before .before .before .before .before .before .before .before .before .before .before .args in
     let pre = c .before .before .before .before .before .before .before .before .before .before .before .before .before .before .pre in
-    wrote-tree (a .w) (now (a .b)) (a .m) (pre .1) (now (a .out)) (a .at) (a .size) (pre .0) (pre .3)
+    wrote-tree (a .w) (now (a .b)) (a .m) (pre .same) (now (a .out)) (a .at) (a .size) (pre .inside) (pre .size-is)
     (c .before .before .before .before .before .before .before .before .before .before .put-record .ensures)
     (c .before .before .before .before .before .before .put-bytes .ensures) (c .before .before .put-record2 .ensures)
 

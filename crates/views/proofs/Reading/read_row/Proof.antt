@@ -88,18 +88,20 @@ view-of-requires : tie.Need-view-of-requires
 view-of-requires c κs =
     let a = c .before .before .before .before .before .before .before .before .before in
     let er = c .before .before .before .before .before .rest-from .ensures in
-    let en = c .before .before .before .atom-length .ensures .0 in (
-      a .pre .row .width,
-      omega (arith, c .before .before .before .atom-length .ensures .1),
-      omega (
+    let en = c .before .before .before .atom-length .ensures .0 in
+    record {
+      width = a .pre .row .width;
+      from-le = omega (arith, c .before .before .before .atom-length .ensures .1);
+      to-le = omega (
         arith,
         c .before .before .before .atom-length .ensures .2,
         ap length er,
         length-drop (a .args .self .at) (now (a .args .f)),
         a .pre .row .inside,
-      ),
-      tree-accepted (a .args .w) (now (a .args .f)) (a .args .self .at) er en (a .pre .row .atom) (a .pre .row .atoms-ok),
-    )
+      );
+      accepted = tree-accepted (a .args .w) (now (a .args .f)) (a .args .self .at) er en (a .pre .row .atom)
+          (a .pre .row .atoms-ok);
+    }
 
 put-view-requires-2 : tie.Need-put-view-requires-2
 put-view-requires-2 c κs = search needs
