@@ -31,8 +31,8 @@ use Rattle.claims.specs.Calls.{Pass, Call, refine-terms, recover-structure, coa
 use Rattle.claims.specs.Calls.{compact-atom-table, passGives, useOf, afterCall, inUse}
 use Rattle.claims.proofs.AtomsLaws.{valid-atoms}
 use Rattle.claims.proofs.CallsLaws.{pass-keeps, call-keeps, list-keeps}
-use Rattle.hogzelt.proofs.Trace.{Returned, Flattened, Parted, CallOf, refines, recovers, coalesces, flattens}
-use Rattle.hogzelt.proofs.Trace.{compacts, inUseAfter}
+use Rattle.hogzelt.proofs.Trace.{Learns, Returned, Flattened, Parted, CallOf, refines, recovers, coalesces}
+use Rattle.hogzelt.proofs.Trace.{flattens, compacts, inUseAfter}
 use Rattle.hogzelt.proofs.Trace.{Trace, none, then, sheetAfter, ColumnsOf, Claimed, Accepted}
 use Rattle.hogzelt.proofs.hogzelt_normalize_to_semilinear.Reads as normalize-reads
 
@@ -43,22 +43,26 @@ record GivesUsed (o : Outcome) (len r used : ℕ) (out : List ℕ) : Type 0 wher
   terms : ℕ
   given : Gives o len r (used ∷ terms ∷ []) out
 
+-- the number behind terms that a writer gives
+abbrev termsOf : {L : Learns} {s : List ℕ} {len r used : ℕ} {out : List ℕ} → Returned L s len r used out → ℕ
+termsOf k = now (k .exit .1 .1 .1 .0)
+
 call-gives : {s : List ℕ} {len r used : ℕ} {out : List ℕ} (p : Pass) → CallOf s len r used out p
     → GivesUsed (passGives p s len) len r used out
 unfolding passGives
 call-gives refine-terms (refines k) =
     record {
-      terms = now (k .exit .1 .1 .1 .0);
+      terms = termsOf k;
       given = rw (sym (k .reads), sym (k .sized), sym (k .uses), sym (k .writes)) (k .learnt);
     }
 call-gives recover-structure (recovers k) =
     record {
-      terms = now (k .exit .1 .1 .1 .0);
+      terms = termsOf k;
       given = rw (sym (k .reads), sym (k .sized), sym (k .uses), sym (k .writes)) (k .learnt);
     }
 call-gives coalesce-terms (coalesces k) =
     record {
-      terms = now (k .exit .1 .1 .1 .0);
+      terms = termsOf k;
       given = rw (sym (k .reads), sym (k .sized), sym (k .uses), sym (k .writes)) (k .learnt);
     }
 call-gives flatten-complex-atoms (flattens k) =
@@ -69,7 +73,7 @@ call-gives flatten-complex-atoms (flattens k) =
     }
 call-gives compact-atom-table (compacts k) =
     record {
-      terms = now (k .exit .1 .1 .1 .0);
+      terms = termsOf k;
       given = rw (sym (k .reads), sym (k .sized), sym (k .uses), sym (k .writes)) (k .learnt);
     }
 
@@ -77,7 +81,7 @@ normalize-gives : {s : List ℕ} {len r used : ℕ} {out : List ℕ} → Returne
     → GivesUsed (normalizeToSemilinear s len) len r used out
 normalize-gives k =
     record {
-      terms = now (k .exit .1 .1 .1 .0);
+      terms = termsOf k;
       given = rw (sym (k .reads), sym (k .sized), sym (k .uses), sym (k .writes)) (k .learnt);
     }
 
