@@ -19,12 +19,12 @@ use Rattle.atom_table.proofs.MadeLaws.{KeptForm, Made, made, not-made, limit-ma
 use Rattle.compaction.proofs.CompactedLaws.{compact-made}
 use Rattle.normalizer_laws.specs.Normalize.{normalizeToSemilinear}
 use Rattle.normalizer_laws.proofs.NormalizeLaws.{normalize-form}
-use Rattle.term_refiner.specs.RefineTerms.{refineForm, refineTerms}
-use Rattle.term_refiner.proofs.RefineFormLaws.{value-refine, valid-refine}
+use Rattle.refiner_laws.specs.RefineTerms.{refineForm, refineTerms}
+use Rattle.refiner_laws.proofs.RefineFormLaws.{value-refine, valid-refine}
 use Rattle.structure_laws.specs.RecoverStructure.{recoverForm, recoverStructure}
 use Rattle.structure_laws.specs.CoalesceTerms.{coalesceForm, coalesceTerms}
 use Rattle.structure_laws.specs.FlattenComplexAtoms.{flattened, flattenForm, flattenComplexAtoms}
-use Rattle.structure_recovery.proofs.RecoverLaws.{value-recover, valid-recover, width-recover}
+use Rattle.pairing.proofs.RecoverLaws.{value-recover, valid-recover, width-recover}
 use Rattle.structure_laws.proofs.CoalesceLaws.{value-coalesce, valid-coalesce}
 use Rattle.structure_laws.proofs.FlattenLaws.{value-flatten, valid-flatten}
 use Rattle.claims.specs.Calls.{Pass, Call, refine-terms, recover-structure, coalesce-terms}

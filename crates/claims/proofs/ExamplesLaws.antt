@@ -45,7 +45,7 @@ use Rattle.normalizer_laws.specs.Register.{familyOf, joinProvenance, detectProv
 use Rattle.normalizer_laws.specs.Register.{firstRow, hasTree, sharedRow, addRow, registerAtom, registerAll}
 use Rattle.group.specs.Collapse.{thirdFits, findThird, secondFits, findSecond, firstFits, findFirst}
 use Rattle.group.specs.Collapse.{collapseAt, threeTermCollapse}
-use Rattle.term_refiner.specs.RefineTerms.{refineGroup, refineAll, refineForm, refineTerms}
+use Rattle.refiner_laws.specs.RefineTerms.{refineGroup, refineAll, refineForm, refineTerms}
 use Rattle.group.specs.Steps.{remasked, cutAt, cutMasks, dropAt, dropZero, joinAt, slotFits, placeAt}
 use Rattle.group.specs.Steps.{placeBucket, insertKey, keyAt, bucketKeys, placeBuckets, bucketMerge, pairAt, pairMerge}
 use Rattle.group.specs.Steps.{minusOneAt, toMinusOne}

@@ -7,7 +7,7 @@ use Rattle.semilinear.specs.Form.{Form, encodeForm, validForm}
 use Rattle.base.specs.Outcome.{Outcome, accepted, refused}
 use Rattle.semilinear_value.specs.Value.{semilinearValue}
 use Rattle.compaction.specs.Compact.{compactAtomTable}
-use Rattle.term_refiner.specs.RefineTerms.{refineTerms}
+use Rattle.refiner_laws.specs.RefineTerms.{refineTerms}
 use Rattle.structure_laws.specs.RecoverStructure.{recoverStructure}
 use Rattle.structure_laws.specs.CoalesceTerms.{coalesceTerms}
 use Rattle.structure_laws.specs.FlattenComplexAtoms.{flattenComplexAtoms}

@@ -4,7 +4,7 @@ use mathlib.Core.List.{List, [], _∷_}
 use mathlib.Core.Bool.{true}
 use Rattle.record.specs.Tree.{Tree}
 use Rattle.record.specs.Tree.Tree.{Constant, Variable, Unary, Binary}
-use Rattle.term_refiner.specs.RefineTerms.{refineForm}
+use Rattle.refiner_laws.specs.RefineTerms.{refineForm}
 use Rattle.structure_laws.specs.RecoverStructure.{recoverForm}
 use Rattle.structure_laws.specs.CoalesceTerms.{coalesceForm}
 use Rattle.claims.specs.Example.{Example, a, b, mask, row, form, normal, refusal, pass, flat, columns}

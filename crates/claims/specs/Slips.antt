@@ -6,7 +6,7 @@ use mathlib.Core.Bool.{true, false}
 use Rattle.record.specs.Tree.{Tree}
 use Rattle.record.specs.Tree.Tree.{Constant, Variable, Unary, Binary}
 use Rattle.semilinear.specs.Form.{Row}
-use Rattle.term_refiner.specs.RefineTerms.{refineForm}
+use Rattle.refiner_laws.specs.RefineTerms.{refineForm}
 use Rattle.structure_laws.specs.RecoverStructure.{recoverForm}
 use Rattle.structure_laws.specs.CoalesceTerms.{coalesceForm}
 use Rattle.claims.specs.Example.{Example, a, b, mask, row, term, form, pass, flat, columns}

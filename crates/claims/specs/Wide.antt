@@ -6,7 +6,7 @@ use mathlib.Core.Bool.{true}
 use Rattle.record.specs.Tree.{Tree}
 use Rattle.record.specs.Tree.Tree.{Constant, Unary, Binary}
 use Rattle.semilinear.specs.Form.{Row, Form}
-use Rattle.term_refiner.specs.RefineTerms.{refineForm}
+use Rattle.refiner_laws.specs.RefineTerms.{refineForm}
 use Rattle.structure_laws.specs.RecoverStructure.{recoverForm}
 use Rattle.structure_laws.specs.CoalesceTerms.{coalesceForm}
 use Rattle.claims.specs.Example.{Example, a, mask, row, term, form, normal, pass, flat, columns}

@@ -26,9 +26,9 @@ use Rattle.lone.proofs.LoneLaws.{lone-len, settle-lone}
 use Rattle.structure_laws.specs.Carried.{Carried, carriedOf}
 use Rattle.structure_laws.specs.CoalesceTerms.{carriedRows, coalesceGroup, coalesceAll}
 use Rattle.bare.specs.Showing.{Shows}
-use Rattle.coalesce.specs.Coalescing.{carriedIn, IsCarried, Coalesced}
-use Rattle.coalesce.proofs.CarriedToLaws.{carried-few}
-use Rattle.coalesce.proofs.NewTermsLaws.{rows-past, rows-longer, coalesced-as}
+use Rattle.carried.specs.Coalescing.{carriedIn, IsCarried, Coalesced}
+use Rattle.carried.proofs.CarriedToLaws.{carried-few}
+use Rattle.carried.proofs.NewTermsLaws.{rows-past, rows-longer, coalesced-as}
 
 -- ---- one group
 

@@ -27,7 +27,7 @@ use Rattle.group.proofs.PassLaws.{held-form, pass-room, read-wide, read-shown}
 use Rattle.group.proofs.ShownLaws.{begun}
 use Rattle.views.proofs.SplitLaws.{only-variable}
 use Rattle.structure_laws.specs.CoalesceTerms.{coalesceAll, coalesceForm}
-use Rattle.coalesce.specs.Coalescing.{Coalesced, RowsCoalesced}
+use Rattle.carried.specs.Coalescing.{Coalesced, RowsCoalesced}
 use Rattle.bare.proofs.ShowsLaws.{shows-shown, shows-ends}
 
 -- ---- the rows

@@ -1,6 +1,4 @@
 // Coalescing the terms of one variable by the coefficient of each bit.
-pub mod carried;
-
 use atom_table::pass;
 use atom_table::read;
 use base::limits;
@@ -27,7 +25,7 @@ ghost use Rattle.group.specs.Gathered.{gathered};
 ghost use Rattle.group.specs.Ready.{FormReady, RowsReady, AllReady, AtReady, GroupReady};
 ghost use Rattle.structure_laws.specs.CoalesceTerms.{coalesceGroup, coalesceAll};
 ghost use Rattle.structure_laws.specs.CoalesceTerms.{coalesceForm, coalesceTerms};
-ghost use Rattle.coalesce.specs.Coalescing.{Coalesced, RowsCoalesced};
+ghost use Rattle.carried.specs.Coalescing.{Coalesced, RowsCoalesced};
 ghost use Rattle.base.specs.Limits.{atomLimit, formBytes, groupEntries, shortAtoms};
 
 // One group: the rows, of n, that have the basis b with this hash are gathered, and rewritten where

@@ -8,7 +8,7 @@ ghost use Rattle.semilinear_value.specs.Value.{IsSemilinearValue};
 ghost use Rattle.base.specs.Outcome.{flagNumber, Gives};
 ghost use Rattle.compaction.specs.Compact.{compactAtomTable};
 ghost use Rattle.normalizer_laws.specs.Normalize.{normalizeToSemilinear};
-ghost use Rattle.term_refiner.specs.RefineTerms.{refineTerms};
+ghost use Rattle.refiner_laws.specs.RefineTerms.{refineTerms};
 ghost use Rattle.structure_laws.specs.RecoverStructure.{recoverStructure};
 ghost use Rattle.structure_laws.specs.CoalesceTerms.{coalesceTerms};
 ghost use Rattle.structure_laws.specs.FlattenComplexAtoms.{flattenComplexAtoms};

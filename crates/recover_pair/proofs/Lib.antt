@@ -1,5 +1,3 @@
 -- The laws of the definitions, for the crates above.
 pub mod PairingLaws
-pub mod RecoveredLaws
 pub mod TurnedLaws
-pub mod XoredLaws

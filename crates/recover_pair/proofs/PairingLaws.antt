@@ -17,7 +17,7 @@ use Rattle.group.specs.declared.Group.{Group}
 use Rattle.group.specs.Group.{at}
 use Rattle.structure_laws.specs.RecoverStructure.{Recovery, recoverXor, eliminateMask, countOnes, recoverPair}
 use Rattle.structure_laws.specs.RecoverStructure.{isPartner, partnerOf, recoverAt, recoverGroup}
-use Rattle.recover_pair.specs.Recovering.{partnerFits, partnerIn, NoPartner}
+use Rattle.pairing.specs.Recovering.{partnerFits, partnerIn, NoPartner}
 
 -- ---- the ones of a word, as the code counts them
 

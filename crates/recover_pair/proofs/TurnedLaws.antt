@@ -17,7 +17,7 @@ use Rattle.made.specs.Rows.{createRow}
 use Rattle.made.specs.Made.{tableOf, Room, Held, Grew, Makes}
 use Rattle.group.proofs.DropLaws.{mk, mk-eq}
 use Rattle.structure_laws.specs.RecoverStructure.{Recovery, rowWith, withBare, recoverXor, eliminateMask}
-use Rattle.recover_pair.specs.Recovering.{xorTree, XorMakes, StandsRecovery, Turned, recovery}
+use Rattle.pairing.specs.Recovering.{xorTree, XorMakes, StandsRecovery, Turned, recovery}
 use Rattle.bare.specs.Showing.{BareFound}
 use Rattle.bare.proofs.ConstantLaws.{word-kept, room-kept, held-kept}
 

@@ -1,3 +1,2 @@
 // Recovering within a group: entries with complement masks.
 pub mod pair;
-pub mod xored;

@@ -23,9 +23,9 @@ use Rattle.group.proofs.ShownLaws.{settle-fits}
 use Rattle.group.proofs.TurnsLaws as turns
 use Rattle.views.proofs.SplitLaws.{only-any}
 use Rattle.structure_laws.specs.RecoverStructure.{recoverAll}
-use Rattle.recover_pair.specs.Recovering.{recovery, settledForm, ShowsForm, GroupRecovered, oneRecovered}
-use Rattle.recover_pair.specs.Recovering.{recoverTurn, FairTurn, AllRecovered, RowsRecovered}
-use Rattle.recover_pair.proofs.RecoveredLaws.{past-group}
+use Rattle.pairing.specs.Recovering.{recovery, settledForm, ShowsForm, GroupRecovered, oneRecovered}
+use Rattle.pairing.specs.Recovering.{recoverTurn, FairTurn, AllRecovered, RowsRecovered}
+use Rattle.pairing.proofs.RecoveredLaws.{past-group}
 use Rattle.bare.proofs.ShowsLaws.{shows-shown}
 
 module _ (w : ℕ) (before : List Row) where

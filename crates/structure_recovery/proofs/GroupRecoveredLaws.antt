@@ -20,11 +20,11 @@ use Rattle.group.proofs.SettleWordsLaws.{length-settle}
 use Rattle.group.proofs.ShownLaws.{settle-fits, shown-settle}
 use Rattle.lone.proofs.LoneLaws.{lone-len, settle-lone}
 use Rattle.structure_laws.specs.RecoverStructure.{Recovery, recoverGroup}
-use Rattle.recover_pair.specs.Recovering.{partnerFits, NoPartner, StandsRecovery, Recovers, Recovered}
-use Rattle.recover_pair.specs.Recovering.{recovery, FairRecovery}
-use Rattle.recover_pair.specs.Recovering.{settledForm, ShowsForm, GroupRecovered}
+use Rattle.pairing.specs.Recovering.{partnerFits, NoPartner, StandsRecovery, Recovers, Recovered}
+use Rattle.pairing.specs.Recovering.{recovery, FairRecovery}
+use Rattle.pairing.specs.Recovering.{settledForm, ShowsForm, GroupRecovered}
 use Rattle.recover_pair.proofs.PairingLaws.{group-alone}
-use Rattle.recover_pair.proofs.RecoveredLaws.{recovers-of}
+use Rattle.pairing.proofs.RecoveredLaws.{recovers-of}
 
 -- ---- the group
 

@@ -1,5 +1,4 @@
 -- The laws of the definitions, for the crates above.
-pub mod RecoverLaws
 pub mod GroupRecoveredLaws
 pub mod AllRecoveredLaws
 pub mod RecoverEndLaws

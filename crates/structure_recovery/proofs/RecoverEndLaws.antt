@@ -22,8 +22,8 @@ use Rattle.made.specs.Made.{tableOf}
 use Rattle.group.proofs.PassLaws.{held-form, pass-room}
 use Rattle.group.proofs.ShownLaws.{begun}
 use Rattle.structure_laws.specs.RecoverStructure.{recoverAll, recoverForm}
-use Rattle.recover_pair.specs.Recovering.{ShowsForm, rowsRecovered, RowsRecovered}
-use Rattle.structure_recovery.proofs.RecoverLaws.{all-fair}
+use Rattle.pairing.specs.Recovering.{ShowsForm, rowsRecovered, RowsRecovered}
+use Rattle.pairing.proofs.RecoverLaws.{all-fair}
 use Rattle.bare.proofs.ShowsLaws.{shows-ends}
 
 -- forms of the same rows that pass a limit

@@ -4,6 +4,7 @@ use atom_table::read;
 use base::limits;
 use group::Group;
 use group::settle;
+use pairing::partner;
 use recover_pair::pair;
 use semilinear::outcome;
 use semilinear::outcome::Answer;
@@ -24,7 +25,7 @@ ghost use Rattle.views.specs.Views.{viewAt, basisBytes};
 ghost use Rattle.group.specs.Gathered.{gathered};
 ghost use Rattle.group.specs.Ready.{FormReady, RowsReady, AllReady, AtReady, GroupReady};
 ghost use Rattle.structure_laws.specs.RecoverStructure.{recoverForm, recoverStructure};
-ghost use Rattle.recover_pair.specs.Recovering.{GroupRecovered, AllRecovered, RowsRecovered};
+ghost use Rattle.pairing.specs.Recovering.{GroupRecovered, AllRecovered, RowsRecovered};
 ghost use Rattle.base.specs.Limits.{atomLimit, formBytes, shortAtoms};
 
 // One group: the rows, of n, that have the basis b with this hash are gathered, the pairs of entries
@@ -50,7 +51,7 @@ fn recover_group(
     let mut g = Group::gather(n, hash, b, views, f);
     let len = g.len;
     let full = arith::bitmask(w as u32);
-    if pair::any_partner(&g.masks, &g.marks, len, full) {
+    if partner::any_partner(&g.masks, &g.marks, len, full) {
         g = pair::recover_entries(g, b, hash, w, made, out);
     }
     if made[3] == 1 {

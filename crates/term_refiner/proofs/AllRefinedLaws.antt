@@ -13,8 +13,8 @@ use Rattle.made.specs.Made.{Room}
 use Rattle.made.specs.Shown.{Shown}
 use Rattle.group.specs.Turns.{inTurn}
 use Rattle.group.proofs.TurnsLaws as turns
-use Rattle.term_refiner.specs.RefineTerms.{refineAll}
-use Rattle.term_refiner.specs.Refining.{settledRows, GroupRefined, refineTurn, FairTurn, AllRefined}
+use Rattle.refiner_laws.specs.RefineTerms.{refineAll}
+use Rattle.refiner_laws.specs.Refining.{settledRows, GroupRefined, refineTurn, FairTurn, AllRefined}
 
 module _ (w : ℕ) (before : List Row) (bases : List Tree) where
   all-in-turn : (l : List Tree) (rows : List Row) → inTurn (refineTurn w before) l rows ≡ refineAll w before l rows

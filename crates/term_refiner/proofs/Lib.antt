@@ -1,11 +1,4 @@
 -- The laws of the definitions, for the crates above.
-pub mod KeptLaws
-pub mod StepsLaws
-pub mod MergeLaws
-pub mod CollapseLaws
-pub mod RefineLaws
-pub mod RefineFormLaws
-pub mod RefiningLaws
 pub mod AllRefinedLaws
 pub mod RowsRefinedLaws
 pub mod RefinedLaws

@@ -20,9 +20,9 @@ use Rattle.semilinear.proofs.AcceptLaws.{form-valid}
 use Rattle.made.specs.Made.{tableOf}
 use Rattle.group.proofs.PassLaws.{held-form, pass-room}
 use Rattle.group.proofs.ShownLaws.{begun, shown-ends}
-use Rattle.term_refiner.specs.RefineTerms.{refineForm}
-use Rattle.term_refiner.specs.Refining.{RowsRefined}
-use Rattle.term_refiner.proofs.RefineFormLaws.{all-fair}
+use Rattle.refiner_laws.specs.RefineTerms.{refineForm}
+use Rattle.refiner_laws.specs.Refining.{RowsRefined}
+use Rattle.refiner_laws.proofs.RefineFormLaws.{all-fair}
 
 module _ (s : List ℕ) (bytes : IsBytes s) (ok : isSemilinear s ≡ true) where
   -- the end gives the refined form, or 9

@@ -11,7 +11,7 @@ use Rattle.views.specs.Grouping.{anyBasis, basesOf, ungrouped}
 use Rattle.views.specs.Views.{onlyOf, Views, ViewsRead}
 use Rattle.group.proofs.PassLaws.{read-wide, read-shown}
 use Rattle.views.proofs.SplitLaws.{only-any}
-use Rattle.term_refiner.specs.Refining.{AllRefined, RowsRefined}
+use Rattle.refiner_laws.specs.Refining.{AllRefined, RowsRefined}
 
 module _ {w : ℕ} {f coeffs views coeffs′ : List ℕ} {n : ℕ}
     (v : ViewsRead (onlyOf false) w f (rowsOf 0 f (afterAtoms f)) coeffs views coeffs′ n) where

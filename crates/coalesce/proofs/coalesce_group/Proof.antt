@@ -5,7 +5,7 @@ use denote.Ref.{now}
 use Rattle.record.specs.Decode.{decode}
 use Rattle.group.specs.Gathered.{gathered}
 use Rattle.group.proofs.PassLaws.{few-entries}
-use Rattle.coalesce.proofs.NewTermsLaws.{coalesced-full}
+use Rattle.carried.proofs.NewTermsLaws.{coalesced-full}
 use Rattle.made.proofs.WordsLaws.{is-full, makes-fewer}
 use Rattle.coalesce.proofs.CoalesceTurnLaws.{group-past, short-turn, many-turn, rewritten-turn}
 use Rattle.coalesce.proofs.CoalesceTurnLaws.{carried-count, atoms-below, coalesced-of}

@@ -4,14 +4,14 @@ use borrow.Author.Needs.{needs}
 use Rattle.views.specs.Views.{viewAt, basisBytes}
 use Rattle.lone.proofs.LoneLaws.{at-lone}
 use Rattle.group.proofs.PassLaws.{at-group}
-use Rattle.term_refiner.proofs.RefiningLaws.{lone-refined}
+use Rattle.refine_group.proofs.RefiningLaws.{lone-refined}
 use Rattle.term_refiner.proofs.refine_at.Statement.{statement}
 use Rattle.term_refiner.proofs.refine_at.Tie as tie
 use Rattle.term_refiner.proofs.refine_at.Reads as reads
 use Rattle.term_refiner.proofs.refine_at.Lts as lts
 use Rattle.lone.proofs.stays_alone.Reads as stays-alone-reads
 use Rattle.group.proofs.settle.add_word.Reads as add-word-reads
-use Rattle.term_refiner.proofs.refine_group.Reads as refine-group-reads
+use Rattle.refine_group.proofs.refine_group.Reads as refine-group-reads
 
 mul-v : tie.Need-mul-v
 mul-v c = search needs

@@ -1,6 +1,6 @@
 -- `refine_terms` meets its contract: the front door, and then the form.
 use Rattle.atom_table.proofs.ReadLaws.{pass-shut, pass-open, pass-zeros, pass-given}
-use Rattle.term_refiner.specs.RefineTerms.{refineTerms}
+use Rattle.refiner_laws.specs.RefineTerms.{refineTerms}
 use borrow.Author.Needs.{needs}
 use Rattle.term_refiner.proofs.refine_terms.Statement.{statement}
 use Rattle.term_refiner.proofs.refine_terms.Tie as tie

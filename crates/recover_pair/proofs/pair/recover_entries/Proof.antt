@@ -5,9 +5,9 @@ use native.Mathlib.Omega.{arith}
 use Rattle.record.specs.Decode.{decode}
 use Rattle.base.specs.Loop.{forIn}
 use Rattle.structure_laws.specs.RecoverStructure.{recoverAt}
-use Rattle.recover_pair.specs.Recovering.{Recovered}
+use Rattle.pairing.specs.Recovering.{Recovered}
 use Rattle.made.proofs.WordsLaws.{is-full, not-full, makes-later}
-use Rattle.recover_pair.proofs.RecoveredLaws.{recovered-start, recovered-turn, recovered-stop, recovered-done}
+use Rattle.pairing.proofs.RecoveredLaws.{recovered-start, recovered-turn, recovered-stop, recovered-done}
 use Rattle.recover_pair.proofs.pair.recover_entries.Statement.{statement}
 use Rattle.recover_pair.proofs.pair.recover_entries.Tie as tie
 

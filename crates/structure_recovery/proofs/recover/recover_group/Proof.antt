@@ -7,7 +7,7 @@ use Rattle.arith.proofs.WidthLaws.{bitmask-ones}
 use Rattle.record.specs.Decode.{decode}
 use Rattle.group.proofs.PassLaws.{few-entries}
 use Rattle.structure_laws.specs.RecoverStructure.{recoverGroup}
-use Rattle.recover_pair.specs.Recovering.{Recovered}
+use Rattle.pairing.specs.Recovering.{Recovered}
 use Rattle.made.proofs.WordsLaws.{is-full}
 use Rattle.structure_recovery.proofs.GroupRecoveredLaws.{recovered-none, recovered-met, group-past}
 use Rattle.structure_recovery.proofs.GroupRecoveredLaws.{group-settled}
@@ -19,7 +19,7 @@ use Rattle.structure_recovery.proofs.recover.recover_group.Lts as lts
 use Rattle.arith.proofs.bitmask.Reads as bitmask-reads
 use Rattle.group.proofs.Group.gather.Reads as gather-reads
 use Rattle.group.proofs.settle.settle.Reads as settle-reads
-use Rattle.recover_pair.proofs.pair.any_partner.Reads as any-partner-reads
+use Rattle.pairing.proofs.partner.any_partner.Reads as any-partner-reads
 use Rattle.recover_pair.proofs.pair.recover_entries.Reads as recover-entries-reads
 
 abbrev claims : lts.Claims

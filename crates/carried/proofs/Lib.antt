@@ -1,0 +1,4 @@
+-- Coefficients bit by bit, and the terms that they make.
+pub mod CarriedInLaws
+pub mod CarriedToLaws
+pub mod NewTermsLaws

@@ -1,0 +1,4 @@
+-- What recovering a pair needs.
+pub mod XoredLaws
+pub mod RecoveredLaws
+pub mod RecoverLaws

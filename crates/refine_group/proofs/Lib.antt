@@ -1,0 +1,2 @@
+-- Refining one group.
+pub mod RefiningLaws

@@ -1,0 +1,1 @@
+// What refining gives, and that it keeps the value.
