@@ -1,4 +1,4 @@
--- How coalescing goes through the groups (src/carried.rt, src/coalesce.rt): the coefficients with the bits that carry them
+-- How coalescing goes through the groups (src/lib.rt, coalesce/src/lib.rt): the coefficients with the bits that carry them
 -- in two lent arrays, and what a turn makes of the table, the coefficients and the bytes, said for all rows that they
 -- show.
 use mathlib.Core.Path.{_≡_}

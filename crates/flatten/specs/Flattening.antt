@@ -1,4 +1,4 @@
--- How flattening goes over the rows (src/flatten.rt): the words of the table, the bytes of its atoms and the
+-- How flattening goes over the rows (src/lib.rt): the words of the table, the bytes of its atoms and the
 -- coefficients beside them show the rows of the form that is being made; a step is said for all rows that they show.
 use mathlib.Core.Path.{_≡_}
 use Prim.Native.Nat.{ℕ, _+_, _-_, _^_, _<_, _≤_}

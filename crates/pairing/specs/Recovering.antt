@@ -1,5 +1,5 @@
--- How recovering goes through the entries of a group and through the groups (src/pair.rt, src/recover.rt): what a turn
--- makes of the group, of the words of the table with the constant, and of the bytes. Where the table is full the rows
+-- How recovering goes through the entries of a group (recover_pair) and through the groups (structure_recovery): what a
+-- turn makes of the group, of the words of the table with the constant, and of the bytes. Where the table is full the rows
 -- pass a limit, and nothing else is said of them (bare/specs/Showing.antt).
 use mathlib.Core.Path.{_≡_}
 use mathlib.Core.Logic.{_≢_}

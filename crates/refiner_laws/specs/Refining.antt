@@ -1,4 +1,4 @@
--- How refining goes through the groups (src/lib.rt): what a turn makes of the table, of the words with the coefficients
+-- How refining goes through the groups (term_refiner): what a turn makes of the table, of the words with the coefficients
 -- and of the bytes, said for all rows that they show.
 use mathlib.Core.Path.{_≡_}
 use Prim.Native.Nat.{ℕ}
