@@ -1,4 +1,4 @@
--- How the number of a bare tree is found (src/bare.rt): by hash and bytes of the atoms at the front of the table.
+-- How the number of a bare tree is found (src/lib.rt): by hash and bytes of the atoms at the front of the table.
 use Prim.Native.Nat.{ℕ, _+_}
 use mathlib.Core.List.{List}
 use mathlib.Core.Bool.{Bool, _&&_}
