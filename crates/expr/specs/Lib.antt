@@ -3,3 +3,4 @@ pub mod Value
 pub mod Hash
 pub mod Vars
 pub mod ExprValue
+pub mod Walk

@@ -7,6 +7,7 @@ ghost use lib.ListN.{length, getD, replicate};
 ghost use Rattle.record.specs.Span.{sized};
 ghost use Rattle.record.specs.Decode.{leaf, decode};
 ghost use Rattle.expr.specs.Value.{unary, binary, value};
+ghost use Rattle.expr.specs.Walk.{ValueAsks};
 ghost use Rattle.record.specs.Fields.{kind};
 ghost use Rattle.base.specs.Limits.{recordLength};
 
@@ -67,7 +68,7 @@ fn leaf_value(t: &[u8], vars: &[u64], from: u64, w: u32) -> u64
 // The value of the tree that t holds, where the variables below `from` are 0 and variable
 // `from + i` is word i.
 pub fn value_from(t: &[u8], vars: &[u64], from: u64, w: u32) -> u64
-    requires { ⌜ (sized (now t) ≡ true) × (w ≤ 64) ⌝ }
+    requires { ⌜ ValueAsks (now t) w ⌝ }
     ensures { λ r. ⌜ r
         ≡ value w (replicate from 0 ++ now (vars .entry)) (decode (now (t .entry))) ⌝ }
 {

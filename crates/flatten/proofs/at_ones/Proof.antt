@@ -19,7 +19,9 @@ slice-aggregate-value-from : tie.Need-slice-aggregate-value-from
 slice-aggregate-value-from c = search needs
 
 value-from-requires : tie.Need-value-from-requires
-value-from-requires c κs = search needs
+value-from-requires c κs =
+    let pre = c .before .before .before .pre in
+    record { whole = pre .0; width-le = pre .1 }
 
 returns : tie.Need-returns
 unfolding atOnes

@@ -61,23 +61,23 @@ claims t = (
 
 value-from-root-arity-requires : (t : ℕ)
     → value-from-lts.Need-root-arity-requires (claims t) (value-from-at t) value-from.Post
-value-from-root-arity-requires t c κs = sized-big _ (c .before .before .pre .1 .0)
+value-from-root-arity-requires t c κs = sized-big _ (c .before .before .pre .1 .whole)
 
 value-from-leaf-value-requires : (t : ℕ)
     → value-from-lts.Need-leaf-value-requires (claims t) (value-from-at t) value-from.Post
 value-from-leaf-value-requires t c κs =
     let at-start = c .before .before .before .before in
-    (sized-big _ (at-start .pre .1 .0), at-start .pre .1 .1)
+    (sized-big _ (at-start .pre .1 .whole), at-start .pre .1 .width-le)
 
 value-from-returns : (t : ℕ) → value-from-lts.Need-returns (claims t) (value-from-at t) value-from.Post
 value-from-returns t c =
     let at-start = c .before .before .before .before .before in
     rw
-    (decode-leaf (now (at-start .args .t)) (at-start .pre .1 .0) (c .before .before .root-arity .ensures)
+    (decode-leaf (now (at-start .args .t)) (at-start .pre .1 .whole) (c .before .before .root-arity .ensures)
     (c .before .if1 .taken)) (c .leaf-value .ensures)
 
 value-from-kind-requires : (t : ℕ) → value-from-lts.Need-kind-requires (claims t) (value-from-at t) value-from.Post
-value-from-kind-requires t c κs = sized-big _ (c .before .before .before .before .pre .1 .0)
+value-from-kind-requires t c κs = sized-big _ (c .before .before .before .before .pre .1 .whole)
 
 value-from-body-requires : (t : ℕ) → value-from-lts.Need-body-requires (claims t) (value-from-at t) value-from.Post
 value-from-body-requires t c κs = search needs
@@ -88,19 +88,19 @@ value-from-value-from-requires t c κs =
     let at-root-arity = c .before .before .before .before in
     let at-start = at-root-arity .before .before .before in
     let r =
-    child-body (now (at-start .args .t)) (at-start .pre .1 .0) (at-root-arity .root-arity .ensures)
+    child-body (now (at-start .args .t)) (at-start .pre .1 .whole) (at-root-arity .root-arity .ensures)
     (c .before .if2 .taken) (c .body .ensures) in
-    (omega (arith, r .falls), (r .ok, at-start .pre .1 .1))
+    (omega (arith, r .falls), record { whole = r .ok; width-le = at-start .pre .1 .width-le })
 
 value-from-amount-requires : (t : ℕ) → value-from-lts.Need-amount-requires (claims t) (value-from-at t) value-from.Post
 value-from-amount-requires t c κs =
     let at-start = c .before .before .before .before .before .before .before .before in
-    sized-big _ (at-start .pre .1 .0)
+    sized-big _ (at-start .pre .1 .whole)
 
 value-from-unary-requires : (t : ℕ) → value-from-lts.Need-unary-requires (claims t) (value-from-at t) value-from.Post
 value-from-unary-requires t c κs =
     let at-start = c .before .before .before .before .before .before .before .before .before in
-    (at-start .pre .1 .1, rw (c .before .value-from .ensures) (value-lt _ _ _))
+    (at-start .pre .1 .width-le, rw (c .before .value-from .ensures) (value-lt _ _ _))
 
 value-from-returns-2 : (t : ℕ) → value-from-lts.Need-returns-2 (claims t) (value-from-at t) value-from.Post
 unfolding value
@@ -109,7 +109,7 @@ value-from-returns-2 t c =
     let at-root-arity = at-body .before .before .before .before in
     let at-start = at-root-arity .before .before .before in
     rw
-    (decode-one (now (at-start .args .t)) (at-start .pre .1 .0) (at-root-arity .root-arity .ensures)
+    (decode-one (now (at-start .args .t)) (at-start .pre .1 .whole) (at-root-arity .root-arity .ensures)
     (at-body .before .if2 .taken) (at-body .body .ensures)) (cc)
 
 value-from-left-requires : (t : ℕ) → value-from-lts.Need-left-requires (claims t) (value-from-at t) value-from.Post
@@ -121,9 +121,9 @@ value-from-value-from-requires-2 t c κs =
     let at-if1 = c .before .before .before in
     let at-start = at-if1 .before .before .before .before in
     let r =
-    child-left (now (at-start .args .t)) (at-start .pre .1 .0) (at-if1 .before .root-arity .ensures) (at-if1 .if1 .left)
-    (c .before .if2 .left) (c .left .ensures) in
-    (omega (arith, r .falls), (r .ok, at-start .pre .1 .1))
+    child-left (now (at-start .args .t)) (at-start .pre .1 .whole) (at-if1 .before .root-arity .ensures)
+    (at-if1 .if1 .left) (c .before .if2 .left) (c .left .ensures) in
+    (omega (arith, r .falls), record { whole = r .ok; width-le = at-start .pre .1 .width-le })
 
 value-from-right-requires : (t : ℕ) → value-from-lts.Need-right-requires (claims t) (value-from-at t) value-from.Post
 value-from-right-requires t c κs = search needs
@@ -135,14 +135,14 @@ value-from-value-from-requires-3 t c κs =
     let at-root-arity = at-if2 .before .before .before in
     let at-start = at-root-arity .before .before .before in
     let r =
-    child-right (now (at-start .args .t)) (at-start .pre .1 .0) (at-root-arity .root-arity .ensures)
+    child-right (now (at-start .args .t)) (at-start .pre .1 .whole) (at-root-arity .root-arity .ensures)
     (at-if2 .before .before .if1 .left) (at-if2 .if2 .left) (c .right .ensures) in
-    (omega (arith, r .falls), (r .ok, at-start .pre .1 .1))
+    (omega (arith, r .falls), record { whole = r .ok; width-le = at-start .pre .1 .width-le })
 
 value-from-binary-requires : (t : ℕ) → value-from-lts.Need-binary-requires (claims t) (value-from-at t) value-from.Post
 value-from-binary-requires t c κs =
     let at-start = c .before .before .before .before .before .before .before .before .before .before in
-    at-start .pre .1 .1
+    at-start .pre .1 .width-le
 
 value-from-returns-3 : (t : ℕ) → value-from-lts.Need-returns-3 (claims t) (value-from-at t) value-from.Post
 unfolding value
@@ -151,7 +151,7 @@ value-from-returns-3 t c =
     let at-if1 = at-left .before .before .before in
     let at-start = at-if1 .before .before .before .before in
     rw
-    (decode-two (now (at-start .args .t)) (at-start .pre .1 .0) (at-if1 .before .root-arity .ensures)
+    (decode-two (now (at-start .args .t)) (at-start .pre .1 .whole) (at-if1 .before .root-arity .ensures)
     (at-if1 .if1 .left) (at-left .before .if2 .left) (at-left .left .ensures) (c .before .before .right .ensures)) (cc)
 
 pub +value-from-spec : {M : Type 1} → statement M
