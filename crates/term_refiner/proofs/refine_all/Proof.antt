@@ -35,11 +35,13 @@ shared-slice-read-first c =
 
 refine-at-requires : tie.Need-refine-at-requires Inv-loop μ-loop
 refine-at-requires c κs =
-    let pre = c .before .before .before .before .before .before .before .before .before .before .before .before .pre in
-    let going = c .before .before .before .before .before .loop .inv .1 in
-    let less = c .before .before .before .before .loop-test .taken in
+    let at-test = c .before .before .before .before in
+    let at-loop = at-test .before in
+    let pre = at-loop .before .before .before .before .before .before .before .pre in
+    let going = at-loop .loop .inv .1 in
+    let less = at-test .loop-test .taken in
     let few = count-few (pre .found) in
-    all-at pre (c .before .before .before .before .before .loop .k) less (going .room)
+    all-at pre (at-loop .loop .k) less (going .room)
     (omega (arith, going .rows-le, pre .made-few, less, few, pre .found .few))
 
 add-k : tie.Need-add-k Inv-loop μ-loop
@@ -50,12 +52,15 @@ loop-less c = omega (arith, c .before .before .before .before .before .before .b
 
 loop-again : tie.Need-loop-again Inv-loop μ-loop
 loop-again c =
-    let pre = c .before .before .before .before .before .before .before .before .before .before .before .before .before .before .before .before .before .before .before .pre in
-    let less = c .before .before .before .before .before .before .before .before .before .before .before .loop-test .taken in
-    let k = c .before .before .before .before .before .before .before .before .before .before .before .before .loop .k in (
+    let at-refine = c .before .before .before .before .before .before in
+    let at-test = at-refine .before .before .before .before .before in
+    let at-loop = at-test .before in
+    let pre = at-loop .before .before .before .before .before .before .before .pre in
+    let less = at-test .loop-test .taken in
+    let k = at-loop .loop .k in (
       omega (arith, less),
-      going-next _ _ _ k (c .before .before .before .before .before .before .before .before .before .before .before .before .loop .inv .1) (next-at (pre .found) k less .next)
-          (group-at (pre .found) k less) (c .before .before .before .before .before .before .refine-at .ensures),
+      going-next _ _ _ k (at-loop .loop .inv .1) (next-at (pre .found) k less .next) (group-at (pre .found) k less)
+          (at-refine .refine-at .ensures),
     )
 
 same-length : tie.Need-same-length Inv-loop μ-loop

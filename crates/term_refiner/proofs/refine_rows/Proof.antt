@@ -12,8 +12,9 @@ read-views-requires c κs =
 
 find-bases-requires : tie.Need-find-bases-requires
 find-bases-requires c κs =
-    let read = c .before .before .before .before .before .before .read-views .ensures in
-    (read-readable read, omega (arith, read-count read, c .before .before .before .before .before .before .before .before .before .before .before .before .before .before .before .pre .bases-room))
+    let at-views = c .before .before .before .before .before .before in
+    let read = at-views .read-views .ensures in
+    (read-readable read, omega (arith, read-count read, at-views .before .before .before .before .before .before .before .before .before .pre .bases-room))
 
 refine-all-requires : tie.Need-refine-all-requires
 refine-all-requires c κs =
@@ -49,9 +50,10 @@ same-length-5 c = search needs
 
 returns : tie.Need-returns
 returns c =
-    let at-views = c .before .before .before .before .before .before .before .before .before .before .before .before .before .before .before .before .before .before .before .before .before in
+    let at-all = c .before .before .before .before .before .before in
+    let at-views = at-all .before .before .before .before .before .before .before .before .before .before .before .before .before .before .before in
     let pre = at-views .before .before .before .before .before .before .before .before .before .pre in
-    rows-refined (at-views .read-views .ensures) (pre .form .clear) (pre .form .few) (c .before .before .before .before .before .before .refine-all .ensures)
+    rows-refined (at-views .read-views .ensures) (pre .form .clear) (pre .form .few) (at-all .refine-all .ensures)
 
 pub refine-rows-spec : {M : Type 1} → statement M
 refine-rows-spec =
