@@ -22,7 +22,8 @@ pub len-minus-one : (w : ℕ) (q : Group) {p : Group} → p ≡ toMinusOne w q �
 len-minus-one w q e = ap (λ (k : Group). k .len) e ∙ len-to-minus-one w q
 
 -- where nothing joins, the joins change nothing
-merge-same : {w : ℕ} (t : Tree) {g : Group} → NoMerge w (g .coeffs) (g .masks) (g .marks) (g .len) → (x : Work) → g ≡ x .group → x ≡ mergeAll w t x
+merge-same : {w : ℕ} (t : Tree) {g : Group} → NoMerge w (g .coeffs) (g .masks) (g .marks) (g .len) → (x : Work)
+    → g ≡ x .group → x ≡ mergeAll w t x
 unfolding mergeAll onGroup work
 merge-same {w} t h x e =
     let none : NoMerge w (x .group .coeffs) (x .group .masks) (x .group .marks) (x .group .len) = rw e at h in

@@ -21,14 +21,17 @@ abbrev μ-loop : tie.MeasureT-loop
 
 loop-holds : tie.Need-loop-holds Inv-loop μ-loop
 loop-holds c =
-    let a = c .before .before .before .before .before .before .args in
-    (omega arith, terms-none (a .w) (decode (now (a .b))) (now (a .carried)) (now (a .bits)) (c .before .before .before .before .before .before .pre .makes .room))
+    let at-start = c .before .before .before .before .before .before in
+    let a = at-start .args in
+    (omega arith, terms-none (a .w) (decode (now (a .b))) (now (a .carried)) (now (a .bits)) (at-start .pre .makes .room))
 
 mul-put-term : tie.Need-mul-put-term Inv-loop μ-loop
 mul-put-term c = omega (arith, c .before .before .before .before .before .before .before .before .pre .carried-room)
 
 shared-slice-read-put-term : tie.Need-shared-slice-read-put-term Inv-loop μ-loop
-shared-slice-read-put-term c = omega (arith, c .before .loop-test .taken, c .before .before .before .before .before .before .before .before .before .pre .carried-room)
+shared-slice-read-put-term c =
+    let pre = c .before .before .before .before .before .before .before .before .before .pre in
+    omega (arith, c .before .loop-test .taken, pre .carried-room)
 
 mul-put-term-2 : tie.Need-mul-put-term-2 Inv-loop μ-loop
 mul-put-term-2 c = omega (arith, c .before .before .before .before .before .before .before .before .before .pre .bits-room)

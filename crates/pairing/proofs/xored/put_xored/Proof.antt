@@ -31,7 +31,8 @@ structural-hash-requires : tie.Need-structural-hash-requires
 structural-hash-requires c κs =
     let a = c .before .before .before .before .before .before .before .before .args in
     let pre = c .before .before .before .before .before .before .before .before .pre in
-    span-sized (a .w) (now (a .b)) (a .m) (pre .1) (pre .2) (omega arith) (now (a .out)) (a .at) (pre .0 .inside) (c .before .before .before .before .put-tree .ensures)
+    span-sized (a .w) (now (a .b)) (a .m) (pre .1) (pre .2) (omega arith) (now (a .out)) (a .at) (pre .0 .inside)
+    (c .before .before .before .before .put-tree .ensures)
 
 put-record-requires : tie.Need-put-record-requires
 put-record-requires c κs = search needs

@@ -46,7 +46,8 @@ returns c =
     let a = c .before .before .before .before .before .before .before .before .before .before .before .args in
     let pre = c .before .before .before .before .before .before .before .before .before .before .before .pre in
     eliminate-turned (a .w) (decode (now (a .b))) (a .diff) (a .i) (a .j) (pre .apart)
-    (c .bitmask .ensures ∙ bitmask-ones (a .w) (pre .makes .width)) (pre .not-full) (c .before .before .before .before .before .find-or-create-bare .ensures) refl
+    (c .bitmask .ensures ∙ bitmask-ones (a .w) (pre .makes .width)) (pre .not-full)
+    (c .before .before .before .before .before .find-or-create-bare .ensures) refl
 
 pub eliminate-mask-spec : {M : Type 1} → statement M
 eliminate-mask-spec =

@@ -25,7 +25,10 @@ slice-read-if1 : tie.Need-slice-read-if1 Inv-loop μ-loop
 slice-read-if1 c = let p = c .before .before .loop .inv .2 in omega (arith, p .room .words)
 
 same-length : tie.Need-same-length Inv-loop μ-loop
-same-length c = c .before .before .before .loop .inv .2 .room .words ∙ sym (c .before .before .before .before .before .before .before .pre .makes .room .words)
+same-length c =
+    let at-loop = c .before .before .before in
+    let at-start = at-loop .before .before .before .before in
+    at-loop .loop .inv .2 .room .words ∙ sym (at-start .pre .makes .room .words)
 
 same-length-2 : tie.Need-same-length-2 Inv-loop μ-loop
 same-length-2 c = c .before .before .before .loop .inv .2 .long
@@ -72,7 +75,8 @@ same-length-4 c = c .before .loop .inv .2 .long
 returns-2 : tie.Need-returns-2 Inv-loop μ-loop
 returns-2 c =
     let inv = c .before .loop .inv in
-    recovered-done _ _ (inv .2) (inv .1) (inv .0) (omega (arith, inv .1, c .before .before .before .before .before .pre .few)) (omega (arith, c .loop-test .left))
+    recovered-done _ _ (inv .2) (inv .1) (inv .0) (omega (arith, inv .1, c .before .before .before .before .before .pre .few))
+    (omega (arith, c .loop-test .left))
 
 pub recover-entries-spec : {M : Type 1} → statement M
 recover-entries-spec =

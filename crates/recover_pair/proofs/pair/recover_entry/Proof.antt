@@ -20,8 +20,9 @@ returns c =
 
 returns-2 : tie.Need-returns-2
 returns-2 c =
-    let a = c .before .before .before .before .before .before .args in
-    turned-as (at-three (a .w) (decode (now (a .b))) (a .i) _ (c .if2 .taken)) (turned-none (c .before .before .before .before .before .before .pre .makes .room))
+    let at-start = c .before .before .before .before .before .before in
+    let a = at-start .args in
+    turned-as (at-three (a .w) (decode (now (a .b))) (a .i) _ (c .if2 .taken)) (turned-none (at-start .pre .makes .room))
 
 bitmask-requires : tie.Need-bitmask-requires
 bitmask-requires c κs = search needs
