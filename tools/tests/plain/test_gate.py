@@ -12,7 +12,13 @@ from samples import ROOT
 RT = """#!/bin/sh
 echo "rt $*" >> calls
 case "$1" in
-ci) printf '%s\\n' "arith proved" "${VERDICT:-7 passed, 0 failed}"; exit ${CI_STATUS:-0} ;;
+ci)
+    [ -z "$AT_ONCE" ] || { mkdir -p target/stamp; touch target/stamp/hogzelt; }
+    while [ -n "$AT_ONCE" ] && ! grep -q '^tests library' calls; do sleep 0.1; done
+    [ -z "$AT_ONCE" ] || echo "rt ci goes on" >> calls
+    printf '%s\\n' "arith proved" "${VERDICT:-7 passed, 0 failed}"
+    exit ${CI_STATUS:-0}
+    ;;
 staticlib) exit ${LIBRARY_STATUS:-0} ;;
 fmt) exit ${FORMAT_STATUS:-0} ;;
 esac
@@ -64,6 +70,15 @@ class Gate(unittest.TestCase):
     def test_good(self):
         self.assertEqual(self.run_gate(), (0, [CLEAN], ALL))
 
+    def test_library_beside_the_proofs(self):
+        os.makedirs(os.path.join(self.folder, "target", "stamp"))
+        self.write("target/stamp/hogzelt", "of an earlier run")
+        self.assertEqual(self.run_gate(AT_ONCE="1"), (0, [CLEAN], ALL + ["rt ci goes on"]))
+
+    def test_earlier_proofs_do_not_count(self):
+        self.write("target/stamp/hogzelt", "of an earlier run")
+        self.assertEqual(self.run_gate(), (0, [CLEAN], ALL))
+
     def test_stops_before_proving(self):
         status, _, calls = self.run_gate(FORMAT_STATUS="1")
         self.assertEqual((status, calls), (1, ALL[:1]))
@@ -80,11 +95,11 @@ class Gate(unittest.TestCase):
         status, last, calls = self.run_gate(CI_STATUS="3")
         self.assertEqual((status, calls), (3, ALL[:5]))
 
-    def test_fails_behind_the_verdict(self):
+    def test_library_fails(self):
         for env, count in (({"LIBRARY_STATUS": "1"}, 6), ({"BAD_TESTS": "library"}, 7)):
             status, last, calls = self.run_gate(**env)
             self.assertEqual((status, calls), (1, ALL[:count]))
-            self.assertIn("failed behind rt ci: ", last[0])
+            self.assertIn("failed beside rt ci: ", last[0])
             os.remove(os.path.join(self.folder, "calls"))
 
     def test_without_cc(self):
@@ -92,7 +107,7 @@ class Gate(unittest.TestCase):
         self.assertEqual(self.run_gate(), (0, [CLEAN], ALL[:5]))
         for name in ("cc", "../calls"):
             os.remove(os.path.join(self.folder, "bin", name))
-        for name in "awk bash cat chmod cp df dirname env mktemp nproc python3 rm sh tail tee true".split():
+        for name in "awk bash cat chmod cp df dirname env mktemp nproc python3 rm sh sleep tail tee touch true".split():
             found = sys.executable if name == "python3" else shutil.which(name)
             os.symlink(found, os.path.join(self.folder, "bin", name))
         self.assertEqual(self.run_gate(path="/nonexistent"), (0, [CLEAN], ALL[:5]))
