@@ -9,6 +9,9 @@
 #   run.sh stack             measure the stack and the time of the functions that walk trees
 #   run.sh bench [DOC]       time the library beside the published Rust and print one table; with DOC,
 #                            put what is printed between the marks of that document
+#   run.sh both BEFORE AFTER [SECONDS]
+#                            time two archives of the library beside each other on the same inputs, by
+#                            turns in one process, each linked at four places; 240 seconds, or SECONDS
 # compare, stack and bench build target/staticlib/libhogzelt.a with rt. Where HOGZELT_LIB names an
 # archive libhogzelt.a, that one is taken and nothing is built.
 # Status: 0 done, 1 a difference or a failure, 2 something that the harness needs is missing.
@@ -33,8 +36,9 @@ compare)
     esac
     ;;
 bench) [ $# -eq 1 ] || [ $# -eq 2 ] || stop "usage: run.sh bench [DOC]" ;;
+both) [ $# -eq 3 ] || [ $# -eq 4 ] || stop "usage: run.sh both BEFORE AFTER [SECONDS]" ;;
 test | stack) [ $# -eq 1 ] || stop "usage: run.sh $command" ;;
-*) stop "usage: run.sh vectors OUT | dump FILE [N] | test | compare [normalize | passes | lists] | stack | bench [DOC]" ;;
+*) stop "usage: run.sh vectors OUT | dump FILE [N] | test | compare [normalize | passes | lists] | stack | bench [DOC] | both BEFORE AFTER [SECONDS]" ;;
 esac
 
 command -v cargo >/dev/null 2>&1 || stop "cargo is missing"
@@ -75,5 +79,28 @@ if [ "$command" = bench ]; then
     BENCH_RUSTC=$(cd "$here" && rustc --version | cut -d' ' -f1,2)
     BENCH_MACHINE="$(nproc) $(uname -m) cores,$(sed -n 's/^model name[^:]*://p' /proc/cpuinfo | head -n 1)"
     export BENCH_BUILT BENCH_DATE BENCH_RUSTC BENCH_MACHINE
+fi
+if [ "$command" = both ]; then
+    command -v cc >/dev/null 2>&1 || stop "cc is missing"
+    work=$(mktemp -d)
+    trap 'rm -rf -- "$work"' EXIT
+    objects=()
+    for archive in "$2" -- "$3"; do
+        if [ "$archive" = -- ]; then
+            objects+=(--)
+            continue
+        fi
+        [ -f "$archive" ] || stop "there is no archive $archive"
+        # code that begins so many bytes past a multiple of 64
+        for place in 0 16 32 48; do
+            printf '.text\n.balign 64\n.fill %d, 1, 0x90\n.section .note.GNU-stack,"",@progbits\n' "$place" >"$work/place.s"
+            object=$work/${#objects[@]}.so
+            cc -c -o "$work/place.o" "$work/place.s" || exit 1
+            cc -shared -o "$object" "$work/place.o" -Wl,--whole-archive "$archive" -Wl,--no-whole-archive || exit 1
+            objects+=("$object")
+        done
+    done
+    "$here/target/release/harness" both "${4:-240}" "${objects[@]}"
+    exit
 fi
 exec "$here/target/release/harness" "$@"

@@ -29,7 +29,8 @@ pub fn classes(expressions: &[Vec<u8>]) -> Vec<Class> {
     ]
 }
 
-fn normalised(file: &[u8]) -> Vec<u8> {
+/// The bytes of an expression's form.
+pub fn normalised(file: &[u8]) -> Vec<u8> {
     let answer = normal_model::answer(file, RESULT_BYTES);
     answer.out[..answer.used as usize].to_vec()
 }

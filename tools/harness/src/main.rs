@@ -8,9 +8,7 @@ include!(concat!(env!("OUT_DIR"), "/published.rs"));
 
 #[cfg(feature = "library")]
 mod bench;
-#[cfg(feature = "library")]
 mod bench_forms;
-#[cfg(feature = "library")]
 mod bench_inputs;
 #[cfg(feature = "library")]
 mod bench_lists;
@@ -20,6 +18,7 @@ mod bench_passes;
 mod bench_rust;
 #[cfg(feature = "library")]
 mod bench_table;
+mod both;
 mod bridge;
 mod cases;
 mod collide;
@@ -99,6 +98,7 @@ fn main() -> ExitCode {
         ["dump", file, number] => {
             number_of(number).and_then(|number| dump_vectors(file, number, number))
         }
+        ["both", ref words @ ..] => both::run(words),
         #[cfg(feature = "library")]
         ["compare"] => compare::run(),
         #[cfg(feature = "library")]

@@ -140,6 +140,7 @@ pub fn right_chain(kind: u8, leaves: usize, leaf: impl Fn(usize) -> Records) -> 
 }
 
 /// `count` records of a binary kind over one of a unary kind each, whose left children grow.
+#[cfg(feature = "library")]
 pub fn left_turns(one: u8, two: u8, count: usize, leaf: Records) -> Records {
     (0..count).fold(leaf.clone(), |left, _| {
         binary(two, unary(one, 0, left), leaf.clone())
@@ -147,6 +148,7 @@ pub fn left_turns(one: u8, two: u8, count: usize, leaf: Records) -> Records {
 }
 
 /// The same, whose right children grow.
+#[cfg(feature = "library")]
 pub fn right_turns(one: u8, two: u8, count: usize, leaf: Records) -> Records {
     (0..count).fold(leaf.clone(), |right, _| {
         binary(two, leaf.clone(), unary(one, 0, right))
