@@ -86,13 +86,15 @@ flatten-atom-requires c κs =
 add-t29 : tie.Need-add-t29
 add-t29 c =
     let at-atom = c .before .before .before .before .before .before in
-    let at-start = at-atom .before .before .before .before .before .before .before .before .before .before .before .before .before .before .before .before .before in
+    let at-length = at-atom .before .before .before .before .before .before .before .before .before .before in
+    let at-start = at-length .before .before .before .before .before .before .before in
     omega (arith, at-start .pre .row .terms-inside)
 
 add-t30 : tie.Need-add-t30
 add-t30 c =
     let at-atom = c .before .before .before .before .before .before in
-    let at-start = at-atom .before .before .before .before .before .before .before .before .before .before .before .before .before .before .before .before .before in
+    let at-length = at-atom .before .before .before .before .before .before .before .before .before .before in
+    let at-start = at-length .before .before .before .before .before .before .before in
     omega (arith, at-start .pre .number-le, at-start .pre .row .inside)
 
 same-length : tie.Need-same-length
