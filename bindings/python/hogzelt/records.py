@@ -23,6 +23,7 @@ SUM, HEAD, TERM = 32, 33, 34
 PROVENANCES = "And Or Xor Not Mixed".split()
 
 RECORD = 16
+RECORD_POWER = 4  # 16 is this power of 2: records are counted without a division
 MOST_RECORDS = 1024
 MOST_ATOMS = 256
 MOST_TREE_RECORDS = 3072
@@ -145,7 +146,7 @@ def check_length(data: bytes, name: str, most: int) -> None:
         raise Fault(f"no bytes; a {name} has at least one record of {RECORD} bytes")
     if len(data) > most:
         raise Fault(f"{len(data):,} bytes; a {name} has at most {most:,}")
-    if len(data) % RECORD:
+    if len(data) & (RECORD - 1):
         raise Fault(f"{len(data):,} bytes, not a multiple of {RECORD}: a record is cut short")
 
 
@@ -154,7 +155,7 @@ def read_expression(data: bytes) -> Expression:
     that the engine refuses included."""
     check_length(data, "tangle", MOST_RECORDS * RECORD)
     width = data[4]
-    return Expression(width, read_tree(data, 0, len(data) // RECORD, width))
+    return Expression(width, read_tree(data, 0, len(data) >> RECORD_POWER, width))
 
 
 def read_tree(data: bytes, first: int, count: int, width: int) -> list[Record]:
@@ -197,7 +198,7 @@ def check_node(raw: Raw, width: int) -> None:
 def read_form(data: bytes) -> Form:
     """The semilinear form that the bytes hold, checked as the engine checks it (refusal 10)."""
     check_length(data, "sheet", FORM_BYTES)
-    count = len(data) // RECORD
+    count = len(data) >> RECORD_POWER
     width = data[4]
     atoms, number = read_atoms(data, count, width)
     terms: list[tuple[int, int]] = []

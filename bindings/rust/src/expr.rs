@@ -75,7 +75,7 @@ impl Expr {
     /// The records with a root behind them. A size that does not fit is that of an expression which
     /// is refused for its length.
     fn with_root(mut self, kind: u8, argument: u8, literal: u64) -> Self {
-        let size = (self.bytes.len() / RECORD_BYTES + 1) as u16;
+        let size = ((self.bytes.len() >> RECORD_BYTES.trailing_zeros()) + 1) as u16;
         self.bytes.extend_from_slice(&[kind, argument]);
         self.bytes.extend_from_slice(&size.to_le_bytes());
         self.bytes.extend_from_slice(&[self.width, 0, 0, 0]);

@@ -1,6 +1,5 @@
 use crate::{columns, run_pass, sheet_value, Columns, Pass, Refusal, RECORD_BYTES};
 
-pub(crate) const SUM: u8 = 32;
 pub(crate) const HEAD: u8 = 33;
 
 /// A term of a sheet: a number times an atom.
@@ -77,12 +76,13 @@ impl Sheet {
     pub fn terms(&self) -> Vec<Term<'_>> {
         let atoms = self.atoms();
         let first = self.bytes.len() - RECORD_BYTES * (self.par + 1);
-        let records = self.bytes[first..].chunks_exact(RECORD_BYTES);
-        records
-            .take_while(|record| record[0] != SUM)
-            .map(|record| Term {
-                coefficient: word(record),
-                atom: atoms[number(record)],
+        (0..self.par)
+            .map(|i| {
+                let record = &self.bytes[first + RECORD_BYTES * i..];
+                Term {
+                    coefficient: word(record),
+                    atom: atoms[number(record)],
+                }
             })
             .collect()
     }

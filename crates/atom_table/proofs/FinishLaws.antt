@@ -119,7 +119,7 @@ module _ (s : List ℕ) (h : IsBytes s) (ok : isSemilinear s ≡ true) {f : List
             record {
               placed =
                   record {
-                    place = omega (arith, at-is, size, count-is, records-is);
+                    place = found .place;
                     atoms-le = omega (arith, count-is, most);
                     records-le = omega (arith, records-is, few);
                     room = omega (arith, long);

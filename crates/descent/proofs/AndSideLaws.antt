@@ -23,31 +23,31 @@ pub and-variable : (t : Tree) → IsAnd t → hasVarDep t ≡ true → hasVarDep
 unfolding hasKind
 and-variable t e h = sym (ap hasVarDep e) ∙ h
 
-module _ (w : ℕ) (file marks : List ℕ) (l r : Tree) (b : Side) where
-  pub side-at : SideOf w file marks l r b → b .found ≡ true → SideAt w file marks b
+module _ (w : ℕ) (file marks : List ℕ) {start : ℕ} (l r : Tree) (b : Side) where
+  pub side-at : SideOf w file marks start l r b → b .found ≡ true → SideAt w file marks start b
   side-at (neither f hl hr) e = false-true (sym f ∙ e)
   side-at (at-right f hl t v a) e = a
   side-at (at-left f hl hr t v a) e = a
 
-  pub side-value-lt : SideOf w file marks l r b → b .found ≡ true → b .value < 2 ^ w
+  pub side-value-lt : SideOf w file marks start l r b → b .found ≡ true → b .value < 2 ^ w
   side-value-lt (neither f hl hr) e = false-true (sym f ∙ e)
   side-value-lt (at-right f hl t v a) e = rw v (value-lt w [] l)
   side-value-lt (at-left f hl hr t v a) e = rw v (value-lt w [] r)
 
   module _ (c : ℕ) (some : eqb c 0 ≡ false) where
-    pub and-no-side : SideOf w file marks l r b → b .found ≡ false
+    pub and-no-side : SideOf w file marks start l r b → b .found ≡ false
         → collectAnd w c l r ≡ collectAtom c (Binary 4 l r)
     and-no-side (neither f hl hr) e = and-both w c l r some hl hr
     and-no-side (at-right f hl t v a) e = false-true (sym e ∙ f)
     and-no-side (at-left f hl hr t v a) e = false-true (sym e ∙ f)
 
-    pub and-plain-side : SideOf w file marks l r b → b .found ≡ true → isNot (sideTree file b) ≡ false
+    pub and-plain-side : SideOf w file marks start l r b → b .found ≡ true → isNot (sideTree file b) ≡ false
         → collectAnd w c l r ≡ collectAtom c (Binary 4 l r)
     and-plain-side (neither f hl hr) e n = false-true (sym f ∙ e)
     and-plain-side (at-right f hl t v a) e n = and-plain-right w c l r some (sym (ap isNot t) ∙ n) hl
     and-plain-side (at-left f hl hr t v a) e n = and-plain-left w c l r some (sym (ap isNot t) ∙ n) hr
 
-    pub and-not-side : SideOf w file marks l r b → b .found ≡ true → isNot (sideTree file b) ≡ true
+    pub and-not-side : SideOf w file marks start l r b → b .found ≡ true → isNot (sideTree file b) ≡ true
         → hasVarDep l || hasVarDep r ≡ true
         → collectAnd w c l r ≡ collectNot w c (operand (sideTree file b)) (b .value)
     and-not-side (neither f hl hr) e n h = false-true (sym f ∙ e)

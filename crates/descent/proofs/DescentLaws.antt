@@ -18,7 +18,7 @@ use Rattle.descent.proofs.CollectsLaws.{ready-less}
 
 -- a side of the tree of the spot x
 pub record Down (w : ℕ) (file marks : List ℕ) (x : Spot) (b : Side) : Type 0 where
-  pub side : SideAt w file marks b
+  pub side : SideAt w file marks (x .start) b
   pub smaller : sizeOf (sideTree file b) < sizeOf (treeAt file x)
 
 -- the spot y of a side b under a coefficient c

@@ -49,7 +49,7 @@ module _ {w : ℕ} {file marks : List ℕ} {x : Spot} (at : AtSpot w file marks 
     where
       go : Here → EndsHere w (x .coeff) (treeAt file x)
       go (none f q) = q
-      go (sum two hc hv s) = false-true (sym e ∙ ap (λ (z : Way). z .found) s)
+      go (sum two hc hv s places) = false-true (sym e ∙ ap (λ (z : Way). z .found) s)
       go (other n hc hv o) = λ _ _. way-whole at o e
 
   pub down-child : b .found ≡ true → Down w file marks x (b .child)
@@ -57,7 +57,7 @@ module _ {w : ℕ} {file marks : List ℕ} {x : Spot} (at : AtSpot w file marks 
     where
       go : Here → Down w file marks x (b .child)
       go (none f q) = false-true (sym f ∙ e)
-      go (sum two hc hv s) = down-left at two (ap (λ (z : Way). z .child) s)
+      go (sum two hc hv s places) = down-left at two (ap (λ (z : Way). z .child) s)
       go (other n hc hv o) = down-way at o e
 
   -- what is collected at the child y
@@ -68,7 +68,7 @@ module _ {w : ℕ} {file marks : List ℕ} {x : Spot} (at : AtSpot w file marks 
       where
         go : Here → AllOf w file x a d f e
         go (none f q) = false-true (sym f ∙ found)
-        go (sum two hc hv s) = false-true (sym last ∙ ap (λ (z : Way). z .more) s)
+        go (sum two hc hv s places) = false-true (sym last ∙ ap (λ (z : Way). z .more) s)
         go (other n hc hv o) = way-goes at o found hw ey first last
 
     module _ (more : b .more ≡ true) where
@@ -84,17 +84,17 @@ module _ {w : ℕ} {file marks : List ℕ} {x : Spot} (at : AtSpot w file marks 
         where
           go : Here → AllOf w file x a d f e
           go (none f q) = false-true (sym f ∙ found)
-          go (sum two hc hv s) = sum-stop at two hw (ap (λ (z : Way). z .child) s) (left-spot s) first hc hv lin
+          go (sum two hc hv s places) = sum-stop at two hw (ap (λ (z : Way). z .child) s) (left-spot s) first hc hv lin
           go (other n hc hv o) = way-masked-stop at o found hw ey first more lin
 
       -- the And of the child and a literal
       module _ (not-sum : k ≡ 2 → ⊥) where
-        literal-way : WayOf w file marks k (x .coeff) (treeAt file x) b
+        literal-way : WayOf w file marks (x .start) k (x .coeff) (treeAt file x) b
         literal-way = go way
           where
-            go : Here → WayOf w file marks k (x .coeff) (treeAt file x) b
+            go : Here → WayOf w file marks (x .start) k (x .coeff) (treeAt file x) b
             go (none f q) = false-true (sym f ∙ found)
-            go (sum two hc hv s) = absurd (not-sum two)
+            go (sum two hc hv s places) = absurd (not-sum two)
             go (other n hc hv o) = o
 
         pub record Literal : Type 0 where
@@ -124,7 +124,7 @@ module _ {w : ℕ} {file marks : List ℕ} {x : Spot} (at : AtSpot w file marks 
             go : Here → (eqb (x .coeff) 0 ≡ false) × (hasVarDep (treeAt file x) ≡ true)
                 × (b ≡ record { found = true; more = true; coeff = x .coeff; child = leftSide file x })
             go (none f q) = false-true (sym f ∙ found)
-            go (sum t hc hv s) = (hc, hv, s)
+            go (sum t hc hv s places) = (hc, hv, s)
             go (other n hc hv o) = absurd (eqb-false k 2 n two)
 
         pub down-ready-right : Ready w (sizeOf (treeAt file x)) a d → e .linear ≡ true

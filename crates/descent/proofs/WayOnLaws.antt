@@ -22,9 +22,9 @@ use Rattle.descent.proofs.CollectsLaws.{ready-after, ready-less}
 use Rattle.descent.proofs.DescentLaws.{Down}
 
 module _ {w : ℕ} {file marks : List ℕ} {x : Spot} (at : AtSpot w file marks x) {k : ℕ} {b : Way}
-    (way : WayOf w file marks k (x .coeff) (treeAt file x) b) where
+    (way : WayOf w file marks (x .start) k (x .coeff) (treeAt file x) b) where
   abbrev Here : Type 0
-  Here = WayOf w file marks k (x .coeff) (treeAt file x) b
+  Here = WayOf w file marks (x .start) k (x .coeff) (treeAt file x) b
 
   -- all that is collected at the spot
   abbrev pub Done : List ℕ → Descent → List ℕ → Descent → Type 0

@@ -152,7 +152,7 @@ pub fn expr_refusal(t: &[u8]) -> u64
     if limits::EXPR_BYTES < n {
         return 1;
     }
-    if n % limits::RECORD_LENGTH != 0 {
+    if record::odd_bytes(n) != 0 {
         return 1;
     }
     let w = record::width(t);

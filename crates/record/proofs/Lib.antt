@@ -6,3 +6,4 @@ pub mod BytesLaws
 pub mod EncodeLaws
 pub mod DecodeLaws
 pub mod LeafLaws
+pub mod PlaceLaws

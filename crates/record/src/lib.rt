@@ -4,13 +4,33 @@ pub mod write;
 
 use base::limits;
 ghost use mathlib.Core.Path.{_≡_};
-ghost use Prim.Native.Nat.{ℕ, _+_, _-_, _*_, _^_, _<_, _≤_};
+ghost use Prim.Native.Nat.{ℕ, _+_, _-_, _*_, _%_, _^_, _<_, _≤_};
 ghost use lib.ListN.{length};
 ghost use Rattle.base.specs.Lists.{eqList};
 ghost use Rattle.record.specs.Fields.{u16, u32, u64, kind, byte1, varIndex, amount, size};
 ghost use Rattle.record.specs.Fields.{width, spare, literal, arity};
 ghost use Rattle.record.specs.Span.{cut, body, left, right};
 ghost use Rattle.base.specs.Limits.{recordLength, varLimit};
+
+// The length of a record is this power of 2, and the bits below it: no number needs a division.
+const LENGTH_POWER: usize = 4;
+
+const LENGTH_BITS: usize = limits::RECORD_LENGTH - 1;
+
+// The number of the record at a byte place, both counted from the same start.
+pub fn number_of(place: usize) -> usize
+    requires { ⌜ place % recordLength ≡ 0 ⌝ }
+    ensures { λ n. ⌜ recordLength * n ≡ place ⌝ }
+{
+    place >> LENGTH_POWER
+}
+
+// How many of n bytes stand behind the last whole record.
+pub fn odd_bytes(n: usize) -> usize
+    ensures { λ r. ⌜ r ≡ n % recordLength ⌝ }
+{
+    n & LENGTH_BITS
+}
 
 fn wide(x: u8) -> u64
     ensures { λ r. ⌜ (r ≡ x) × (r < 2 ^ 8) ⌝ }

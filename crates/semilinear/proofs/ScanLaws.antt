@@ -59,6 +59,7 @@ pub passed-table : (f : List ℕ) (at count records : ℕ) → Scanned f at coun
 passed-table f at count records h e =
     record {
       end = record { inside = h .inside; rest = sym (h .rest ∙ fold-done _ _ (drop at f) e) };
+      place = h .bytes;
       number = omega (arith, h .number, fold-done (λ r. 0) (λ r n. 1 + n) (drop at f) e);
       trees = omega (arith, h .trees, fold-done (λ r. 0) (λ r n. frontNumber r + n) (drop at f) e);
     }

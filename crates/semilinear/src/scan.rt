@@ -224,7 +224,7 @@ pub fn length_refused(s: &[u8]) -> bool
     if limits::FORM_BYTES < n {
         return true;
     }
-    n % limits::RECORD_LENGTH != 0
+    record::odd_bytes(n) != 0
 }
 
 // The lowest refusal of s, 0 where it is accepted.

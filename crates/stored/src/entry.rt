@@ -2,7 +2,7 @@
 use crate::answer::Answer;
 use crate::report;
 ghost use mathlib.Core.Path.{_≡_};
-ghost use Prim.Native.Nat.{_*_, _<_, _≤_};
+ghost use Prim.Native.Nat.{_+_, _-_, _*_, _%_, _^_, _<_, _≤_};
 ghost use lib.ListN.{length};
 
 // The head of an entry: its type, how many words and bytes follow, what is expected.
@@ -36,6 +36,15 @@ pub fn read_head(bytes: &[u8]) -> Head
         size,
         expected,
     }
+}
+
+// The length of an entry of n bytes behind its head: zeros fill its last 16 bytes up.
+pub fn padded(n: usize) -> usize
+    requires { ⌜ n + 15 < 2 ^ 64 ⌝ }
+    ensures { λ r. ⌜ r ≡ n + 15 - (n + 15) % 16 ⌝ }
+{
+    let up = n + 15;
+    up - record::odd_bytes(up)
 }
 
 // Reads size bytes to the front of bytes; false where the file ends before.

@@ -48,8 +48,7 @@ fn body(
         return false;
     }
     let payload = 8 * (head.words as usize) + head.size as usize;
-    let padded = (payload + 15) / 16 * 16;
-    if !entry::read_payload(bytes, padded) {
+    if !entry::read_payload(bytes, entry::padded(payload)) {
         report::malformed(at, b"the file ends in an entry");
         return false;
     }

@@ -1,7 +1,7 @@
 -- The sides of a root with two children (descent/specs/Spots.antt, `SideOf`): their trees, marks and spans, and which
--- of the three cases holds by the marks of the two.
+-- of the three cases holds by the marks of the two; and that their numbers, times 16, are their byte places.
 use mathlib.Core.Path.{_≡_, refl, ap, sym, _∙_}
-use Prim.Native.Nat.{ℕ, _+_, _-_, _≤_}
+use Prim.Native.Nat.{ℕ, _+_, _-_, _*_, _%_, _≤_}
 use native.Mathlib.Omega.{arith}
 use native.Mathlib.Nat.{sub-zero}
 use mathlib.Core.List.{List, []}
@@ -14,6 +14,7 @@ use Rattle.record.specs.Span.{cut, left, right, sized}
 use Rattle.record.specs.Decode.{decode}
 use Rattle.record.proofs.EncodeLaws.{sizeOf-pos}
 use Rattle.record.proofs.DecodeLaws.{decode-two, child-left, child-right}
+use Rattle.record.proofs.PlaceLaws.{left-bytes}
 use Rattle.expr_utils.specs.Utils.{hasVarDep, hasArith}
 use Rattle.expr.specs.Value.{value}
 use Rattle.ways.specs.declared.side.Spot.{Spot}
@@ -25,12 +26,16 @@ use Rattle.ways.proofs.MarksLaws.{length-marks, left-mark, right-mark, 
 use Rattle.ways.proofs.MarksLaws.{root-mark, mark-variable, mark-arith}
 use Rattle.ways.proofs.SpanOfLaws.{size-sized, span-sized, binary-zero, binary-one}
 use Rattle.ways.proofs.SpanOfLaws.{left-accepted, right-accepted, left-span, right-span}
-use Rattle.ways.proofs.SpanOfLaws.{span-big}
+use Rattle.ways.proofs.SpanOfLaws.{span-big, span-records}
 
 -- a tree has as many marks as records
 module _ {w : ℕ} {file marks : List ℕ} {x : Spot} (at : AtSpot w file marks x) where
   pub spot-marks : length marks ≡ sizeOf (treeAt file x)
   spot-marks = ap length (at .marks-are) ∙ length-marks (treeAt file x)
+
+  -- and 16 bytes for each
+  pub spot-places : x .start + 16 * length marks ≡ x .end
+  spot-places = omega (arith, spot-marks, span-records (at .span), at .span .rising)
 
   pub spot-some : 1 ≤ length marks
   spot-some = omega (arith, spot-marks, sizeOf-pos (treeAt file x))
@@ -83,6 +88,19 @@ module _ {w : ℕ} {file marks : List ℕ} {x : Spot} (at : AtSpot w file marks 
 
   pub left-size : {n : ℕ} {s : List ℕ} → n ≡ size s → s ≡ left span → n ≡ sizeOf l
   left-size {n} {s} h e = h ∙ size-sized s (left-sized e) ∙ ap sizeOf (ap decode e ∙ left-tree)
+
+  left-bytes-are : 16 * sizeOf l ≡ cut span
+  left-bytes-are =
+      let p = binary-zero (at .span) two in
+      let q = binary-one (at .span) two in
+      omega (arith, left-bytes span (span-sized (at .span)) refl p q, left-size refl refl)
+
+  -- the number of the right side's first record, by its place
+  pub right-number-is : {i n : ℕ} → i ≡ cut span → 16 * n ≡ i → n ≡ sizeOf l
+  right-number-is ei en = omega (arith, ei, en, left-bytes-are)
+
+  pub right-whole-is : {i : ℕ} → i ≡ cut span → i % 16 ≡ 0
+  right-whole-is ei = omega (arith, ei, left-bytes-are)
 
   pub left-value : {v : ℕ} {s : List ℕ} → v ≡ value w [] (decode s) → s ≡ left span → v ≡ value w [] l
   left-value h e = h ∙ ap (value w []) (ap decode e ∙ left-tree)
@@ -142,7 +160,7 @@ module _ {w : ℕ} {file marks : List ℕ} {x : Spot} (at : AtSpot w file marks 
         (sym (right-span file (x .start) (x .end) (at .span .rising) (at .span .inside) (span-big (at .span))))
         ∙ right-tree
 
-    pub left-side : SideAt w file marks leftSide
+    pub left-side : SideAt w file marks (x .start) leftSide
     unfolding spanOf
     left-side =
         record {
@@ -152,9 +170,10 @@ module _ {w : ℕ} {file marks : List ℕ} {x : Spot} (at : AtSpot w file marks 
           marks-are =
               rw sub-zero
               (ap (take n) all-marks ∙ left-marks (kind span) l r n en ∙ ap marksOf (sym left-side-tree));
+          places = record { from-place = omega arith; to-place = omega (arith, left-bytes-are) };
         }
 
-    pub right-side : SideAt w file marks rightSide
+    pub right-side : SideAt w file marks (x .start) rightSide
     unfolding spanOf
     right-side =
         let count : length marks - 1 - n ≡ sizeOf r = omega (arith, sides-size) in
@@ -167,10 +186,16 @@ module _ {w : ℕ} {file marks : List ℕ} {x : Spot} (at : AtSpot w file marks 
               ∙ ap (λ (b : List ℕ). take (length marks - 1 - n) (drop (sizeOf l) b)) all-marks
               ∙ right-marks (kind span) l r (length marks - 1 - n) count
               ∙ ap marksOf (sym right-side-tree);
+          places =
+              record {
+                from-place = omega (arith, left-bytes-are);
+                to-place = omega (arith, spot-places at, sides-size);
+              };
         }
 
-    pub side-right : hasVarDep l ≡ false → v ≡ value w [] l → SideOf w file marks l r rightSide
+    pub side-right : hasVarDep l ≡ false → v ≡ value w [] l → SideOf w file marks (x .start) l r rightSide
     side-right h ev = SideOf.at-right refl h right-side-tree ev right-side
 
-    pub side-left : hasVarDep l ≡ true → hasVarDep r ≡ false → v ≡ value w [] r → SideOf w file marks l r leftSide
+    pub side-left : hasVarDep l ≡ true → hasVarDep r ≡ false → v ≡ value w [] r
+        → SideOf w file marks (x .start) l r leftSide
     side-left hl hr ev = SideOf.at-left refl hl hr left-side-tree ev left-side

@@ -105,7 +105,7 @@ module _ {w : ℕ} {file : List ℕ} {start end : ℕ} (ok : Accepted w file sta
   abbrev span : List ℕ
   span = spanOf file start end
 
-  span-length : length span ≡ end - start
+  pub span-length : length span ≡ end - start
   span-length = length-span file start end (ok .inside)
 
   pub span-big : 16 ≤ length span

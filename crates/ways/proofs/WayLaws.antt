@@ -32,7 +32,7 @@ use Rattle.ways.specs.Sides.{collectLiteral, collectWhole, WayOf}
 use Rattle.ways.proofs.MarksLaws.{body-marks}
 use Rattle.ways.proofs.SpanOfLaws.{span-kind, body-accepted, tree-leaf, tree-one, binary-zero}
 use Rattle.ways.proofs.SpanOfLaws.{binary-one}
-use Rattle.ways.proofs.SideLaws.{spot-marks, split}
+use Rattle.ways.proofs.SideLaws.{spot-marks, spot-places, split}
 use Rattle.ways.proofs.TermsLaws.{not-arith, variable-one, variable-two, other-right}
 use Rattle.ways.proofs.TermsLaws.{terms-variable, terms-neg, terms-one, mul-right, mul-left}
 use Rattle.ways.proofs.TermsLaws.{mul-both, and-whole, arith-whole, both-whole, masked-right}
@@ -52,14 +52,14 @@ size-child k a t = omega arith
 
 -- ---- a root with two children
 
-module _ (w : ℕ) (file marks : List ℕ) (k c : ℕ) (l r : Tree) (hc : eqb c 0 ≡ false)
+module _ (w : ℕ) (file marks : List ℕ) (start k c : ℕ) (l r : Tree) (hc : eqb c 0 ≡ false)
     (hv : hasVarDep l || hasVarDep r ≡ true) (add : eqb k 2 ≡ false) where
   abbrev root : Tree
   root = Binary k l r
 
   -- a product
-  root-mul : k ≡ 3 → {b : Side} {d : ℕ} → SideOf w file marks l r b → d ≡ modMul c (b .value) w
-      → WayOf w file marks k c root (record { found = b .found; more = false; coeff = d; child = b })
+  root-mul : k ≡ 3 → {b : Side} {d : ℕ} → SideOf w file marks start l r b → d ≡ modMul c (b .value) w
+      → WayOf w file marks start k c root (record { found = b .found; more = false; coeff = d; child = b })
   root-mul e (SideOf.neither f hl hr) ed = WayOf.ends f (mul-both w c hc k l r add e hl hr)
   root-mul e {b} {d} (SideOf.at-right f hl tree ev side) ed =
       WayOf.goes f refl side (subst (λ (t : Tree). sizeOf t < sizeOf root) (sym tree) (size-right k l r))
@@ -70,7 +70,7 @@ module _ (w : ℕ) (file marks : List ℕ) (k c : ℕ) (l r : Tree) (hc : eqb c 
       (mul-left w c hc k l r add e hl hr
       ∙ ap₂ (collectTerms w) (ap (λ (v : ℕ). modMul c v w) (sym ev) ∙ sym ed) (sym tree))
 
-  root-and : k ≡ 4 → {b : Way} → b .found ≡ false → WayOf w file marks k c root b
+  root-and : k ≡ 4 → {b : Way} → b .found ≡ false → WayOf w file marks start k c root b
   root-and e f = WayOf.ends f (and-whole w c hc k l r add e hv)
 
   -- an Or or Xor
@@ -78,11 +78,11 @@ module _ (w : ℕ) (file marks : List ℕ) (k c : ℕ) (l r : Tree) (hc : eqb c 
     plain : isArith k ≡ false
     plain = not-arith k (eqb-false k 2 add) mul (omega arith)
 
-    root-arith : hasArith root ≡ true → {b : Way} → b .found ≡ false → WayOf w file marks k c root b
+    root-arith : hasArith root ≡ true → {b : Way} → b .found ≡ false → WayOf w file marks start k c root b
     root-arith h f = WayOf.ends f (arith-whole w c hc k l r add plain (ne-eqb k 3 mul) (ne-eqb k 4 and) hv h)
 
-    root-masked : hasArith root ≡ false → {b : Side} → SideOf w file marks l r b
-        → WayOf w file marks k c root (record { found = b .found; more = true; coeff = c; child = b })
+    root-masked : hasArith root ≡ false → {b : Side} → SideOf w file marks start l r b
+        → WayOf w file marks start k c root (record { found = b .found; more = true; coeff = c; child = b })
     root-masked h (SideOf.neither f hl hr) =
         WayOf.ends f (both-whole w c hc k l r add plain (ne-eqb k 3 mul) (ne-eqb k 4 and) hl hr h)
     root-masked h {b} (SideOf.at-right f hl tree ev side) =
@@ -126,30 +126,30 @@ module _ {w : ℕ} {file marks : List ℕ} {x : Spot} (at : AtSpot w file marks 
   sides = sym (variable-two k l r (kinds .0)) ∙ ap hasVarDep tree-is ∙ hv
 
   abbrev There : Tree → Way → Type 0
-  There t b = WayOf w file marks k (x .coeff) t b
+  There t b = WayOf w file marks (x .start) k (x .coeff) t b
 
   over : {b : Way} → There (Binary k l r) b → There (treeAt file x) b
   over {b} h = subst (λ (t : Tree). There t b) tree-is h
 
-  pub way-mul : k ≡ 3 → {b : Side} {d : ℕ} → SideOf w file marks l r b → d ≡ modMul (x .coeff) (b .value) w
+  pub way-mul : k ≡ 3 → {b : Side} {d : ℕ} → SideOf w file marks (x .start) l r b → d ≡ modMul (x .coeff) (b .value) w
       → There (treeAt file x) (record { found = b .found; more = false; coeff = d; child = b })
-  way-mul e side ed = over (root-mul w file marks k (x .coeff) l r hc sides add e side ed)
+  way-mul e side ed = over (root-mul w file marks (x .start) k (x .coeff) l r hc sides add e side ed)
 
   pub way-and : k ≡ 4 → {b : Way} → b .found ≡ false → There (treeAt file x) b
-  way-and e {b} f = over (root-and w file marks k (x .coeff) l r hc sides add e {b = b} f)
+  way-and e {b} f = over (root-and w file marks (x .start) k (x .coeff) l r hc sides add e {b = b} f)
 
   module _ (mul : k ≡ 3 → ⊥) (and : k ≡ 4 → ⊥) where
     pub way-arith : hasArith (treeAt file x) ≡ true → {b : Way} → b .found ≡ false → There (treeAt file x) b
     way-arith h {b} f =
         over
-        (root-arith w file marks k (x .coeff) l r hc sides add (kinds .0) (kinds .1) mul and (ap hasArith tree-is ∙ h)
+        (root-arith w file marks (x .start) k (x .coeff) l r hc sides add (kinds .0) (kinds .1) mul and (ap hasArith tree-is ∙ h)
         {b = b} f)
 
-    pub way-masked : hasArith (treeAt file x) ≡ false → {b : Side} → SideOf w file marks l r b
+    pub way-masked : hasArith (treeAt file x) ≡ false → {b : Side} → SideOf w file marks (x .start) l r b
         → There (treeAt file x) (record { found = b .found; more = true; coeff = x .coeff; child = b })
     way-masked h side =
         over
-        (root-masked w file marks k (x .coeff) l r hc sides add (kinds .0) (kinds .1) mul and (ap hasArith tree-is ∙ h)
+        (root-masked w file marks (x .start) k (x .coeff) l r hc sides add (kinds .0) (kinds .1) mul and (ap hasArith tree-is ∙ h)
         side)
 
 -- ---- a root with one child or none
@@ -170,7 +170,7 @@ module _ {w : ℕ} {file marks : List ℕ} {x : Spot} (at : AtSpot w file marks 
   child = decode (spanOf file (x .start) (x .end - 16))
 
   abbrev Here : Way → Type 0
-  Here b = WayOf w file marks (kind span) (x .coeff) (treeAt file x) b
+  Here b = WayOf w file marks (x .start) (kind span) (x .coeff) (treeAt file x) b
 
   one-variable : arity (kind span) ≡ 1 → hasVarDep child ≡ true
   one-variable a =
@@ -188,7 +188,7 @@ module _ {w : ℕ} {file marks : List ℕ} {x : Spot} (at : AtSpot w file marks 
     unfolding sizeOf
     only-count = spot-marks at ∙ ap sizeOf (tree-one (at .span) refl a)
 
-    only-side : SideAt w file marks only
+    only-side : SideAt w file marks (x .start) only
     unfolding spanOf
     only-side =
         record {
@@ -199,6 +199,8 @@ module _ {w : ℕ} {file marks : List ℕ} {x : Spot} (at : AtSpot w file marks 
               rw sub-zero
               (ap (take (length marks - 1)) (at .marks-are ∙ ap marksOf (tree-one (at .span) refl a))
               ∙ body-marks (kind span) (amount span) child (length marks - 1) (omega (arith, only-count)));
+          places =
+              record { from-place = omega arith; to-place = omega (arith, spot-places at, only-count) };
         }
 
     only-size : sizeOf child < sizeOf (treeAt file x)

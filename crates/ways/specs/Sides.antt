@@ -1,7 +1,7 @@
 -- Where the descent stands in the file and where it can go on from there: a subtree with its marks, the sides of a root
 -- with two children, and how what is collected below makes up what is collected here.
 use mathlib.Core.Path.{_≡_}
-use Prim.Native.Nat.{ℕ, _+_, _-_, _^_, _≤_, _<_}
+use Prim.Native.Nat.{ℕ, _+_, _-_, _*_, _^_, _≤_, _<_}
 use mathlib.Core.List.{List, []}
 use mathlib.Core.Bool.{Bool, true, false}
 use lib.ListN.{length}
@@ -10,8 +10,8 @@ use Rattle.arith.specs.Width.{modMul}
 use Rattle.base.specs.Choice.{when}
 use Rattle.record.specs.Tree.{Tree, sizeOf}
 use Rattle.record.specs.Tree.Tree.{Constant, Variable, Unary, Binary}
-use Rattle.record.specs.Fields.{kind, size}
-use Rattle.record.specs.Span.{cut, left}
+use Rattle.record.specs.Fields.{kind, size, arity}
+use Rattle.record.specs.Span.{cut, left, sized}
 use Rattle.record.specs.Decode.{decode}
 use Rattle.expr_utils.specs.Utils.{hasVarDep, hasArith}
 use Rattle.expr.specs.Value.{value}
@@ -46,20 +46,25 @@ pub record AtRoot (w : ℕ) (file marks : List ℕ) (x : Spot) (k : ℕ) : Type 
 
 -- ---- the sides of a root
 
--- what `right_side` asks: a root with two children, whose left one has a record, and marks
-pub record RightRoom (file marks : List ℕ) (x : Spot) : Type 0 where
+-- what `left_side` and `right_side` ask: the bytes of a root with two children
+pub record TwoSides (file : List ℕ) (x : Spot) : Type 0 where
   pub rising : x .start ≤ x .end
   pub inside : x .end ≤ length file
-  pub some : 1 ≤ length marks
-  pub left-long : recordLength ≤ length (left (spanOf file (x .start) (x .end)))
-  pub root : recordLength ≤ x .end
+  pub whole : sized (spanOf file (x .start) (x .end)) ≡ true
+  pub two : arity (kind (spanOf file (x .start) (x .end))) ≡ 2
 
--- the side b of a root: a part of the file with its marks
-pub record SideAt (w : ℕ) (file marks : List ℕ) (b : Side) : Type 0 where
+-- the records of a side by number, counted from the byte `start` of the file on: a number, times 16, is the byte place
+pub record Places (start : ℕ) (b : Side) : Type 0 where
+  pub from-place : start + recordLength * b .from ≡ b .start
+  pub to-place : start + recordLength * b .to ≡ b .end
+
+-- the side b of a root whose bytes begin at `start`: a part of the file with its marks
+pub record SideAt (w : ℕ) (file marks : List ℕ) (start : ℕ) (b : Side) : Type 0 where
   pub span : Accepted w file (b .start) (b .end)
   pub from-le : b .from ≤ b .to
   pub to-le : b .to ≤ length marks
   pub marks-are : spanOf marks (b .from) (b .to) ≡ marksOf (decode (spanOf file (b .start) (b .end)))
+  pub places : Places start b
 
 -- the tree of a side
 abbrev pub sideTree : List ℕ → Side → Tree
@@ -119,13 +124,13 @@ rightSide file marks x =
 abbrev pub IsAnd : Tree → Type 0
 IsAnd t = t ≡ Binary 4 (leftOf t) (rightOf t)
 
--- the side with a variable of a root over l and r, where the other has none
-pub data SideOf (w : ℕ) (file marks : List ℕ) (l r : Tree) (b : Side) : Type 0 where
-  neither : b .found ≡ false → hasVarDep l ≡ true → hasVarDep r ≡ true → SideOf w file marks l r b
+-- the side with a variable of a root over l and r, where the other has none; the root's bytes begin at `start`
+pub data SideOf (w : ℕ) (file marks : List ℕ) (start : ℕ) (l r : Tree) (b : Side) : Type 0 where
+  neither : b .found ≡ false → hasVarDep l ≡ true → hasVarDep r ≡ true → SideOf w file marks start l r b
   at-right : b .found ≡ true → hasVarDep l ≡ false → sideTree file b ≡ r → b .value ≡ value w [] l
-      → SideAt w file marks b → SideOf w file marks l r b
+      → SideAt w file marks start b → SideOf w file marks start l r b
   at-left : b .found ≡ true → hasVarDep l ≡ true → hasVarDep r ≡ false → sideTree file b ≡ l → b .value ≡ value w [] r
-      → SideAt w file marks b → SideOf w file marks l r b
+      → SideAt w file marks start b → SideOf w file marks start l r b
 
 -- what a tree with a variable is collected as where the descent ends at it
 unfoldable pub collectWhole : ℕ → ℕ → Tree → Collected
@@ -138,18 +143,19 @@ collectWhole w c (Binary k l r) =
     (λ _. when (eqb k 4) (λ _. collectAnd w c l r) (λ _. collectAtom c (Binary k l r)))
 
 -- how the descent goes on at a tree t of kind k with a variable that is no Add, under a coefficient c other than 0: it
--- ends there, or goes to one child, or to one child and then to the And of it and a literal
-pub data WayOf (w : ℕ) (file marks : List ℕ) (k c : ℕ) (t : Tree) (b : Way) : Type 0 where
-  ends : b .found ≡ false → collectTerms w c t ≡ collectWhole w c t → WayOf w file marks k c t b
-  goes : b .found ≡ true → b .more ≡ false → SideAt w file marks (b .child)
+-- ends there, or goes to one child, or to one child and then to the And of it and a literal; the tree's bytes begin at
+-- `start`
+pub data WayOf (w : ℕ) (file marks : List ℕ) (start k c : ℕ) (t : Tree) (b : Way) : Type 0 where
+  ends : b .found ≡ false → collectTerms w c t ≡ collectWhole w c t → WayOf w file marks start k c t b
+  goes : b .found ≡ true → b .more ≡ false → SideAt w file marks start (b .child)
       → sizeOf (sideTree file (b .child)) < sizeOf t
-      → collectTerms w c t ≡ collectTerms w (b .coeff) (sideTree file (b .child)) → WayOf w file marks k c t b
-  masks : b .found ≡ true → b .more ≡ true → SideAt w file marks (b .child)
+      → collectTerms w c t ≡ collectTerms w (b .coeff) (sideTree file (b .child)) → WayOf w file marks start k c t b
+  masks : b .found ≡ true → b .more ≡ true → SideAt w file marks start (b .child)
       → sizeOf (sideTree file (b .child)) < sizeOf t → b .coeff ≡ c → hasVarDep (sideTree file (b .child)) ≡ true
       → collectTerms w c t
       ≡ joinCollected w (collectTerms w c (sideTree file (b .child)))
       (collectLiteral w k c (sideTree file (b .child)) (b .child .value))
-      → b .child .value < 2 ^ w → WayOf w file marks k c t b
+      → b .child .value < 2 ^ w → WayOf w file marks start k c t b
 
 -- at a tree with a variable under a coefficient other than 0 the descent ends
 abbrev pub EndsHere : ℕ → ℕ → Tree → Type 0
@@ -160,8 +166,9 @@ EndsHere w c t = eqb c 0 ≡ false → hasVarDep t ≡ true → collectTerms w c
 pub data WayDown (w : ℕ) (file marks : List ℕ) (x : Spot) (b : Way) : Type 0 where
   none : b .found ≡ false → EndsHere w (x .coeff) (treeAt file x) → WayDown w file marks x b
   sum : kind (spanOf file (x .start) (x .end)) ≡ 2 → eqb (x .coeff) 0 ≡ false → hasVarDep (treeAt file x) ≡ true
-      → b ≡ record { found = true; more = true; coeff = x .coeff; child = leftSide file x } → WayDown w file marks x b
+      → b ≡ record { found = true; more = true; coeff = x .coeff; child = leftSide file x } → Places (x .start) (b .child)
+      → WayDown w file marks x b
   other : eqb (kind (spanOf file (x .start) (x .end))) 2 ≡ false → eqb (x .coeff) 0 ≡ false
       → hasVarDep (treeAt file x) ≡ true
-      → WayOf w file marks (kind (spanOf file (x .start) (x .end))) (x .coeff) (treeAt file x) b
+      → WayOf w file marks (x .start) (kind (spanOf file (x .start) (x .end))) (x .coeff) (treeAt file x) b
       → WayDown w file marks x b

@@ -1,5 +1,6 @@
 // What the descent asks of every subtree, found in one walk: a mark for each record, the subtree's
 // root, in the order of the records.
+use base::limits;
 use expr_utils::Traits;
 ghost use mathlib.Core.Path.{_≡_};
 ghost use mathlib.Core.List.{[], _∷_};
@@ -62,14 +63,14 @@ pub fn mark_traits(t: &[u8], marks: &mut [u8], at: usize) -> Traits
         return put_mark(found, marks, at);
     }
     let k = record::kind(t);
-    let last = at + record::size(t) as usize - 1;
+    let last = at + record::number_of(t.len() - limits::RECORD_LENGTH);
     if children == 1 {
         let below = mark_traits(record::body(t), marks, at);
         let found = expr_utils::node_traits(k, below);
         return put_mark(found, marks, last);
     }
     let first = mark_traits(record::left(t), marks, at);
-    let middle = at + record::size(record::left(t)) as usize;
+    let middle = at + record::number_of(record::cut(t));
     let second = mark_traits(record::right(t), marks, middle);
     let found = expr_utils::node_traits(k, expr_utils::join_traits(first, second));
     put_mark(found, marks, last)

@@ -3,15 +3,14 @@ use crate::marks;
 use base::limits;
 ghost use mathlib.Core.Path.{_≡_};
 ghost use mathlib.Core.Bool.{true, false};
-ghost use Prim.Native.Nat.{_-_, _≤_};
+ghost use Prim.Native.Nat.{_+_, _-_, _*_, _≤_};
 ghost use lib.ListN.{length};
 ghost use Rattle.arith.specs.Width.{modNeg};
 ghost use Rattle.record.specs.Fields.{kind};
-ghost use Rattle.record.specs.Span.{left};
 ghost use Rattle.ways.specs.Spans.{spanOf};
 ghost use Rattle.ways.specs.Sides.{treeAt, AtSpot, AtRoot, isBinary, leftOf};
-ghost use Rattle.ways.specs.Sides.{rightOf, leftSide, RightRoom, rightSide, SideOf};
-ghost use Rattle.ways.specs.Sides.{WayOf, WayDown};
+ghost use Rattle.ways.specs.Sides.{rightOf, leftSide, TwoSides, rightSide, SideOf};
+ghost use Rattle.ways.specs.Sides.{Places, WayOf, WayDown};
 ghost use Rattle.base.specs.Limits.{recordLength};
 
 // A coefficient, and the bytes of the file that hold a subtree.
@@ -51,32 +50,33 @@ pub fn span_of(file: &[u8], start: usize, end: usize) -> &[u8]
 
 // The left child of a root with two children, and its marks.
 pub fn left_side(x: Spot, file: &[u8]) -> Side
-    requires { ⌜ (x .start ≤ x .end) × (x .end ≤ length (now file))
-        × (recordLength ≤ length (left (spanOf (now file) (x .start) (x .end)))) ⌝ }
-    ensures { λ r. ⌜ r ≡ leftSide (now (file .entry)) x ⌝ }
+    requires { ⌜ TwoSides (now file) x ⌝ }
+    ensures { λ r. ⌜ (r ≡ leftSide (now (file .entry)) x) × Places (x .start) r ⌝ }
 {
     let t = span_of(file, x.start, x.end);
+    let cut = record::cut(t);
     Side {
         found: true,
         start: x.start,
-        end: x.start + record::cut(t),
+        end: x.start + cut,
         from: 0,
-        to: record::size(record::left(t)) as usize,
+        to: record::number_of(cut),
         value: 0,
     }
 }
 
 // The right child, and its marks.
 pub fn right_side(x: Spot, file: &[u8], marks: &[u8]) -> Side
-    requires { ⌜ RightRoom (now file) (now marks) x ⌝ }
-    ensures { λ r. ⌜ r ≡ rightSide (now (file .entry)) (now (marks .entry)) x ⌝ }
+    requires { ⌜ TwoSides (now file) x × (x .start + recordLength * length (now marks) ≡ x .end) ⌝ }
+    ensures { λ r. ⌜ (r ≡ rightSide (now (file .entry)) (now (marks .entry)) x) × Places (x .start) r ⌝ }
 {
     let t = span_of(file, x.start, x.end);
+    let cut = record::cut(t);
     Side {
         found: true,
-        start: x.start + record::cut(t),
+        start: x.start + cut,
         end: x.end - limits::RECORD_LENGTH,
-        from: record::size(record::left(t)) as usize,
+        from: record::number_of(cut),
         to: marks.len() - 1,
         value: 0,
     }
@@ -111,23 +111,24 @@ fn no_side() -> Side
 pub fn side_of(x: Spot, file: &[u8], marks: &[u8], w: u32) -> Side
     requires { ⌜ AtSpot w (now file) (now marks) x × (w ≤ 64)
         × (isBinary (treeAt (now file) x) ≡ true) ⌝ }
-    ensures { λ b. ⌜ SideOf w (now (file .entry)) (now (marks .entry))
+    ensures { λ b. ⌜ SideOf w (now (file .entry)) (now (marks .entry)) (x .start)
         (leftOf (treeAt (now (file .entry)) x)) (rightOf (treeAt (now (file .entry)) x)) b ⌝ }
 {
     let start = x.start;
     let end = x.end;
     let t = &file[start..end];
-    let middle = start + record::cut(t);
-    let cut = record::size(record::left(t)) as usize;
+    let cut = record::cut(t);
+    let middle = start + cut;
+    let number = record::number_of(cut);
     let last = marks.len() - 1;
-    if !marks::has_variable(marks[cut - 1]) {
+    if !marks::has_variable(marks[number - 1]) {
         let value = expr::value::constant_value(record::left(t), w);
         let stop = end - limits::RECORD_LENGTH;
         return Side {
             found: true,
             start: middle,
             end: stop,
-            from: cut,
+            from: number,
             to: last,
             value: value,
         };
@@ -141,7 +142,7 @@ pub fn side_of(x: Spot, file: &[u8], marks: &[u8], w: u32) -> Side
         start: start,
         end: middle,
         from: 0,
-        to: cut,
+        to: number,
         value: value,
     }
 }
@@ -197,7 +198,7 @@ fn way_neg(x: Spot, marks: &[u8], w: u32) -> Way
 // Xor with one.
 fn way_two(x: Spot, k: u8, file: &[u8], marks: &[u8], w: u32) -> Way
     requires { ⌜ AtRoot w (now file) (now marks) x k × (isBinary (treeAt (now file) x) ≡ true) ⌝ }
-    ensures { λ b. ⌜ WayOf w (now (file .entry)) (now (marks .entry)) k (x .coeff)
+    ensures { λ b. ⌜ WayOf w (now (file .entry)) (now (marks .entry)) (x .start) k (x .coeff)
         (treeAt (now (file .entry)) x) b ⌝ }
 {
     if k == 3 {
@@ -228,7 +229,7 @@ fn way_two(x: Spot, k: u8, file: &[u8], marks: &[u8], w: u32) -> Way
 // The way on from a root with a variable that is no Add.
 pub fn way_on(x: Spot, file: &[u8], marks: &[u8], w: u32) -> Way
     requires { ⌜ AtRoot w (now file) (now marks) x (kind (spanOf (now file) (x .start) (x .end))) ⌝ }
-    ensures { λ b. ⌜ WayOf w (now (file .entry)) (now (marks .entry))
+    ensures { λ b. ⌜ WayOf w (now (file .entry)) (now (marks .entry)) (x .start)
         (kind (spanOf (now (file .entry)) (x .start) (x .end))) (x .coeff)
         (treeAt (now (file .entry)) x) b ⌝ }
 {

@@ -25,13 +25,14 @@ esac
 """
 DOCS = "#!/bin/sh\necho docs >> calls\n"
 LIMITS = "#!/bin/sh\necho limits >> calls\n"
+DIVISION = "open('calls', 'a').write('division\\n')\n"
 TEST = """import os, unittest
 class Test(unittest.TestCase):
     def test(self):
         with open("calls", "a") as out: out.write("tests {0}\\n")
         self.assertNotEqual(os.environ.get("BAD_TESTS"), "{0}")
 """
-ALL = ["rt fmt --check", "docs", "limits", "tests plain", "rt ci", "rt staticlib hogzelt", "tests library"]
+ALL = ["rt fmt --check", "docs", "limits", "division", "tests plain", "rt ci", "rt staticlib hogzelt", "tests library"]
 CLEAN = "7 passed, 0 failed"
 
 
@@ -46,6 +47,7 @@ class Gate(unittest.TestCase):
         self.write("bin/cc", "#!/bin/sh\ncat > /dev/null\n")
         self.write("tools/check_docs.sh", DOCS)
         self.write("tools/check_limits.sh", LIMITS)
+        self.write("tools/check_division.py", DIVISION)
         for sort in ("plain", "library"):
             self.write(f"tools/tests/{sort}/__init__.py", "")
             self.write(f"tools/tests/{sort}/test_it.py", TEST.format(sort))
@@ -84,19 +86,23 @@ class Gate(unittest.TestCase):
         self.assertEqual((status, calls), (1, ALL[:1]))
         os.remove(os.path.join(self.folder, "calls"))
         status, last, calls = self.run_gate(BAD_TESTS="plain")
+        self.assertEqual((status, last, calls), (1, [], ALL[:5]))
+        os.remove(os.path.join(self.folder, "calls"))
+        self.write("tools/check_division.py", DIVISION + "raise SystemExit(1)\n")
+        status, last, calls = self.run_gate()
         self.assertEqual((status, last, calls), (1, [], ALL[:4]))
 
     def test_not_proved(self):
         bad = "5 passed, 2 failed"
-        self.assertEqual(self.run_gate(VERDICT=bad, CI_STATUS="1"), (1, [bad], ALL[:5]))
+        self.assertEqual(self.run_gate(VERDICT=bad, CI_STATUS="1"), (1, [bad], ALL[:6]))
         os.remove(os.path.join(self.folder, "calls"))
-        self.assertEqual(self.run_gate(VERDICT=bad), (1, [bad], ALL[:5]))
+        self.assertEqual(self.run_gate(VERDICT=bad), (1, [bad], ALL[:6]))
         os.remove(os.path.join(self.folder, "calls"))
         status, last, calls = self.run_gate(CI_STATUS="3")
-        self.assertEqual((status, calls), (3, ALL[:5]))
+        self.assertEqual((status, calls), (3, ALL[:6]))
 
     def test_library_fails(self):
-        for env, count in (({"LIBRARY_STATUS": "1"}, 6), ({"BAD_TESTS": "library"}, 7)):
+        for env, count in (({"LIBRARY_STATUS": "1"}, 7), ({"BAD_TESTS": "library"}, 8)):
             status, last, calls = self.run_gate(**env)
             self.assertEqual((status, calls), (1, ALL[:count]))
             self.assertIn("failed beside rt ci: ", last[0])
@@ -104,10 +110,10 @@ class Gate(unittest.TestCase):
 
     def test_without_cc(self):
         self.write("bin/cc", "#!/bin/sh\nexit 1\n")
-        self.assertEqual(self.run_gate(), (0, [CLEAN], ALL[:5]))
+        self.assertEqual(self.run_gate(), (0, [CLEAN], ALL[:6]))
         for name in ("cc", "../calls"):
             os.remove(os.path.join(self.folder, "bin", name))
         for name in "awk bash cat chmod cp df dirname env mktemp nproc python3 rm sh sleep tail tee touch true".split():
             found = sys.executable if name == "python3" else shutil.which(name)
             os.symlink(found, os.path.join(self.folder, "bin", name))
-        self.assertEqual(self.run_gate(path="/nonexistent"), (0, [CLEAN], ALL[:5]))
+        self.assertEqual(self.run_gate(path="/nonexistent"), (0, [CLEAN], ALL[:6]))

@@ -13,10 +13,19 @@ returns-2 : tie.Need-returns-2
 unfolding exprRefusal
 returns-2 c = simp (ne-eqb _ _ (c .before .if1 .left), lt-ltb _ _ (c .if2 .taken))
 
+odd-bytes-requires : tie.Need-odd-bytes-requires
+odd-bytes-requires c κs = search needs
+
 returns-3 : tie.Need-returns-3
 unfolding exprRefusal
 returns-3 c =
-    simp (ne-eqb _ _ (c .before .before .if1 .left), le-ltb _ _ (c .before .if2 .left), ne-eqb _ _ (c .if3 .taken))
+    let at-if2 = c .before .before in
+    simp (
+      ne-eqb _ _ (at-if2 .before .if1 .left),
+      le-ltb _ _ (at-if2 .if2 .left),
+      ← c .before .odd-bytes .ensures,
+      ne-eqb _ _ (c .if3 .taken),
+    )
 
 width-requires : tie.Need-width-requires
 width-requires c κs = search needs
@@ -30,11 +39,13 @@ cast-result c = search needs
 returns-4 : tie.Need-returns-4
 unfolding exprRefusal
 returns-4 c =
-    let at-if2 = c .before .before .before in
+    let at-if3 = c .before .before in
+    let at-if2 = at-if3 .before .before in
     simp (
       ne-eqb _ _ (at-if2 .before .if1 .left),
       le-ltb _ _ (at-if2 .if2 .left),
-      eq-eqb _ _ (c .before .before .if3 .left),
+      ← at-if3 .before .odd-bytes .ensures,
+      eq-eqb _ _ (at-if3 .if3 .left),
       ← c .before .width .ensures,
     ) (c .tree-refusal .ensures)
 
@@ -44,6 +55,7 @@ expr-refusal-spec =
     (tie.spec
     returns
     returns-2
+    odd-bytes-requires
     returns-3
     width-requires
     tree-refusal-requires

@@ -1,5 +1,5 @@
 -- `mark_traits` meets its contract: the equation of the fold at a root without, with one and with two children.
-use mathlib.Core.Path.{ap, _∙_}
+use mathlib.Core.Path.{refl, ap, _∙_}
 use Prim.Native.Nat.{ℕ, _+_, _-_, _<_}
 use native.Mathlib.Omega.{arith}
 use denote.Ref.{now}
@@ -7,6 +7,7 @@ use borrow.Author.Needs.{needs}
 use Rattle.record.specs.Fields.{size}
 use Rattle.record.proofs.SizedLaws.{sized-big}
 use Rattle.record.proofs.DecodeLaws.{child-body, child-left, child-right}
+use Rattle.record.proofs.PlaceLaws.{root-whole, root-number, right-whole, right-number}
 use Rattle.expr_utils.specs.Utils.{nodeTraits}
 use Rattle.ways.proofs.SpanOfLaws.{size-two}
 use Rattle.ways.proofs.MarkedLaws.{size-pos, marked-leaf, marked-one, marked-two}
@@ -19,11 +20,12 @@ use Rattle.expr_utils.proofs.join_traits.Reads as join-traits-reads
 use Rattle.expr_utils.proofs.leaf_traits.Reads as leaf-traits-reads
 use Rattle.expr_utils.proofs.node_traits.Reads as node-traits-reads
 use Rattle.record.proofs.body.Reads as body-reads
+use Rattle.record.proofs.cut.Reads as cut-reads
 use Rattle.record.proofs.kind.Reads as kind-reads
 use Rattle.record.proofs.left.Reads as left-reads
+use Rattle.record.proofs.number_of.Reads as number-of-reads
 use Rattle.record.proofs.right.Reads as right-reads
 use Rattle.record.proofs.root_arity.Reads as root-arity-reads
-use Rattle.record.proofs.size.Reads as size-reads
 use Rattle.ways.proofs.marks.put_mark.Reads as put-mark-reads
 use Rattle.ways.proofs.marks.+mark_traits.{statement}
 use Rattle.ways.proofs.marks.+mark_traits.Tie.{close}
@@ -49,8 +51,8 @@ claims t = (
   put-mark-reads.Learnt,
   kind-reads.Asked,
   kind-reads.Learnt,
-  size-reads.Asked,
-  size-reads.Learnt,
+  number-of-reads.Asked,
+  number-of-reads.Learnt,
   body-reads.Asked,
   body-reads.Learnt,
   mark-traits-below t,
@@ -59,6 +61,8 @@ claims t = (
   node-traits-reads.Learnt,
   left-reads.Asked,
   left-reads.Learnt,
+  cut-reads.Asked,
+  cut-reads.Learnt,
   right-reads.Asked,
   right-reads.Learnt,
   join-traits-reads.Asked,
@@ -96,19 +100,19 @@ mark-traits-kind-requires : (t : ℕ)
     → mark-traits-lts.Need-kind-requires (claims t) (mark-traits-at t) mark-traits.Post
 mark-traits-kind-requires t c κs = sized-big _ (c .before .before .before .before .pre .1 .whole)
 
-mark-traits-size-requires : (t : ℕ)
-    → mark-traits-lts.Need-size-requires (claims t) (mark-traits-at t) mark-traits.Post
-mark-traits-size-requires t c κs = sized-big _ (c .before .before .before .before .before .pre .1 .whole)
+mark-traits-sub-number-of : (t : ℕ)
+    → mark-traits-lts.Need-sub-number-of (claims t) (mark-traits-at t) mark-traits.Post
+mark-traits-sub-number-of t c = sized-big _ (c .before .before .before .before .before .pre .1 .whole)
+
+mark-traits-number-of-requires : (t : ℕ)
+    → mark-traits-lts.Need-number-of-requires (claims t) (mark-traits-at t) mark-traits.Post
+mark-traits-number-of-requires t c κs = root-whole _ (c .before .before .before .before .before .pre .1 .whole)
 
 mark-traits-add-last : (t : ℕ) → mark-traits-lts.Need-add-last (claims t) (mark-traits-at t) mark-traits.Post
 mark-traits-add-last t c =
     let at-start = c .before .before .before .before .before .before in
-    omega (arith, at-start .pre .1 .room, c .size .ensures .0)
-
-mark-traits-sub-last : (t : ℕ) → mark-traits-lts.Need-sub-last (claims t) (mark-traits-at t) mark-traits.Post
-mark-traits-sub-last t c =
-    let at-start = c .before .before .before .before .before .before in
-    omega (arith, c .size .ensures .0, size-pos (now (at-start .args .t)) (at-start .pre .1 .whole))
+    let last = root-number (now (at-start .args .t)) (at-start .pre .1 .whole) (c .number-of .ensures) in
+    omega (arith, at-start .pre .1 .room, last)
 
 mark-traits-body-requires : (t : ℕ)
     → mark-traits-lts.Need-body-requires (claims t) (mark-traits-at t) mark-traits.Post
@@ -134,10 +138,11 @@ mark-traits-node-traits-requires t c κs = tt
 mark-traits-put-mark-requires-2 : (t : ℕ)
     → mark-traits-lts.Need-put-mark-requires-2 (claims t) (mark-traits-at t) mark-traits.Post
 mark-traits-put-mark-requires-2 t c κs =
-    let at-size = c .before .before .before .before .before .before .before .before in
-    let at-start = at-size .before .before .before .before .before .before in
+    let at-number = c .before .before .before .before .before .before .before .before in
+    let at-start = at-number .before .before .before .before .before .before in
     let pos = size-pos (now (at-start .args .t)) (at-start .pre .1 .whole) in
-    omega (arith, at-start .pre .1 .room, pos, at-size .size .ensures .0)
+    let last = root-number (now (at-start .args .t)) (at-start .pre .1 .whole) (at-number .number-of .ensures) in
+    omega (arith, at-start .pre .1 .room, pos, last)
 
 mark-traits-same-length-2 : (t : ℕ)
     → mark-traits-lts.Need-same-length-2 (claims t) (mark-traits-at t) mark-traits.Post
@@ -150,10 +155,13 @@ mark-traits-returns-2 t c =
     let at-if2 = at-below .before .before .before in
     let at-kind = at-if2 .before .before in
     let at-start = at-kind .before .before .before .before .before in
+    let last =
+    root-number (now (at-start .args .t)) (at-start .pre .1 .whole) (at-if2 .before .number-of .ensures) in
+    let pos = size-pos (now (at-start .args .t)) (at-start .pre .1 .whole) in
     marked-one (now (at-start .args .t)) (at-start .pre .1 .whole) (at-kind .before .before .root-arity .ensures)
     (at-start .args .at) (now (at-start .args .marks)) (at-start .pre .1 .room)
     (at-mark .put-mark2 .ensures .0) (at-kind .kind .ensures)
-    (ap (λ (n : ℕ). at-start .args .at + n - 1) (at-if2 .before .size .ensures .0)) (at-if2 .if2 .taken)
+    (omega (arith, last, pos)) (at-if2 .if2 .taken)
     (at-below .before .before .body .ensures) (at-below .mark-traits .ensures)
     (at-mark .before .before .node-traits .ensures) (at-mark .put-mark2 .ensures .1)
 
@@ -175,29 +183,32 @@ mark-traits-mark-traits-requires-2 t c κs =
       record { whole = r .ok; room = omega (arith, r .falls, at-start .pre .1 .room) },
     )
 
-mark-traits-left-requires-2 : (t : ℕ)
-    → mark-traits-lts.Need-left-requires-2 (claims t) (mark-traits-at t) mark-traits.Post
-mark-traits-left-requires-2 t c κs = search needs
+mark-traits-cut-requires : (t : ℕ)
+    → mark-traits-lts.Need-cut-requires (claims t) (mark-traits-at t) mark-traits.Post
+mark-traits-cut-requires t c κs = search needs
 
-mark-traits-size-requires-2 : (t : ℕ)
-    → mark-traits-lts.Need-size-requires-2 (claims t) (mark-traits-at t) mark-traits.Post
-mark-traits-size-requires-2 t c κs =
+mark-traits-number-of-requires-2 : (t : ℕ)
+    → mark-traits-lts.Need-number-of-requires-2 (claims t) (mark-traits-at t) mark-traits.Post
+mark-traits-number-of-requires-2 t c κs =
     let at-if2 = c .before .before .before .before .before .before in
     let at-if1 = at-if2 .before .before .before in
     let at-start = at-if1 .before .before .before .before in
-    sized-big _
-    (child-left (now (at-start .args .t)) (at-start .pre .1 .whole) (at-if1 .before .root-arity .ensures)
-    (at-if1 .if1 .left) (at-if2 .if2 .left) (c .left2 .ensures) .ok)
+    right-whole (now (at-start .args .t)) (at-start .pre .1 .whole) (at-if1 .before .root-arity .ensures)
+    (at-if1 .if1 .left) (at-if2 .if2 .left) (c .cut .ensures .0)
 
 mark-traits-add-middle : (t : ℕ) → mark-traits-lts.Need-add-middle (claims t) (mark-traits-at t) mark-traits.Post
 mark-traits-add-middle t c =
     let at-if2 = c .before .before .before .before .before .before .before in
     let at-if1 = at-if2 .before .before .before in
     let at-start = at-if1 .before .before .before .before in
-    let r =
-    child-left (now (at-start .args .t)) (at-start .pre .1 .whole) (at-if1 .before .root-arity .ensures)
-    (at-if1 .if1 .left) (at-if2 .if2 .left) (c .before .left2 .ensures) in
-    omega (arith, r .falls, at-start .pre .1 .room, c .size2 .ensures .0)
+    let tree = now (at-start .args .t) in
+    let whole = at-start .pre .1 .whole in
+    let root-arity = at-if1 .before .root-arity .ensures in
+    let middle =
+    right-number tree whole root-arity (at-if1 .if1 .left) (at-if2 .if2 .left) (c .before .cut .ensures .0)
+    (c .number-of2 .ensures) in
+    let r = child-left tree whole root-arity (at-if1 .if1 .left) (at-if2 .if2 .left) refl in
+    omega (arith, r .falls, at-start .pre .1 .room, middle)
 
 mark-traits-right-requires : (t : ℕ)
     → mark-traits-lts.Need-right-requires (claims t) (mark-traits-at t) mark-traits.Post
@@ -209,17 +220,19 @@ mark-traits-mark-traits-requires-3 t c κs =
     let at-if2 = c .before .before .before .before .before .before .before .before .before in
     let at-if1 = at-if2 .before .before .before in
     let at-start = at-if1 .before .before .before .before in
-    let r =
-    child-right (now (at-start .args .t)) (at-start .pre .1 .whole) (at-if1 .before .root-arity .ensures)
-    (at-if1 .if1 .left)
-    (at-if2 .if2 .left) (c .before .right .ensures) in
+    let tree = now (at-start .args .t) in
+    let whole = at-start .pre .1 .whole in
+    let root-arity = at-if1 .before .root-arity .ensures in
+    let r = child-right tree whole root-arity (at-if1 .if1 .left) (at-if2 .if2 .left) (c .before .right .ensures) in
     let sizes =
-    size-two (now (at-start .args .t)) (at-start .pre .1 .whole) (at-if1 .before .root-arity .ensures)
-    (at-if1 .if1 .left) (at-if2 .if2 .left) (c .before .before .before .left2 .ensures) (c .before .right .ensures) in (
+    size-two tree whole root-arity (at-if1 .if1 .left) (at-if2 .if2 .left) refl (c .before .right .ensures) in
+    let middle =
+    right-number tree whole root-arity (at-if1 .if1 .left) (at-if2 .if2 .left)
+    (c .before .before .before .cut .ensures .0) (c .before .before .number-of2 .ensures) in (
       omega (arith, r .falls, at-start .pre .0),
       record {
         whole = r .ok;
-        room = omega (arith, sizes, at-start .pre .1 .room, c .before .before .size2 .ensures .0);
+        room = omega (arith, sizes, at-start .pre .1 .room, middle);
       },
     )
 
@@ -234,17 +247,13 @@ mark-traits-node-traits-requires-2 t c κs = tt
 mark-traits-put-mark-requires-3 : (t : ℕ)
     → mark-traits-lts.Need-put-mark-requires-3 (claims t) (mark-traits-at t) mark-traits.Post
 mark-traits-put-mark-requires-3 t c κs =
-    let at-start =
-    c .before .before .before .before .before .before .before .before .before .before .before
-    .before .before .before .before .before .before .before .before .before .before .before in
+    let at-second = c .before .before .before .before .before in
+    let at-first = at-second .before .before .before .before .before .before .before in
+    let at-number = at-first .before .before .before .before in
+    let at-start = at-number .before .before .before .before .before .before in
     let pos = size-pos (now (at-start .args .t)) (at-start .pre .1 .whole) in
-    omega (
-      arith,
-      at-start .pre .1 .room,
-      pos,
-      c .before .before .before .before .before .before .before .before .before .before
-          .before .before .before .before .before .before .size .ensures .0,
-    )
+    let last = root-number (now (at-start .args .t)) (at-start .pre .1 .whole) (at-number .number-of .ensures) in
+    omega (arith, at-start .pre .1 .room, pos, last)
 
 mark-traits-same-length-3 : (t : ℕ)
     → mark-traits-lts.Need-same-length-3 (claims t) (mark-traits-at t) mark-traits.Post
@@ -260,14 +269,20 @@ mark-traits-returns-3 t c =
     let at-if2 = at-first .before .before .before in
     let at-kind = at-if2 .before .before in
     let at-start = at-kind .before .before .before .before .before in
+    let whole = at-start .pre .1 .whole in
+    let root-arity = at-kind .before .before .root-arity .ensures in
+    let last = root-number (now (at-start .args .t)) whole (at-if2 .before .number-of .ensures) in
+    let pos = size-pos (now (at-start .args .t)) whole in
+    let middle =
+    right-number (now (at-start .args .t)) whole root-arity (at-kind .before .if1 .left) (at-if2 .if2 .left)
+    (at-right .before .before .cut .ensures .0) (at-right .before .number-of2 .ensures) in
     marked-two (now (at-start .args .t)) (at-start .pre .1 .whole) (at-kind .before .before .root-arity .ensures)
     (at-start .args .at) (now (at-start .args .marks)) (at-start .pre .1 .room) (at-mark .put-mark3 .ensures .0)
     (at-kind .kind .ensures)
-    (ap (λ (n : ℕ). at-start .args .at + n - 1) (at-if2 .before .size .ensures .0)) (at-kind .before .if1 .left)
+    (omega (arith, last, pos)) (at-kind .before .if1 .left)
     (at-if2 .if2 .left) (at-first .before .before .left .ensures) (at-right .right .ensures)
     (at-first .mark-traits2 .ensures)
-    (ap (λ (n : ℕ). at-start .args .at + n)
-    (at-right .before .size2 .ensures .0 ∙ ap size (at-right .before .before .left2 .ensures)))
+    (ap (λ (n : ℕ). at-start .args .at + n) middle)
     (at-second .mark-traits3 .ensures)
     (at-mark .before .before .node-traits2 .ensures ∙ ap (nodeTraits _) (at-join .join-traits .ensures))
     (at-mark .put-mark3 .ensures .1)
@@ -282,9 +297,9 @@ pub +mark-traits-spec : {M : Type 1} → statement M
     (mark-traits-same-length t)
     (mark-traits-returns t)
     (mark-traits-kind-requires t)
-    (mark-traits-size-requires t)
+    (mark-traits-sub-number-of t)
+    (mark-traits-number-of-requires t)
     (mark-traits-add-last t)
-    (mark-traits-sub-last t)
     (mark-traits-body-requires t)
     (mark-traits-mark-traits-requires t)
     (mark-traits-node-traits-requires t)
@@ -293,8 +308,8 @@ pub +mark-traits-spec : {M : Type 1} → statement M
     (mark-traits-returns-2 t)
     (mark-traits-left-requires t)
     (mark-traits-mark-traits-requires-2 t)
-    (mark-traits-left-requires-2 t)
-    (mark-traits-size-requires-2 t)
+    (mark-traits-cut-requires t)
+    (mark-traits-number-of-requires-2 t)
     (mark-traits-add-middle t)
     (mark-traits-right-requires t)
     (mark-traits-mark-traits-requires-3 t)

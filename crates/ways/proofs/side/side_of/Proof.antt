@@ -3,13 +3,12 @@ use mathlib.Core.Path.{sym, _∙_}
 use native.Mathlib.Omega.{arith}
 use borrow.Author.Needs.{needs}
 use borrow.Author.Tests.{not-true, not-false}
-use Rattle.record.proofs.SizedLaws.{sized-big}
 use Rattle.ways.specs.Spans.{spanOf}
 use Rattle.ways.specs.Sides.{SideOf}
 use Rattle.ways.proofs.SpanOfLaws.{span-end}
-use Rattle.ways.proofs.SideLaws.{left-sized, right-sized, left-size, sides-size, sides-pos}
+use Rattle.ways.proofs.SideLaws.{left-sized, right-sized, right-number-is, right-whole-is, sides-size}
 use Rattle.ways.proofs.SideLaws.{left-value, right-value, left-variable, right-variable}
-use Rattle.ways.proofs.SideLaws.{side-left, side-right}
+use Rattle.ways.proofs.SideLaws.{sides-pos, side-left, side-right}
 use Rattle.ways.proofs.side.side_of.Statement.{statement}
 use Rattle.ways.proofs.side.side_of.Tie as tie
 
@@ -28,78 +27,76 @@ cut-requires c κs = search needs
 add-middle : tie.Need-add-middle
 add-middle c = search needs
 
-left-requires : tie.Need-left-requires
-left-requires c κs = search needs
-
-size-requires : tie.Need-size-requires
+number-of-requires : tie.Need-number-of-requires
 unfolding spanOf
-size-requires c κs =
-    let at-start = c .before .before .before .before .before in
-    sized-big _ (left-sized (at-start .pre .0) (at-start .pre .2) (c .left .ensures))
+number-of-requires c κs =
+    let at-start = c .before .before .before .before in
+    right-whole-is (at-start .pre .0) (at-start .pre .2) (c .cut .ensures .0)
 
 sub-last : tie.Need-sub-last
 sub-last c =
-    let at-start = c .before .before .before .before .before .before in
+    let at-start = c .before .before .before .before .before in
     omega (arith, sides-size (at-start .pre .0) (at-start .pre .2))
 
 sub-has-variable : tie.Need-sub-has-variable
 unfolding spanOf
 sub-has-variable c =
-    let at-start = c .before .before .before .before .before .before in
+    let at-start = c .before .before .before .before .before in
     let spot = at-start .pre .0 in
     let two = at-start .pre .2 in
-    omega (arith, left-size spot two (c .size .ensures .0) (c .before .left .ensures), sides-pos spot two .0)
+    let number-is = right-number-is spot two (c .before .cut .ensures .0) (c .number-of .ensures) in
+    omega (arith, number-is, sides-pos spot two .0)
 
 shared-slice-read-has-variable : tie.Need-shared-slice-read-has-variable
 unfolding spanOf
 shared-slice-read-has-variable c =
-    let at-size = c .before in
-    let at-start = at-size .before .before .before .before .before .before in
+    let at-number = c .before in
+    let at-start = at-number .before .before .before .before .before in
     let spot = at-start .pre .0 in
     let two = at-start .pre .2 in
-    let cut-is = left-size spot two (at-size .size .ensures .0) (at-size .before .left .ensures) in
-    omega (arith, cut-is, sides-size spot two)
+    let number-is = right-number-is spot two (at-number .before .cut .ensures .0) (at-number .number-of .ensures) in
+    omega (arith, number-is, sides-size spot two)
 
 has-variable-requires : tie.Need-has-variable-requires
 has-variable-requires c κs = search needs
 
-left-requires-2 : tie.Need-left-requires-2
-left-requires-2 c κs = search needs
+left-requires : tie.Need-left-requires
+left-requires c κs = search needs
 
 constant-value-requires : tie.Need-constant-value-requires
 unfolding spanOf
 constant-value-requires c κs =
-    let at-start = c .before .before .before .before .before .before .before .before .before .before in
-    (left-sized (at-start .pre .0) (at-start .pre .2) (c .left2 .ensures), at-start .pre .1)
+    let at-start = c .before .before .before .before .before .before .before .before .before in
+    (left-sized (at-start .pre .0) (at-start .pre .2) (c .left .ensures), at-start .pre .1)
 
 sub-stop : tie.Need-sub-stop
 sub-stop c =
-    let at-start = c .before .before .before .before .before .before .before .before .before .before .before in
+    let at-start = c .before .before .before .before .before .before .before .before .before .before in
     omega (arith, span-end (at-start .pre .0 .span))
 
 returns : tie.Need-returns
 unfolding spanOf
 returns c =
     let at-if1 = c .before .before in
-    let at-size = at-if1 .before .before .before in
-    let at-cut = at-size .before .before in
+    let at-number = at-if1 .before .before .before in
+    let at-cut = at-number .before in
     let at-start = at-cut .before .before .before .before in
     let spot = at-start .pre .0 in
     let two = at-start .pre .2 in
-    let cut-is = left-size spot two (at-size .size .ensures .0) (at-size .before .left .ensures) in
-    side-right spot two (at-cut .cut .ensures .0) cut-is _
-    (sym (left-variable spot two cut-is (at-if1 .before .has-variable .ensures)) ∙ not-true _ (at-if1 .if1 .taken))
-    (left-value spot two (c .constant-value .ensures) (c .before .left2 .ensures))
+    let number-is = right-number-is spot two (at-cut .cut .ensures .0) (at-number .number-of .ensures) in
+    side-right spot two (at-cut .cut .ensures .0) number-is _
+    (sym (left-variable spot two number-is (at-if1 .before .has-variable .ensures)) ∙ not-true _ (at-if1 .if1 .taken))
+    (left-value spot two (c .constant-value .ensures) (c .before .left .ensures))
 
 sub-has-variable-2 : tie.Need-sub-has-variable-2
 sub-has-variable-2 c =
-    let at-start = c .before .before .before .before .before .before .before .before .before in
+    let at-start = c .before .before .before .before .before .before .before .before in
     let pos = sides-pos (at-start .pre .0) (at-start .pre .2) in
     omega (arith, pos .0, pos .1, sides-size (at-start .pre .0) (at-start .pre .2))
 
 shared-slice-read-has-variable-2 : tie.Need-shared-slice-read-has-variable-2
 shared-slice-read-has-variable-2 c =
-    let at-start = c .before .before .before .before .before .before .before .before .before .before in
+    let at-start = c .before .before .before .before .before .before .before .before .before in
     omega (arith, sides-size (at-start .pre .0) (at-start .pre .2))
 
 has-variable-requires-2 : tie.Need-has-variable-requires-2
@@ -113,13 +110,14 @@ unfolding spanOf
 returns-2 c =
     let at-if2 = c .before in
     let at-if1 = at-if2 .before .before .before in
-    let at-size = at-if1 .before .before .before in
-    let at-start = at-size .before .before .before .before .before .before in
+    let at-number = at-if1 .before .before .before in
+    let at-cut = at-number .before in
+    let at-start = at-cut .before .before .before .before in
     let spot = at-start .pre .0 in
     let two = at-start .pre .2 in
-    let cut-is = left-size spot two (at-size .size .ensures .0) (at-size .before .left .ensures) in
+    let number-is = right-number-is spot two (at-cut .cut .ensures .0) (at-number .number-of .ensures) in
     SideOf.neither (c .no-side .ensures)
-    (sym (left-variable spot two cut-is (at-if1 .before .has-variable .ensures)) ∙ not-false _ (at-if1 .if1 .left))
+    (sym (left-variable spot two number-is (at-if1 .before .has-variable .ensures)) ∙ not-false _ (at-if1 .if1 .left))
     (sym (right-variable spot two (at-if2 .before .has-variable2 .ensures)) ∙ at-if2 .if2 .taken)
 
 right-requires : tie.Need-right-requires
@@ -129,7 +127,7 @@ constant-value-requires-2 : tie.Need-constant-value-requires-2
 unfolding spanOf
 constant-value-requires-2 c κs =
     let at-if1 = c .before .before .before .before in
-    let at-start = at-if1 .before .before .before .before .before .before .before .before .before in
+    let at-start = at-if1 .before .before .before .before .before .before .before .before in
     (right-sized (at-start .pre .0) (at-start .pre .2) (c .right .ensures), at-start .pre .1)
 
 returns-3 : tie.Need-returns-3
@@ -137,14 +135,14 @@ unfolding spanOf
 returns-3 c =
     let at-if2 = c .before .before in
     let at-if1 = at-if2 .before .before .before in
-    let at-size = at-if1 .before .before .before in
-    let at-cut = at-size .before .before in
+    let at-number = at-if1 .before .before .before in
+    let at-cut = at-number .before in
     let at-start = at-cut .before .before .before .before in
     let spot = at-start .pre .0 in
     let two = at-start .pre .2 in
-    let cut-is = left-size spot two (at-size .size .ensures .0) (at-size .before .left .ensures) in
-    side-left spot two (at-cut .cut .ensures .0) cut-is _
-    (sym (left-variable spot two cut-is (at-if1 .before .has-variable .ensures)) ∙ not-false _ (at-if1 .if1 .left))
+    let number-is = right-number-is spot two (at-cut .cut .ensures .0) (at-number .number-of .ensures) in
+    side-left spot two (at-cut .cut .ensures .0) number-is _
+    (sym (left-variable spot two number-is (at-if1 .before .has-variable .ensures)) ∙ not-false _ (at-if1 .if1 .left))
     (sym (right-variable spot two (at-if2 .before .has-variable2 .ensures)) ∙ at-if2 .if2 .left)
     (right-value spot two (c .constant-value2 .ensures) (c .before .right .ensures))
 
@@ -157,13 +155,12 @@ side-of-spec =
     part-t-end
     cut-requires
     add-middle
-    left-requires
-    size-requires
+    number-of-requires
     sub-last
     sub-has-variable
     shared-slice-read-has-variable
     has-variable-requires
-    left-requires-2
+    left-requires
     constant-value-requires
     sub-stop
     returns

@@ -9,7 +9,7 @@ use Rattle.ways.specs.declared.side.Side.{Side}
 use Rattle.ways.specs.Sides.{WayDown}
 use Rattle.ways.proofs.SpanOfLaws.{span-big, kind-read}
 use Rattle.ways.proofs.SideLaws.{spot-some, spot-variable}
-use Rattle.ways.proofs.LeftLaws.{left-big}
+use Rattle.ways.proofs.TwoSidesLaws.{add-sides}
 use borrow.Author.Needs.{needs}
 use Rattle.ways.proofs.side.way_down.Statement.{statement}
 use Rattle.ways.proofs.side.way_down.Tie as tie
@@ -54,9 +54,8 @@ left-side-requires : tie.Need-left-side-requires
 left-side-requires c κs =
     let at-kind = c .before in
     let at-start = at-kind .before .before .before .before .before .before .before .before in
-    let at = at-start .pre .0 in
     let two = kind-read (at-kind .before .span-of .ensures) (at-kind .kind .ensures) (c .if3 .taken) in
-    (at .span .rising, at .span .inside, left-big at two)
+    add-sides (at-start .pre .0) two
 
 returns-3 : tie.Need-returns-3
 returns-3 c =
@@ -71,7 +70,8 @@ returns-3 c =
     (spot-variable (at-start .pre .0) (at-variable .has-variable .ensures) (not-false _ (at-if2 .if2 .left)))
     (ap
     (λ (b : Side). record { found = true; more = true; coeff = at-start .args .x .coeff; child = b })
-    (c .left-side .ensures))
+    (c .left-side .ensures .0))
+    (c .left-side .ensures .1)
 
 way-on-requires : tie.Need-way-on-requires
 way-on-requires c κs =

@@ -6,11 +6,11 @@ use native.Mathlib.Omega.{arith}
 use borrow.Author.Tests.{not-true, not-false}
 use Rattle.record.specs.Fields.{kind, size}
 use Rattle.ways.specs.Spans.{spanOf}
-use Rattle.ways.proofs.SpanOfLaws.{span-big, span-end, kind-read}
-use Rattle.ways.proofs.SideLaws.{spot-some}
+use Rattle.ways.proofs.SpanOfLaws.{span-big, kind-read}
+use Rattle.ways.proofs.SideLaws.{spot-places}
 use Rattle.descent.proofs.DescentLaws.{down-spot, down-falls, down-ready}
 use Rattle.descent.proofs.AddLaws.{down-right}
-use Rattle.ways.proofs.LeftLaws.{left-big}
+use Rattle.ways.proofs.TwoSidesLaws.{add-sides}
 use Rattle.descent.proofs.WayDownLaws.{down-ends, down-child, down-stop, down-literal, down-masked}
 use Rattle.descent.proofs.WayDownLaws.{down-ready-literal, Going, going-start, going-child}
 use Rattle.descent.proofs.WayDownLaws.{going-right}
@@ -377,14 +377,7 @@ collect-terms-right-side-requires t c κs =
     let at-way = at-if1 .before .before in
     let going = at-way .before .loop .inv in
     let two = kind-read (at-kind .before .span-of .ensures) (at-kind .kind .ensures) (c .if4 .left) in
-    let at = going .at in
-    record {
-      rising = at .span .rising;
-      inside = at .span .inside;
-      some = spot-some at;
-      left-long = left-big at two;
-      root = omega (arith, span-end (at .span));
-    }
+    (add-sides (going .at) two, spot-places (going .at))
 
 collect-terms-side-spot-requires-2 :
     (t : ℕ)
@@ -408,7 +401,7 @@ collect-terms-sub-seen-2 t c =
     let at-way = at-if1 .before .before in
     let going = at-way .before .loop .inv in
     let two = kind-read (at-kind .before .span-of .ensures) (at-kind .kind .ensures) (at-if4 .if4 .left) in
-    down-right (going .at) two (at-right .right-side .ensures) .side .from-le
+    down-right (going .at) two (at-right .right-side .ensures .0) .side .from-le
 
 collect-terms-part-seen-start-2 :
     (t : ℕ)
@@ -426,7 +419,7 @@ collect-terms-part-seen-start-2 t c =
     let at-way = at-if1 .before .before in
     let going = at-way .before .loop .inv in
     let two = kind-read (at-kind .before .span-of .ensures) (at-kind .kind .ensures) (at-if4 .if4 .left) in
-    down-right (going .at) two (at-right .right-side .ensures) .side .from-le
+    down-right (going .at) two (at-right .right-side .ensures .0) .side .from-le
 
 collect-terms-part-seen-end-2 :
     (t : ℕ)
@@ -444,7 +437,7 @@ collect-terms-part-seen-end-2 t c =
     let at-way = at-if1 .before .before in
     let going = at-way .before .loop .inv in
     let two = kind-read (at-kind .before .span-of .ensures) (at-kind .kind .ensures) (at-if4 .if4 .left) in
-    down-right (going .at) two (at-right .right-side .ensures) .side .to-le
+    down-right (going .at) two (at-right .right-side .ensures .0) .side .to-le
 
 collect-terms-loop-less-2 :
     (t : ℕ)
@@ -462,7 +455,7 @@ collect-terms-loop-less-2 t c =
     let at-way = at-if1 .before .before in
     let going = at-way .before .loop .inv in
     let two = kind-read (at-kind .before .span-of .ensures) (at-kind .kind .ensures) (at-if4 .if4 .left) in
-    down-falls (going .at) (down-right (going .at) two (at-right .right-side .ensures)) (c .before .side-spot2 .ensures)
+    down-falls (going .at) (down-right (going .at) two (at-right .right-side .ensures .0)) (c .before .side-spot2 .ensures)
 
 collect-terms-loop-again-2 :
     (t : ℕ)
@@ -486,7 +479,7 @@ collect-terms-loop-again-2 t c =
     let two = kind-read (at-kind .before .span-of .ensures) (at-kind .kind .ensures) (at-if4 .if4 .left) in
     let more = not-false _ (at-if2 .if2 .left) in
     going-right going (at-way .way-down .ensures) found spot more two first (not-false _ (at-if3 .if3 .left))
-    (at-right .right-side .ensures) (c .before .side-spot2 .ensures) refl
+    (at-right .right-side .ensures .0) (c .before .side-spot2 .ensures) refl
 
 pub +collect-terms-spec : {M : Type 1} → statement M
 +collect-terms-spec = close μ-collect-terms λ t. collect-terms-lts.spec (claims t)
