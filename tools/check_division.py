@@ -23,6 +23,7 @@ SKIPPED = re.compile(r'//[^\n]*|b?"(?:\\.|[^"\\])*"|b?\'(?:\\.|[^\'\\])\'|^[ \t]
                      re.M | re.S)
 WORD = re.compile(r"[0-9][0-9A-Za-z_]*|[A-Za-z_]\w*(?:::[A-Za-z_]\w*)*|<<=|>>=|/=|%=|<<|>>|&&|\|\||[^\s\w]")
 NUMBER = re.compile(r"(0x[0-9A-Fa-f_]+|0b[01_]+|0o[0-7_]+|[0-9][0-9_]*)(?:[iu](?:8|16|32|64|128|size))?")
+KEYWORDS = "as break else if in let loop match mut return while".split()
 LEVELS = (("|",), ("^",), ("&",), ("<<", ">>"), ("+", "-"), ("*", "/", "%"))
 
 
@@ -162,8 +163,12 @@ def faults_of(path: str, words: list[tuple[str, int]], consts: dict[str, set[int
     """How many divisions and remainders a file has, and what is wrong with them."""
     count, faults = 0, []
     ends: dict[int, set[int]] = {}  # where a division ends, and by what it divided in all
+    calls: list[bool] = []  # of the open parentheses, whether they are those of a call
     for i, (word, line) in enumerate(words):
-        if word == ")" and i in ends:
+        if word == "(":
+            before = words[i - 1][0] if i else ""
+            calls.append(before not in KEYWORDS and re.fullmatch(r"[\w:]+|[)\]]", before) is not None)
+        elif word == ")" and calls and not calls.pop() and i in ends:
             ends[i + 1] = ends[i]  # (n / 4) / 4
         if word not in ("/", "%", "/=", "%="):
             continue
@@ -172,7 +177,7 @@ def faults_of(path: str, words: list[tuple[str, int]], consts: dict[str, set[int
         try:
             values = reader.expression() if word.endswith("=") else reader.operand()
         except Unreadable:
-            faults.append(f"{path}:{line}: the divisor after {word} cannot be read; {REASON}")
+            faults.append(f"{path}:{line}: {word} by what is no number and no const, so perhaps by {RECORD}; {REASON}")
             continue
         if word == "/":
             values = combine("*", ends.get(i, {1}), values)

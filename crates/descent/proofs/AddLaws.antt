@@ -1,5 +1,5 @@
--- An Add at a spot of the file (specs/Spots.antt): both sides are smaller spots, and what is collected at the one and
--- then at the other makes up what is collected here.
+-- An Add at a spot of the file (ways/specs/Sides.antt, AtSpot): both sides are smaller spots, and what is collected at
+-- the one and then at the other makes up what is collected here.
 use mathlib.Core.Path.{_≡_, refl, ap, sym, _∙_}
 use Prim.Native.Nat.{ℕ, _+_, _≤_}
 use native.Mathlib.Omega.{arith}

@@ -1,5 +1,5 @@
--- An And of the file by the side that has a variable (specs/Spots.antt, SideOf): a complement there is taken apart, and
--- any other And is an atom as it stands.
+-- An And of the file by the side that has a variable (ways/specs/Sides.antt, SideOf): a complement there is taken
+-- apart, and any other And is an atom as it stands.
 use mathlib.Core.Path.{_≡_, refl, ap, sym, _∙_}
 use Prim.Native.Nat.{ℕ, _^_, _<_}
 use mathlib.Core.List.{List, []}

@@ -1,5 +1,5 @@
--- A smaller spot of the file (specs/Spots.antt): a side of a spot's tree is a spot again, with its part of the marks,
--- and what was asked for the one holds for the other.
+-- A smaller spot of the file (ways/specs/Sides.antt, SideAt): a side of a spot's tree is a spot again, with its part of
+-- the marks, and what was asked for the one holds for the other.
 use mathlib.Core.Path.{_≡_, ap, sym, _∙_}
 use Prim.Native.Nat.{ℕ, _<_}
 use native.Mathlib.Omega.{arith}

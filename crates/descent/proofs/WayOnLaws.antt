@@ -1,4 +1,4 @@
--- The way on from a spot of the file whose root is no Add (specs/Spots.antt, WayOf): a smaller spot, and what is
+-- The way on from a spot of the file whose root is no Add (ways/specs/Sides.antt, WayOf): a smaller spot, and what is
 -- collected there makes up what is collected here.
 use mathlib.Core.Path.{_≡_, ap, sym, _∙_}
 use Prim.Native.Nat.{ℕ, _+_, _^_, _≤_, _<_}

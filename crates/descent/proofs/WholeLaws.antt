@@ -1,4 +1,4 @@
--- Where the descent ends (specs/Spots.antt, collectWhole): what the root's mark and kind say of the tree.
+-- Where the descent ends (ways/specs/Sides.antt, collectWhole): what the root's mark and kind say of the tree.
 use mathlib.Core.Path.{_≡_, refl, ap, sym, _∙_}
 use Prim.Native.Nat.{ℕ, _≤_}
 use native.Mathlib.Omega.{arith}

@@ -1,4 +1,4 @@
--- A part of the file whose root is a Not (descent/specs/Spots.antt): what the complement is of stands before the root.
+-- A part of the file whose root is a Not (specs/Spans.antt): what the complement is of stands before the root.
 use mathlib.Core.Path.{_≡_, refl, ap, _∙_}
 use Prim.Native.Nat.{ℕ, _-_}
 use native.Mathlib.Decide.{ℕ-discrete}

@@ -38,10 +38,10 @@ pub body-marks : (k a : ℕ) (t : Tree) (n : ℕ) → n ≡ sizeOf t → take n 
 unfolding marksOf
 body-marks k a t n e = take-at (marksOf t) (markOf (Unary k a t) ∷ []) n (length-marks t ∙ sym e)
 
--- one of them
-pub mark-one : (k a : ℕ) (t : Tree) (n : ℕ) → n < sizeOf t → getD (marksOf (Unary k a t)) n 0 ≡ getD (marksOf t) n 0
+-- one of its marks
+pub mark-in-child : (k a : ℕ) (t : Tree) (n : ℕ) → n < sizeOf t → getD (marksOf (Unary k a t)) n 0 ≡ getD (marksOf t) n 0
 unfolding marksOf
-mark-one k a t n h = List·getD-append (marksOf t) (markOf (Unary k a t) ∷ []) 0 n (omega (arith, length-marks t))
+mark-in-child k a t n h = List·getD-append (marksOf t) (markOf (Unary k a t) ∷ []) 0 n (omega (arith, length-marks t))
 
 -- the marks of the two children of a root, and their own marks
 module _ (k : ℕ) (l r : Tree) (n : ℕ) where
@@ -61,13 +61,13 @@ module _ (k : ℕ) (l r : Tree) (n : ℕ) where
       ∙ take-at (marksOf r) (markOf (Binary k l r) ∷ []) n (length-marks r ∙ sym e)
 
   -- a mark of the left child, and one of the right, whose number there is i
-  pub mark-left : n < sizeOf l → getD (marksOf (Binary k l r)) n 0 ≡ getD (marksOf l) n 0
-  mark-left h =
+  pub mark-in-left : n < sizeOf l → getD (marksOf (Binary k l r)) n 0 ≡ getD (marksOf l) n 0
+  mark-in-left h =
       ap (λ (m : List ℕ). getD m n 0) apart
       ∙ List·getD-append (marksOf l) (marksOf r ++ (markOf (Binary k l r) ∷ [])) 0 n (omega (arith, length-marks l))
 
-  pub mark-right : (i : ℕ) → n ≡ sizeOf l + i → i < sizeOf r → getD (marksOf (Binary k l r)) n 0 ≡ getD (marksOf r) i 0
-  mark-right i e h =
+  pub mark-in-right : (i : ℕ) → n ≡ sizeOf l + i → i < sizeOf r → getD (marksOf (Binary k l r)) n 0 ≡ getD (marksOf r) i 0
+  mark-in-right i e h =
       let at : n ≡ length (marksOf l) + i = omega (arith, length-marks l) in
       ap (λ (m : List ℕ). getD m n 0) apart
       ∙ ap (λ (j : ℕ). getD (marksOf l ++ (marksOf r ++ (markOf (Binary k l r) ∷ []))) j 0) at
@@ -75,12 +75,12 @@ module _ (k : ℕ) (l r : Tree) (n : ℕ) where
       ∙ List·getD-append (marksOf r) (markOf (Binary k l r) ∷ []) 0 i (omega (arith, length-marks r))
 
   pub left-mark : n + 1 ≡ sizeOf l → getD (marksOf (Binary k l r)) n 0 ≡ markOf l
-  left-mark e = mark-left (omega arith) ∙ root-mark l n e
+  left-mark e = mark-in-left (omega arith) ∙ root-mark l n e
 
   pub right-mark : n + 1 ≡ sizeOf l + sizeOf r → getD (marksOf (Binary k l r)) n 0 ≡ markOf r
   right-mark e =
       let p : 1 ≤ sizeOf r = sizeOf-pos r in
-      mark-right (sizeOf r - 1) (omega arith) (omega arith) ∙ root-mark r (sizeOf r - 1) (omega arith)
+      mark-in-right (sizeOf r - 1) (omega arith) (omega arith) ∙ root-mark r (sizeOf r - 1) (omega arith)
 
 -- the tests of a mark
 number-variable : (a b : Bool) → markVariable (markNumber a b) ≡ a

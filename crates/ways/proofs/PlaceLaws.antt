@@ -15,7 +15,7 @@ use Rattle.ways.specs.declared.side.Spot.{Spot}
 use Rattle.ways.specs.Marks.{markOf, marksOf}
 use Rattle.ways.specs.Spans.{spanOf, spanUnder, Accepted}
 use Rattle.ways.specs.Sides.{AtSpot}
-use Rattle.ways.proofs.MarksLaws.{root-mark, mark-one, mark-left, mark-right}
+use Rattle.ways.proofs.MarksLaws.{root-mark, mark-in-child, mark-in-left, mark-in-right}
 use Rattle.ways.proofs.PartLaws.{getD-span}
 use Rattle.ways.proofs.SpanOfLaws.{size-sized, span-length, span-big, span-sized, span-records, body-accepted}
 use Rattle.ways.proofs.SpanOfLaws.{left-accepted, right-accepted, tree-leaf, tree-one, tree-two}
@@ -77,7 +77,7 @@ module _ {w : ℕ} {file : List ℕ} where
       one-place : (n : ℕ) → n < sizeOf child → MarkAt file start (end - 16) n → MarkAt file start end n
       one-place n h below =
           ap (λ (t : Tree). getD (marksOf t) n 0) (tree-one ok refl a)
-          ∙ mark-one k (amount (spanOf file start end)) child n h
+          ∙ mark-in-child k (amount (spanOf file start end)) child n h
           ∙ below
 
     module _ (p : arity k ≡ 0 → ⊥) (q : arity k ≡ 1 → ⊥) where
@@ -96,13 +96,13 @@ module _ {w : ℕ} {file : List ℕ} where
 
       left-place : (n : ℕ) → n < sizeOf l → MarkAt file start middle n → MarkAt file start end n
       left-place n h below =
-          ap (λ (t : Tree). getD (marksOf t) n 0) (tree-two ok refl p q) ∙ mark-left k l r n h ∙ below
+          ap (λ (t : Tree). getD (marksOf t) n 0) (tree-two ok refl p q) ∙ mark-in-left k l r n h ∙ below
 
       right-place : (n i : ℕ) → n ≡ sizeOf l + i → i < sizeOf r → MarkAt file middle (end - 16) i → MarkAt file start end n
       right-place n i e h below =
           let at : middle + 16 * i ≡ start + 16 * n = omega (arith, span-records (left-accepted ok refl p q)) in
           ap (λ (t : Tree). getD (marksOf t) n 0) (tree-two ok refl p q)
-          ∙ mark-right k l r n i e h
+          ∙ mark-in-right k l r n i e h
           ∙ below
           ∙ ap (λ (j : ℕ). markOf (decode (spanUnder file j))) at
 

@@ -1,7 +1,7 @@
--- The sides of a root with two children (descent/specs/Spots.antt, `SideOf`): their trees, marks and spans, and which
+-- The sides of a root with two children (specs/Sides.antt, `SideOf`): their trees, marks and spans, and which
 -- of the three cases holds by the marks of the two; and that their numbers, times 16, are their byte places.
 use mathlib.Core.Path.{_≡_, refl, ap, sym, _∙_}
-use Prim.Native.Nat.{ℕ, _+_, _-_, _*_, _%_, _≤_}
+use Prim.Native.Nat.{ℕ, _+_, _-_, _*_, _≤_}
 use native.Mathlib.Omega.{arith}
 use native.Mathlib.Nat.{sub-zero}
 use mathlib.Core.List.{List, []}
@@ -27,6 +27,7 @@ use Rattle.ways.proofs.MarksLaws.{root-mark, mark-variable, mark-arith}
 use Rattle.ways.proofs.SpanOfLaws.{size-sized, span-sized, binary-zero, binary-one}
 use Rattle.ways.proofs.SpanOfLaws.{left-accepted, right-accepted, left-span, right-span}
 use Rattle.ways.proofs.SpanOfLaws.{span-big, span-records}
+use Rattle.ways.proofs.TwoSidesLaws.{two-number, binary-sides}
 
 -- a tree has as many marks as records
 module _ {w : ℕ} {file marks : List ℕ} {x : Spot} (at : AtSpot w file marks x) where
@@ -97,10 +98,7 @@ module _ {w : ℕ} {file marks : List ℕ} {x : Spot} (at : AtSpot w file marks 
 
   -- the number of the right side's first record, by its place
   pub right-number-is : {i n : ℕ} → i ≡ cut span → 16 * n ≡ i → n ≡ sizeOf l
-  right-number-is ei en = omega (arith, ei, en, left-bytes-are)
-
-  pub right-whole-is : {i : ℕ} → i ≡ cut span → i % 16 ≡ 0
-  right-whole-is ei = omega (arith, ei, left-bytes-are)
+  right-number-is ei en = left-size (two-number (binary-sides at two) refl ei en) refl
 
   pub left-value : {v : ℕ} {s : List ℕ} → v ≡ value w [] (decode s) → s ≡ left span → v ≡ value w [] l
   left-value h e = h ∙ ap (value w []) (ap decode e ∙ left-tree)

@@ -1,4 +1,4 @@
--- Laws of spans of a file (descent/specs/Spots.antt): how many records a span holds, where its children's spans lie,
+-- Laws of spans of a file (specs/Spans.antt): how many records a span holds, where its children's spans lie,
 -- and that these are accepted where it is.
 use mathlib.Core.Path.{_≡_, refl, ap, sym, subst, _∙_}
 use Prim.Native.Nat.{ℕ, zero, _+_, _-_, _*_, _≤_, _<_}

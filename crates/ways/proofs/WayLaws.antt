@@ -1,4 +1,4 @@
--- The way on from a root (descent/specs/Spots.antt, `WayOf`): which case holds at each kind, from the sides of the
+-- The way on from a root (specs/Sides.antt, `WayOf`): which case holds at each kind, from the sides of the
 -- root.
 use mathlib.Core.Path.{_≡_, refl, ap, ap₂, sym, subst, _∙_}
 use Prim.Native.Nat.{ℕ, _+_, _-_, _^_, _≤_, _<_}

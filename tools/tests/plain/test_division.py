@@ -52,11 +52,14 @@ n / LATE
 n / 4 / 4
 n / 2 / 2 / 4
 (n / 2) / 8
+f((n / 2) / 8)
+f(n) / 2 / 8
+if (n / 2) / 8 == 1 { 1 } else { 0 }
+return (n / 4) / 4
 ((n / HALF)) / 2
 n / 8 / 2 * 16
 n /* of bytes */ / /* a /* record */ */ 16
-n /
-        16
+n /↵16
 f(n, "text" , n / 16)"""
 
 UNREADABLE = """n / k
@@ -76,6 +79,8 @@ n % 0x1_0000_0000
 n / TWICE
 n / 2 + n / 8
 n / 4 * 4 / 8
+f(n / 2) / 8
+a::f((n / 2)) / 8
 n % 4 / 4
 n / (RECORD_LENGTH + 1)
 n >> 4
@@ -88,7 +93,8 @@ f("n / 16", b"% 16", b'/')"""
 
 
 def lines(text):
-    return text.replace("\n        ", " ").split("\n")
+    """The samples; ↵ is the end of a line within one."""
+    return [line.replace("↵", "\n") for line in text.split("\n")]
 
 
 def function(body):
@@ -115,7 +121,7 @@ class Division(unittest.TestCase):
     def test_unreadable(self):
         for body in lines(UNREADABLE):
             found = self.faults(function(body))
-            self.assertEqual(["cannot be read; " in fault for fault in found], [True], body)
+            self.assertEqual(["no number and no const" in fault for fault in found], [True], body)
 
     def test_others(self):
         for body in lines(OTHERS):

@@ -1,4 +1,4 @@
--- `left_side` meets its contract: the record of the definition; its last number, times 16, is where it ends.
+-- `left_side` meets its contract: the record of the definition; its numbers, times 16, are where it begins and ends.
 use mathlib.Core.Path.{refl}
 use native.Mathlib.Omega.{arith}
 use Rattle.ways.specs.Sides.{leftSide}

@@ -1,14 +1,15 @@
 -- `side_of` meets its contract: the marks of the two sides tell which of them has a variable.
-use mathlib.Core.Path.{sym, _∙_}
+use mathlib.Core.Path.{refl, sym, _∙_}
 use native.Mathlib.Omega.{arith}
 use borrow.Author.Needs.{needs}
 use borrow.Author.Tests.{not-true, not-false}
 use Rattle.ways.specs.Spans.{spanOf}
 use Rattle.ways.specs.Sides.{SideOf}
 use Rattle.ways.proofs.SpanOfLaws.{span-end}
-use Rattle.ways.proofs.SideLaws.{left-sized, right-sized, right-number-is, right-whole-is, sides-size}
+use Rattle.ways.proofs.SideLaws.{left-sized, right-sized, right-number-is, sides-size}
 use Rattle.ways.proofs.SideLaws.{left-value, right-value, left-variable, right-variable}
 use Rattle.ways.proofs.SideLaws.{sides-pos, side-left, side-right}
+use Rattle.ways.proofs.TwoSidesLaws.{two-whole, binary-sides}
 use Rattle.ways.proofs.side.side_of.Statement.{statement}
 use Rattle.ways.proofs.side.side_of.Tie as tie
 
@@ -31,7 +32,7 @@ number-of-requires : tie.Need-number-of-requires
 unfolding spanOf
 number-of-requires c κs =
     let at-start = c .before .before .before .before in
-    right-whole-is (at-start .pre .0) (at-start .pre .2) (c .cut .ensures .0)
+    two-whole (binary-sides (at-start .pre .0) (at-start .pre .2)) refl (c .cut .ensures .0)
 
 sub-last : tie.Need-sub-last
 sub-last c =
