@@ -5,8 +5,7 @@ use Prim.Native.Nat.{ℕ, _+_, _*_, _≤_}
 use native.Mathlib.Omega.{arith}
 use mathlib.Core.List.{List, [], _++_}
 use mathlib.Core.Bool.{Bool, true, false}
-use lib.ListN.{length, take, drop, length-append, take-append-drop}
-use lib.Seq.{take-at, length-take-le}
+use lib.ListN.{length, take, length-append}
 use lib.Dec.{leb}
 use borrow.Author.Tests.{le-leb}
 use Rattle.record.specs.Fields.{width}
@@ -21,19 +20,22 @@ use Rattle.semilinear.specs.declared.scan.AtomTable.{AtomTable}
 use Rattle.atom_table.specs.declared.table.Table.{Table}
 use Rattle.semilinear.specs.Form.{Row, Form, termCount, atomsBytes, termsBytes, sumBytes, encodeForm, treeRecords}
 use Rattle.semilinear.specs.Form.{fitsTable}
-use Rattle.semilinear.specs.Items.{afterAtoms}
+use Rattle.semilinear.specs.Items.{afterAtoms, atomCount, atomRecords}
 use Rattle.semilinear.specs.Valid.{isSemilinear}
-use Rattle.semilinear.specs.DecodeForm.{rowsOf, decodeForm, readForm}
+use Rattle.semilinear.specs.DecodeForm.{rowsOf, decodeForm, readForm, readRows}
 use Rattle.base.specs.Outcome.{refused}
 use Rattle.semilinear.specs.Outcome.{formOutcome}
 use Rattle.semilinear.specs.Answers.{GivesForm}
 use Rattle.semilinear.specs.PassOutcome.{limitOutcome}
 use Rattle.semilinear.specs.Scan.{IsAtomTable}
-use Rattle.atom_table.specs.Table.{Placed, Kept, Holds, Clean}
+use Rattle.atom_table.specs.Table.{atomSpans, Placed, Kept, Holds, Clean}
 use Rattle.atom_table.specs.Terms.{coeffsOf, coeffsIn, coeffTerms, coeffCount, TermsPut, Copied, Finished, Ends}
+use Rattle.record.proofs.BytesLaws.{bytes-body}
 use Rattle.semilinear.proofs.AcceptLaws.{written}
+use Rattle.semilinear.proofs.RetiredLaws.{length-retired, records-retired}
 use Rattle.semilinear.proofs.FormLaws.{length-atoms, length-terms, term-count-le}
 use Rattle.atom_table.proofs.HoldsLaws.{padded-holds, at-holds}
+use Rattle.atom_table.proofs.SpansLaws.{spans-read}
 use Rattle.semilinear.proofs.OutcomeLaws.{gives-form}
 use Rattle.atom_table.proofs.PassLaws.{length-sum, gives-same}
 use Rattle.atom_table.proofs.TermsLaws.{length-coeffs-in, terms-coeffs, count-coeffs, terms-put-room}
@@ -48,68 +50,41 @@ copiedTable r = record { at = r .at; count = r .count; records = r .records; ful
 module _ (s : List ℕ) (h : IsBytes s) (ok : isSemilinear s ≡ true) {f : List ℕ} (ef : f ≡ body s) (r : AtomTable)
     (found : IsAtomTable f r) where
   abbrev rows : List Row
-  rows = rowsOf 0 (body s) (afterAtoms (body s))
+  rows = readRows 0 (body s) (afterAtoms (body s))
 
   abbrev atoms : List ℕ
   atoms = atomsBytes (width s) rows
 
+  length-is : length rows ≡ atomCount (body s)
+  length-is = length-retired (rowsOf 0 (body s) (afterAtoms (body s))) ∙ written s h ok .count
+
+  sizes-are : treeRecords rows ≡ atomRecords (body s)
+  sizes-are = records-retired (rowsOf 0 (body s) (afterAtoms (body s))) ∙ written s h ok .records
+
   count-is : r .count ≡ length rows
-  count-is = rw ef at (found .number) ∙ sym (written s h ok .count)
+  count-is = rw ef at (found .number) ∙ sym length-is
 
   records-is : r .records ≡ treeRecords rows
-  records-is = rw ef at (found .trees) ∙ sym (written s h ok .records)
+  records-is = rw ef at (found .trees) ∙ sym sizes-are
 
-  -- the atoms are as long as what stands before the terms
   at-is : r .at ≡ length atoms
-  at-is =
-      let w = written s h ok in
-      let rest : drop (r .at) (body s) ≡ afterAtoms (body s) = rw ef at (found .end .rest) in
-      let inside : r .at ≤ length (body s) = rw ef at (found .end .inside) in
-      let whole : length (atoms ++ afterAtoms (body s)) ≡ length (body s) = ap length (w .atoms) in
-      let split : length (take (r .at) (body s) ++ drop (r .at) (body s)) ≡ length (body s) =
-      ap length (take-append-drop (r .at) (body s)) in
-      let first : length (take (r .at) (body s)) ≡ r .at = length-take-le (r .at) (body s) inside in
-      omega (
-        arith,
-        whole,
-        split,
-        first,
-        length-append atoms (afterAtoms (body s)),
-        length-append (take (r .at) (body s)) (drop (r .at) (body s)),
-        ap length rest,
-      )
-
-  pub atoms-taken : take (r .at) f ≡ atoms
-  atoms-taken =
-      rw ef
-      (ap (take (r .at)) (sym (written s h ok .atoms))
-      ∙ take-at atoms (afterAtoms (body s)) (r .at) (sym at-is))
-
-  pub copy-room : r .at ≤ 57360
-  copy-room =
-      let parts = semilinear-parts s ok .1 in
-      omega (
-        arith,
-        at-is,
-        length-atoms (width s) rows,
-        written s h ok .count,
-        parts .atoms-le,
-        written s h ok .records,
-        parts .records-le,
-      )
+  at-is = omega (arith, found .place, count-is, records-is, length-atoms (width s) rows)
 
   -- they stand at the start of a slice that was all zeros
-  pub copied : {out out′ : List ℕ} → out ≡ padded 57360 [] → out′ ≡ put out 0 (take (r .at) f)
+  pub copied : {out out′ : List ℕ} → out ≡ padded 57360 [] → out′ ≡ put out 0 (atomSpans (width s) f)
       → Copied (readForm s) (copiedTable r) out′
   unfolding decodeForm fitsTable
   copied {out} {out′} z p =
       let parts = semilinear-parts s ok .1 in
+      let spans : atomSpans (width s) f ≡ atoms =
+      ap (atomSpans (width s)) ef
+      ∙ spans-read (width s) (body s) (bytes-body s h) (parts .atoms) 0 (afterAtoms (body s)) in
       let all : out′ ≡ padded 57360 atoms =
       p
-      ∙ ap₂ (λ (d x : List ℕ). put d 0 x) z atoms-taken
+      ∙ ap₂ (λ (d x : List ℕ). put d 0 x) z spans
       ∙ put-padded-at 57360 [] atoms 0 refl in
-      let most : length rows ≤ 256 = omega (arith, written s h ok .count, parts .atoms-le) in
-      let few : treeRecords rows ≤ 3072 = omega (arith, written s h ok .records, parts .records-le) in
+      let most : length rows ≤ 256 = omega (arith, length-is, parts .atoms-le) in
+      let few : treeRecords rows ≤ 3072 = omega (arith, sizes-are, parts .records-le) in
       let size : length atoms ≡ 16 * (length rows + treeRecords rows) = length-atoms (width s) rows in
       let long : length out′ ≡ 57360 = ap length all ∙ length-padded 57360 atoms (omega (arith, size)) in
       let taken : take (r .at) out′ ≡ atoms =

@@ -21,7 +21,7 @@ use Rattle.expr_refusal.specs.Refusal.{treeRefusal}
 use Rattle.expr_refusal.proofs.RefusalLaws.{sized-accepted}
 use Rattle.expr.proofs.AcceptLaws.{accept-encode}
 use Rattle.atom_table.specs.declared.table.Table.{Table}
-use Rattle.semilinear.specs.Form.{Row, atomBytes, atomsBytes, treeRecords, fitsTable}
+use Rattle.semilinear.specs.Form.{headByte, Row, newRow, newRows, atomBytes, atomsBytes, treeRecords, fitsTable}
 use Rattle.atom_table.specs.Table.{Placed, storeOf, emptyTable, atomSpan}
 use Rattle.atom_table.specs.Table.{Kept, Holds, Clean}
 use Rattle.atom_table.specs.Table.{fitsMore, moreAtoms, fullTable, createAtom}
@@ -103,49 +103,51 @@ full-holds w tab out l h = go (tab .full) refl
     go false e = e ∙ sym (ap not (h .kept e .fits))
 
 -- the row of an atom whose tree has the bytes t
-abbrev pub treeRow : ℕ → List ℕ → ℕ → Row
-treeRow p t x = record { provenance = p; tree = decode t; coeff = x }
+abbrev pub treeRow : List ℕ → ℕ → Row
+treeRow t x = newRow (decode t) x
 
--- an atom more, of which the table has the bytes t: the rows have its tree, with any coefficient
-module _ (w p x : ℕ) (t : List ℕ) (tab : Table) (out : List ℕ) (l : List Row) (h : Holds w tab out l)
-    (ok : sized t ≡ true) (same : encode w (decode t) ≡ t) where
-  abbrev row : Row
-  row = treeRow p t x
-
+-- a tree is as large as its bytes say, and its atom has the bytes of a new row's
+module _ (w : ℕ) (t : List ℕ) (ok : sized t ≡ true) (same : encode w (decode t) ≡ t) where
   size-same : sizeOf (decode t) ≡ size t
   size-same = omega (arith, length-encode w (decode t), ap length same, sized-length t ok)
 
-  span-same : atomSpan w p t ≡ atomBytes w p (decode t)
+  pub span-same : atomSpan w t ≡ atomBytes w headByte (decode t)
   unfolding atomSpan atomBytes
   span-same = rw (size-same, same)
 
+-- an atom more, of which the table has the bytes t: the rows have its tree, with any coefficient
+module _ (w x : ℕ) (t : List ℕ) (tab : Table) (out : List ℕ) (l : List Row) (h : Holds w tab out l)
+    (ok : sized t ≡ true) (same : encode w (decode t) ≡ t) where
+  abbrev row : Row
+  row = treeRow t x
+
   records-more : treeRecords (l ++ (row ∷ [])) ≡ treeRecords l + size t
   unfolding treeRecords
-  records-more = records-append l (row ∷ []) ∙ omega (arith, size-same)
+  records-more = records-append l (row ∷ []) ∙ omega (arith, size-same w t ok same)
 
   length-more : length (l ++ (row ∷ [])) ≡ length l + 1
   length-more = length-append l (row ∷ [])
 
   holds-fits : tab .full ≡ false → fitsMore tab t ≡ true
-      → Holds w (moreAtoms tab t) (put out (tab .at) (atomSpan w p t)) (l ++ (row ∷ []))
+      → Holds w (moreAtoms tab t) (put out (tab .at) (atomSpan w t)) (l ++ (row ∷ []))
   unfolding moreAtoms fitsTable
   holds-fits e f =
       let k = h .kept e in
       let q = fits-more-parts tab t f in
-      let fit = room-atom w p t tab out (h .placed) ok f in
-      let end : tab .at + 16 + length t ≡ tab .at + length (atomSpan w p t) =
-      omega (arith, length-atom-span w p t) in
+      let fit = room-atom w t tab out (h .placed) ok f in
+      let end : tab .at + 16 + length t ≡ tab .at + length (atomSpan w t) =
+      omega (arith, length-atom-span w t) in
       let a : length (l ++ (row ∷ [])) ≤ 256 = omega (arith, q .0, length-more, k .count) in
       let r : treeRecords (l ++ (row ∷ [])) ≤ 3072 = omega (arith, q .1, records-more, k .records) in
       record {
         placed =
-            rw (length-put out (tab .at) (atomSpan w p t) fit) (placed-more tab t (length out) (h .placed) ok f);
+            rw (length-put out (tab .at) (atomSpan w t) fit) (placed-more tab t (length out) (h .placed) ok f);
         kept = λ _.
             record {
               bytes =
-                  ap (λ (n : ℕ). take n (put out (tab .at) (atomSpan w p t))) end
-                  ∙ take-put out (tab .at) (atomSpan w p t) fit
-                  ∙ rw (k .bytes, span-same) (sym (atoms-more w row l));
+                  ap (λ (n : ℕ). take n (put out (tab .at) (atomSpan w t))) end
+                  ∙ take-put out (tab .at) (atomSpan w t) fit
+                  ∙ rw (k .bytes, span-same w t ok same) (sym (atoms-more w row l));
               count = omega (arith, k .count, length-more);
               records = omega (arith, k .records, records-more);
               fits = simp (le-leb (length (l ++ (row ∷ []))) 256 a, le-leb (treeRecords (l ++ (row ∷ []))) 3072 r);
@@ -171,10 +173,10 @@ module _ (w p x : ℕ) (t : List ℕ) (tab : Table) (out : List ℕ) (l : List R
           let r : tab .records + size t ≤ 3072 = omega (arith, q .1, records-more, k .records) in
           false-true (sym f ∙ fits-more-within tab t a r)
 
-  pub holds-create : {r : Table} {wrote : List ℕ} → storeOf r wrote ≡ createAtom w p t (storeOf tab out)
-      → Holds w r wrote (l ++ (treeRow p t x ∷ []))
+  pub holds-create : {r : Table} {wrote : List ℕ} → storeOf r wrote ≡ createAtom w t (storeOf tab out)
+      → Holds w r wrote (l ++ (treeRow t x ∷ []))
   holds-create =
-      create-cases w p t tab out (h .placed) ok (λ r wrote. Holds w r wrote (l ++ (row ∷ [])))
+      create-cases w t tab out (h .placed) ok (λ r wrote. Holds w r wrote (l ++ (row ∷ [])))
       still holds-past holds-fits
     where
       still : tab .full ≡ true → Holds w tab out (l ++ (row ∷ []))
@@ -186,12 +188,12 @@ module _ (w p x : ℕ) (t : List ℕ) (tab : Table) (out : List ℕ) (l : List R
           }
 
 -- the same of a tree that no refusal applies to
-pub holds-accepted : (w p x : ℕ) (t : List ℕ) (tab : Table) (out : List ℕ) (l : List Row) → Holds w tab out l
+pub holds-accepted : (w x : ℕ) (t : List ℕ) (tab : Table) (out : List ℕ) (l : List Row) → Holds w tab out l
     → IsBytes t → treeRefusal w t ≡ 0
-    → {r : Table} {wrote : List ℕ} → storeOf r wrote ≡ createAtom w p t (storeOf tab out)
-    → Holds w r wrote (l ++ (treeRow p t x ∷ []))
-holds-accepted w p x t tab out l h b e =
-    holds-create w p x t tab out l h (sized-accepted w t e) (accept-encode w t b e)
+    → {r : Table} {wrote : List ℕ} → storeOf r wrote ≡ createAtom w t (storeOf tab out)
+    → Holds w r wrote (l ++ (treeRow t x ∷ []))
+holds-accepted w x t tab out l h b e =
+    holds-create w x t tab out l h (sized-accepted w t e) (accept-encode w t b e)
 
 -- ---- what is read off at the end
 
@@ -228,6 +230,11 @@ unfolding bareRows
 length-bare [] = refl
 length-bare (x ∷ l) = rw (length-bare l)
 
+new-bare : (l : List Row) → newRows (bareRows l) ≡ newRows l
+unfolding bareRows newRows
+new-bare [] = refl
+new-bare (x ∷ l) = rw (new-bare l)
+
 fits-bare : (l : List Row) → fitsTable (bareRows l) ≡ fitsTable l
 unfolding fitsTable
 fits-bare l = rw (length-bare l, records-bare l)
@@ -235,6 +242,9 @@ fits-bare l = rw (length-bare l, records-bare l)
 module _ (l m : List Row) (e : bareRows l ≡ bareRows m) where
   fits-same : fitsTable l ≡ fitsTable m
   fits-same = sym (fits-bare l) ∙ ap fitsTable e ∙ fits-bare m
+
+  pub new-same : newRows l ≡ newRows m
+  new-same = sym (new-bare l) ∙ ap newRows e ∙ new-bare m
 
   pub holds-bare : (w : ℕ) (tab : Table) (out : List ℕ) → Holds w tab out l → Holds w tab out m
   holds-bare w tab out h =

@@ -4,6 +4,7 @@ pub mod HoldsLaws
 pub mod MadeLaws
 pub mod PassLaws
 pub mod ReadLaws
+pub mod SpansLaws
 pub mod TableLaws
 pub mod TermsLaws
 pub mod TermLengthLaws

@@ -7,12 +7,14 @@ use native.Mathlib.Decide.{ℕ-discrete}
 use mathlib.Core.Logic.{_↔_}
 use mathlib.Core.List.{List}
 use mathlib.Core.Bool.{Bool, true, false}
-use Rattle.semilinear.specs.Form.{Form, formValue, encodeForm, fitsTable, validForm}
+use Rattle.semilinear.specs.DecodeForm.{retired}
+use Rattle.semilinear.specs.Form.{Form, newRows, formValue, encodeForm, fitsTable, validForm}
 use Rattle.base.specs.Outcome.{Outcome, refused, refusalOf}
 use Rattle.semilinear.specs.Outcome.{formOutcome}
 use Rattle.semilinear.specs.PassOutcome.{passOutcome, limitOutcome}
 use Rattle.semilinear.proofs.FormLaws.{form-not-refused}
-use Rattle.semilinear.proofs.EncodeFormLaws.{form-decode, form-accept}
+use Rattle.semilinear.proofs.EncodeFormLaws.{form-accept}
+use Rattle.semilinear.proofs.RetiredLaws.{new-retired, value-retired, valid-retired, read-encode}
 use Rattle.atom_table.proofs.PassLaws.{pass-slice, pass-accepted}
 
 -- g has the width and the value of f
@@ -21,18 +23,20 @@ pub record KeptForm (f g : Form) : Type 0 where
   pub wide : g .bitwidth ≡ f .bitwidth
   pub value : (vars : List ℕ) → formValue vars g ≡ formValue vars f
 
+-- with new heads
 pub data Made (f : Form) (o : Outcome) : Type 0 where
-  made : (g : Form) (flag : Bool) → KeptForm f g → o ≡ formOutcome g flag → Made f o
+  made : (g : Form) (flag : Bool) → KeptForm f g → newRows (g .rows) ≡ true → o ≡ formOutcome g flag → Made f o
   not-made : (n : ℕ) → 0 < n → o ≡ refused n → Made f o
 
 -- a form that is given only where its table keeps the limits
 module _ (f g : Form) (flag : Bool) where
-  pub limit-made : (fitsTable (g .rows) ≡ true → KeptForm f g) → Made f (limitOutcome g flag)
+  pub limit-made : (fitsTable (g .rows) ≡ true → KeptForm f g) → newRows (g .rows) ≡ true
+      → Made f (limitOutcome g flag)
   unfolding limitOutcome
-  limit-made k = go (fitsTable (g .rows)) refl
+  limit-made k new = go (fitsTable (g .rows)) refl
     where
       go : (b : Bool) → fitsTable (g .rows) ≡ b → Made f (limitOutcome g flag)
-      go true e = made g flag (k e) (simp e)
+      go true e = made g flag (k e) new (simp e)
       go false e = not-made 9 (omega arith) (simp e)
 
   -- refusal 9 exactly where it does not
@@ -47,19 +51,23 @@ module _ (f g : Form) (flag : Bool) where
           let z : _≡_ {A = ℕ} 0 9 = ap refusalOf (sym given ∙ h) in
           absurd (omega (arith, z))
 
--- a call on the bytes of a valid form
-pub pass-made : (pass : Form → Outcome) (f : Form) → validForm f ≡ true → Made f (pass f) → (len : ℕ)
-    → Made f (passOutcome pass (encodeForm f) len)
-pass-made pass f ok m len = go (ℕ-discrete len 57360)
+-- a call on the bytes of a valid form, of a pass that keeps every valid form with new heads
+pub pass-made : (pass : Form → Outcome)
+    → ((f : Form) → validForm f ≡ true → newRows (f .rows) ≡ true → Made f (pass f))
+    → (f : Form) → validForm f ≡ true → (len : ℕ) → Made f (passOutcome pass (encodeForm f) len)
+pass-made pass keeps f ok len = go (ℕ-discrete len 57360)
   where
-    same : len ≡ 57360 → passOutcome pass (encodeForm f) len ≡ pass f
+    same : len ≡ 57360 → passOutcome pass (encodeForm f) len ≡ pass (retired f)
     same e =
-        pass-accepted pass (encodeForm f) len (form-not-refused f ok) e (form-accept f ok) ∙ ap pass (form-decode f ok)
+        pass-accepted pass (encodeForm f) len (form-not-refused f ok) e (form-accept f ok) ∙ ap pass (read-encode f ok)
 
     go : Dec (len ≡ 57360) → Made f (passOutcome pass (encodeForm f) len)
     go (no n) = not-made 2 (omega arith) (pass-slice pass (encodeForm f) len (form-not-refused f ok) n)
-    go (yes e) = by-case m
+    go (yes e) = by-case (keeps (retired f) (valid-retired f ok) (new-retired (f .rows)))
       where
-        by-case : Made f (pass f) → Made f (passOutcome pass (encodeForm f) len)
-        by-case (made g flag k q) = made g flag k (same e ∙ q)
+        by-case : Made (retired f) (pass (retired f)) → Made f (passOutcome pass (encodeForm f) len)
+        by-case (made g flag k new q) =
+            made g flag
+            (record { valid = k .valid; wide = k .wide; value = λ vars. k .value vars ∙ value-retired vars f }) new
+            (same e ∙ q)
         by-case (not-made n pos q) = not-made n pos (same e ∙ q)

@@ -15,7 +15,7 @@ use Rattle.base.proofs.BoolLaws.{and-true, false-true}
 use Rattle.semilinear.specs.declared.outcome.Answer.{Answer}
 use Rattle.semilinear.specs.Form.{Form, sumBytes}
 use Rattle.semilinear.specs.Valid.{lengthRefused, sumOk, frontOk, isSemilinear}
-use Rattle.semilinear.specs.DecodeForm.{decodeForm}
+use Rattle.semilinear.specs.DecodeForm.{readForm}
 use Rattle.base.specs.Outcome.{Outcome, refused}
 use Rattle.semilinear.specs.Answers.{GivesForm}
 use Rattle.semilinear.specs.PassOutcome.{passOutcome}
@@ -37,7 +37,7 @@ module _ (pass : Form → Outcome) (s : List ℕ) (len : ℕ) where
   pass-refused e n z = simp (e, eq-eqb len 57360 n, z)
 
   pub pass-accepted : lengthRefused s ≡ false → len ≡ 57360 → isSemilinear s ≡ true
-      → passOutcome pass s len ≡ pass (decodeForm s)
+      → passOutcome pass s len ≡ pass (readForm s)
   unfolding passOutcome
   pass-accepted e n z = simp (e, eq-eqb len 57360 n, z)
 

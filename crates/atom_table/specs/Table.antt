@@ -3,7 +3,7 @@
 -- table stays as it is.
 use Prim.Native.Nat.{ℕ, _+_, _*_, _≤_}
 use mathlib.Core.Path.{_≡_}
-use mathlib.Core.List.{List, _++_}
+use mathlib.Core.List.{List, [], _++_}
 use mathlib.Core.Bool.{Bool, true, false, _&&_}
 use lib.ListN.{length, take}
 use lib.Dec.{ltb, leb}
@@ -14,7 +14,8 @@ use Rattle.record.specs.Decode.{decode}
 use Rattle.base.specs.Put.{put, padded}
 use Rattle.expr.specs.Hash.{structuralHash}
 use Rattle.atom_table.specs.declared.table.Table.{Table}
-use Rattle.semilinear.specs.Form.{Row, atomsBytes, treeRecords, fitsTable}
+use Rattle.semilinear.specs.Form.{headByte, Row, atomsBytes, treeRecords, fitsTable}
+use Rattle.semilinear.specs.Items.{foldAtoms, treeSpan}
 use Rattle.base.specs.Limits.{atomLimit, recordLength, treeRecordLimit}
 
 -- the table's numbers agree, keep the limits, and len bytes have room for every table within them
@@ -36,9 +37,13 @@ storeOf tab out = record { table = tab; bytes = out }
 unfoldable pub emptyTable : Table
 emptyTable = record { at = 0; count = 0; records = 0; full = false }
 
--- the bytes of an atom of provenance p whose tree has the bytes t
-unfoldable pub atomSpan : ℕ → ℕ → List ℕ → List ℕ
-atomSpan w p t = recordBytes 33 p (size t) w (structuralHash (decode t)) ++ t
+-- the bytes of a new atom whose tree has the bytes t
+unfoldable pub atomSpan : ℕ → List ℕ → List ℕ
+atomSpan w t = recordBytes 33 headByte (size t) w (structuralHash (decode t)) ++ t
+
+-- the atoms at the front of f, each as a new one
+abbrev pub atomSpans : ℕ → List ℕ → List ℕ
+atomSpans w = foldAtoms (λ r. []) (λ r x. atomSpan w (treeSpan r) ++ x)
 
 -- with this atom more the table keeps its limits
 unfoldable pub fitsMore : Table → List ℕ → Bool
@@ -58,11 +63,11 @@ unfoldable pub fullTable : Table → Table
 fullTable tab = record { at = tab .at; count = tab .count; records = tab .records; full = true }
 
 -- the store after `create_atom`
-unfoldable pub createAtom : ℕ → ℕ → List ℕ → Store → Store
-createAtom w p t s =
+unfoldable pub createAtom : ℕ → List ℕ → Store → Store
+createAtom w t s =
     when (s .table .full) (λ _. s)
     (λ _. when (fitsMore (s .table) t)
-    (λ _. storeOf (moreAtoms (s .table) t) (put (s .bytes) (s .table .at) (atomSpan w p t)))
+    (λ _. storeOf (moreAtoms (s .table) t) (put (s .bytes) (s .table .at) (atomSpan w t)))
     (λ _. storeOf (fullTable (s .table)) (s .bytes)))
 
 -- ---- a table with limits beside the rows of a table without them

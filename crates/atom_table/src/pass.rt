@@ -1,8 +1,10 @@
-// The begin and the end of a pass: the atoms are copied, and the terms and the sum record follow.
+// The begin and the end of a pass: the atoms are copied with new heads, and the terms and the sum
+// record follow.
 use crate::table;
 use crate::table::Table;
 use crate::table::Written;
 use base::limits;
+use semilinear::items;
 use semilinear::outcome;
 use semilinear::outcome::Answer;
 use semilinear::scan;
@@ -11,23 +13,39 @@ ghost use mathlib.Core.Bool.{true};
 ghost use mathlib.Core.List.{[]};
 ghost use Prim.Native.Nat.{_+_, _<_, _≤_};
 ghost use lib.ListN.{length};
-ghost use Rattle.base.specs.Put.{padded};
-ghost use Rattle.semilinear.specs.Valid.{isSemilinear};
+ghost use Rattle.base.specs.Put.{put, padded};
+ghost use Rattle.semilinear.specs.Valid.{atomsOk, isSemilinear};
 ghost use Rattle.semilinear.specs.DecodeForm.{readForm};
+ghost use Rattle.atom_table.specs.Table.{atomSpans};
 ghost use Rattle.atom_table.specs.Terms.{coeffsIn, TermPut, TermsRoom, TermsPut, Copied, FinishRoom, Finished};
 ghost use Rattle.base.specs.Limits.{formBytes, recordLength};
 
-// Copies the atoms of the form s to the start of out, which is all zeros.
+// Puts the atoms at the front of f into out from its start on, each with a new head.
+fn put_atoms(f: &[u8], w: u8, out: &mut [u8])
+    requires { ⌜ (atomsOk w (now f) ≡ true) × (length (now f) ≤ length (now out)) ⌝ }
+    ensures { λ _. ⌜ now (out .exit) ≡ put (now (out .entry)) 0 (atomSpans w (now (f .entry))) ⌝ }
+{
+    let mut at = 0;
+    loop {
+        let r = items::rest_from(f, at);
+        if !items::is_atom(r) {
+            return;
+        }
+        table::put_atom(out, at, items::tree_span(r), items::front_word(r), w);
+        at += items::atom_length(r);
+    }
+}
+
+// Copies the atoms of the form s to the start of out, which is all zeros, with new heads.
 pub fn copy_atoms(s: &[u8], out: &mut [u8]) -> Table
     requires { ⌜ (isSemilinear (now s) ≡ true) × (now out ≡ padded formBytes []) ⌝ }
     ensures { λ r. ⌜ Copied (readForm (now (s .entry))) r (now (out .exit)) ⌝ }
 {
     let f = record::body(s);
     let found = scan::atom_table(f);
-    let at = found.at;
-    base::write::put_bytes(out, 0, &f[..at]);
+    put_atoms(f, record::width(s), out);
     Table {
-        at: at,
+        at: found.at,
         count: found.count,
         records: found.records,
         full: false,

@@ -13,26 +13,18 @@ ghost use Rattle.semilinear.specs.Form.{termBytes, sumBytes};
 ghost use Rattle.atom_table.specs.Table.{Placed, storeOf, emptyTable, atomSpan, createAtom};
 ghost use Rattle.base.specs.Limits.{recordLength};
 
-// The operator families of an atom, its provenance.
-pub const AND_FAMILY: u8 = 0;
-
-pub const OR_FAMILY: u8 = 1;
-
-pub const XOR_FAMILY: u8 = 2;
-
-pub const NOT_FAMILY: u8 = 3;
-
-pub const MIXED_FAMILY: u8 = 4;
+// Byte 1 of every new head.
+pub const HEAD_BYTE: u8 = 4;
 
 // Puts an atom, its head and a copy of its tree t, into out from index `at` on. The tree's hash is
 // given: who has looked for the tree has it.
-pub fn put_atom(out: &mut [u8], at: usize, t: &[u8], hash: u64, prov: u8, w: u8)
+pub fn put_atom(out: &mut [u8], at: usize, t: &[u8], hash: u64, w: u8)
     requires { ⌜ (at + recordLength + length (now t) ≤ length (now out)) × (sized (now t) ≡ true)
         × (hash ≡ structuralHash (decode (now t))) ⌝ }
     ensures { λ _. ⌜ now (out .exit)
-        ≡ put (now (out .entry)) at (atomSpan w prov (now (t .entry))) ⌝ }
+        ≡ put (now (out .entry)) at (atomSpan w (now (t .entry))) ⌝ }
 {
-    record::write::put_record(out, at, 33, prov, record::size(t), w, hash);
+    record::write::put_record(out, at, 33, HEAD_BYTE, record::size(t), w, hash);
     base::write::put_bytes(out, at + limits::RECORD_LENGTH, t);
 }
 
@@ -75,11 +67,11 @@ impl Table {
 
     // Appends an atom with the tree t; its number is the count before. Corresponds to
     // `create_atom`.
-    pub fn create_atom(mut self, out: &mut [u8], t: &[u8], hash: u64, prov: u8, w: u8) -> Self
+    pub fn create_atom(mut self, out: &mut [u8], t: &[u8], hash: u64, w: u8) -> Self
         requires { ⌜ Placed self (length (now out)) × (sized (now t) ≡ true)
             × (hash ≡ structuralHash (decode (now t))) ⌝ }
         ensures { λ r. ⌜ storeOf r (now (out .exit))
-            ≡ createAtom w prov (now (t .entry)) (storeOf self (now (out .entry))) ⌝ }
+            ≡ createAtom w (now (t .entry)) (storeOf self (now (out .entry))) ⌝ }
     {
         if self.full {
             return self;
@@ -96,7 +88,7 @@ impl Table {
             return self;
         }
         let at = self.at;
-        put_atom(out, at, t, hash, prov, w);
+        put_atom(out, at, t, hash, w);
         self.at = at + limits::RECORD_LENGTH + t.len();
         self.count = count + 1;
         self.records = records + size;

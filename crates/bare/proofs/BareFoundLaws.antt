@@ -8,7 +8,7 @@ use lib.ListN.{length, getD, take, length-take}
 use borrow.Author.Tests.{lt-ltb, le-ltb}
 use Rattle.record.specs.Tree.{Tree}
 use Rattle.record.specs.Decode.{decode}
-use Rattle.semilinear.specs.Form.{mixedFamily, Row}
+use Rattle.semilinear.specs.Form.{Row}
 use Rattle.made.specs.Rows.{createRow}
 use Rattle.made.specs.Made.{tableOf, Room, Held, Grew, Basis}
 use Rattle.group.proofs.SteppedLaws.{later-none}
@@ -30,7 +30,7 @@ module _ (w : ℕ) (t : Tree) (l : List Row) where
   unfolding withBare
   bare-there h = simp (lt-ltb (rowWith w t 0 l) (length l) h)
 
-  bare-new : length l ≤ rowWith w t 0 l → withBare w t l ≡ createRow mixedFamily t l
+  bare-new : length l ≤ rowWith w t 0 l → withBare w t l ≡ createRow t l
   unfolding withBare
   bare-new h = simp (le-ltb (rowWith w t 0 l) (length l) h)
 
@@ -57,7 +57,7 @@ module _ {w hash : ℕ} {b : List ℕ} (basis : Basis w hash b) (word : hash < 2
       }
 
   pub bare-created : getD made 1 0 ≤ r → {made′ out′ : List ℕ}
-      → Grew w 1 (createRow mixedFamily (decode b)) made out made′ out′
+      → Grew w 1 (createRow (decode b)) made out made′ out′
       → BareFound w (decode b) r made out made′ out′
   bare-created le g =
       record {

@@ -1,7 +1,6 @@
 // The number of a tree among the atoms of a pass's table, to which it is added where it has none.
 pub mod constant;
 
-use atom_table::table;
 use semilinear::items;
 ghost use mathlib.Core.Path.{_≡_};
 ghost use mathlib.Core.Bool.{true};
@@ -46,19 +45,19 @@ fn row_with(f: &[u8], t: &[u8], hash: u64) -> u64
     }
 }
 
-// Appends an atom with the tree t, of provenance p.
-pub fn create_row(made: &mut [u64], out: &mut [u8], t: &[u8], hash: u64, p: u8, w: u8)
+// Appends an atom with the tree t.
+pub fn create_row(made: &mut [u64], out: &mut [u8], t: &[u8], hash: u64, w: u8)
     requires { ⌜ Room (now made) (now out) × Basis w hash (now t)
         × (getD (now made) 4 0 + 1 < 2 ^ 64) ⌝ }
-    ensures { λ _. ⌜ Grew w 1 (createRow p (decode (now (t .entry))))
+    ensures { λ _. ⌜ Grew w 1 (createRow (decode (now (t .entry))))
         (now (made .entry)) (now (out .entry)) (now (made .exit)) (now (out .exit)) ⌝ }
 {
     let tab = made::load(made);
-    let more = tab.create_atom(out, t, hash, p, w);
+    let more = tab.create_atom(out, t, hash, w);
     made::store(made, more);
 }
 
-// The number of the first atom with the tree b; a new one where there is none, Mixed. Corresponds to
+// The number of the first atom with the tree b; a new one where there is none. Corresponds to
 // `find_or_create_bare_atom`.
 pub fn find_or_create_bare(made: &mut [u64], out: &mut [u8], b: &[u8], hash: u64, w: u8) -> u64
     requires { ⌜ Makes w 1 hash (now b) (now made) (now out) ⌝ }
@@ -70,6 +69,6 @@ pub fn find_or_create_bare(made: &mut [u64], out: &mut [u8], b: &[u8], hash: u64
     if i < made[1] {
         return i;
     }
-    create_row(made, out, b, hash, table::MIXED_FAMILY, w);
+    create_row(made, out, b, hash, w);
     i
 }

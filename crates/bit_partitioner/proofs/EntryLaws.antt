@@ -27,6 +27,7 @@ use Rattle.profile.specs.Index.{AtomsValid}
 use Rattle.bit_partitioner.specs.Places.{formRows, AllPlaced, FormPlaced}
 use Rattle.partition_laws.proofs.ClassesLaws.{classes-none, classes-some}
 use Rattle.partition_laws.proofs.ColumnsLaws.{columns}
+use Rattle.partition_laws.proofs.RetiredLaws.{partitions-retired}
 use Rattle.profile.proofs.IndexLaws.{trees-count}
 use Rattle.profile.proofs.MoveLaws.{rows-length}
 
@@ -109,7 +110,10 @@ module _ (s : List ℕ) (len : ℕ) {n : ℕ} {out : List ℕ} (door : Gives (op
         → Gives (computePartitions s len) len 0 (r ∷ []) after
     unfolding computePartitions partitionsOutcome refusalOf numbersOf writtenOf
     call-given {after} {r} h =
-        rw (opened partitionsOutcome 16448 s len n (door .number) z .1, call-open .sliced)
+        rw (
+          opened partitionsOutcome 16448 s len n (door .number) z .1 ∙ partitions-retired (decodeForm s),
+          call-open .sliced,
+        )
         record { number = refl; beside = ap (λ (k : ℕ). k ∷ []) (h .number); written = h .words }
 
 -- ---- what the words say
@@ -121,7 +125,8 @@ unfolding computePartitions partitionsOutcome refusalOf numbersOf writtenOf
 columns-of-call s len h {count} {out} g = go (read-cases partitionsOutcome 16448 s len)
   where
     go : Read partitionsOutcome 16448 s len → Columns (decodeForm s) out count
-    go (read-given o p q) =
+    go (read-given o e q) =
+        let p = e ∙ partitions-retired (decodeForm s) in
         let number : count ≡ length (classesOf (decodeForm s)) =
         ap (λ (l : List ℕ). getD l 0 0) (g .beside ∙ ap (λ (x : Outcome). take 1 (numbersOf 1 x)) p) in
         rw (number, g .written ∙ ap (writtenOf len) p) (columns (decodeForm s) (form-valid s h (o .form)) len)

@@ -14,13 +14,12 @@ use Rattle.base.specs.Put.{padded}
 use Rattle.record.specs.Tree.{Tree}
 use Rattle.base.proofs.BoolLaws.{false-true}
 use Rattle.base.proofs.LoopLaws.{when-both}
-use Rattle.semilinear.specs.Form.{mixedFamily, Row, eqTree, fitsTable}
+use Rattle.semilinear.specs.Form.{Row, newRow, eqTree, fitsTable}
 use Rattle.atom_table.specs.Terms.{coeffsOf}
-use Rattle.atom_table.proofs.HoldsLaws.{past-more}
 use Rattle.made.specs.Rows.{createRow, maskedTree, createMasked, addCoeff}
 use Rattle.made.specs.Made.{tableOf, Room, Grew}
 use Rattle.group.specs.Gathered.{addWord}
-use Rattle.made.proofs.CoeffsLaws.{coeffs-create, fits-length, fits-less}
+use Rattle.made.proofs.CoeffsLaws.{create-past, coeffs-create, fits-length, fits-less}
 use Rattle.group.proofs.SettleLaws.{add-length}
 use Rattle.group.proofs.ShownLaws.{add-fits, shown-add}
 use Rattle.structure_laws.specs.RecoverStructure.{rowWith, withBare}
@@ -32,25 +31,18 @@ use Rattle.carried.proofs.CarriedInLaws.{in-next}
 
 -- ---- a row more
 
-abbrev newRow : ℕ → Tree → Row
-newRow p t = record { provenance = p; tree = t; coeff = 0 }
-
-module _ (p : ℕ) (t : Tree) (l : List Row) where
-  create-past : fitsTable l ≡ false → fitsTable (createRow p t l) ≡ false
+module _ (t : Tree) (l : List Row) where
+  create-fits : fitsTable (createRow t l) ≡ true → fitsTable l ≡ true
   unfolding createRow
-  create-past h = past-more l (newRow p t ∷ []) h
+  create-fits h = fits-less l (newRow t 0 ∷ []) h
 
-  create-fits : fitsTable (createRow p t l) ≡ true → fitsTable l ≡ true
+  create-length : length (createRow t l) ≡ length l + 1
   unfolding createRow
-  create-fits h = fits-less l (newRow p t ∷ []) h
+  create-length = length-append l (newRow t 0 ∷ [])
 
-  create-length : length (createRow p t l) ≡ length l + 1
-  unfolding createRow
-  create-length = length-append l (newRow p t ∷ [])
-
-  create-coeffs : fitsTable (createRow p t l) ≡ true
-      → padded 256 (coeffsOf (createRow p t l)) ≡ padded 256 (coeffsOf l)
-  create-coeffs h = coeffs-create 256 p t l (omega (arith, create-length, fits-length (createRow p t l) h))
+  create-coeffs : fitsTable (createRow t l) ≡ true
+      → padded 256 (coeffsOf (createRow t l)) ≡ padded 256 (coeffsOf l)
+  create-coeffs h = coeffs-create 256 t l (omega (arith, create-length, fits-length (createRow t l) h))
 
 -- ---- the row of the basis alone
 
@@ -66,33 +58,33 @@ module _ (w : ℕ) (t : Tree) where
     bare-past : fitsTable l ≡ false → fitsTable (withBare w t l) ≡ false
     unfolding withBare
     bare-past h =
-        when-both (λ (m : List Row). fitsTable m ≡ false) (ltb (rowWith w t 0 l) (length l)) l (createRow mixedFamily t l) (λ _. h)
-        (λ _. create-past mixedFamily t l h)
+        when-both (λ (m : List Row). fitsTable m ≡ false) (ltb (rowWith w t 0 l) (length l)) l (createRow t l) (λ _. h)
+        (λ _. create-past t l h)
 
     bare-fits : fitsTable (withBare w t l) ≡ true → fitsTable l ≡ true
     unfolding withBare
     bare-fits =
         when-both (λ (m : List Row). fitsTable m ≡ true → fitsTable l ≡ true) (ltb (rowWith w t 0 l) (length l)) l
-        (createRow mixedFamily t l) (λ _ h. h) (λ _. create-fits mixedFamily t l)
+        (createRow t l) (λ _ h. h) (λ _. create-fits t l)
 
     bare-coeffs : fitsTable (withBare w t l) ≡ true → padded 256 (coeffsOf (withBare w t l)) ≡ padded 256 (coeffsOf l)
     unfolding withBare
     bare-coeffs =
         when-both
         (λ (m : List Row). fitsTable m ≡ true → padded 256 (coeffsOf m) ≡ padded 256 (coeffsOf l))
-        (ltb (rowWith w t 0 l) (length l)) l (createRow mixedFamily t l) (λ _ h. refl) (λ _. create-coeffs mixedFamily t l)
+        (ltb (rowWith w t 0 l) (length l)) l (createRow t l) (λ _ h. refl) (λ _. create-coeffs t l)
 
     bare-lt : rowWith w t 0 l < length (withBare w t l)
     unfolding withBare
     bare-lt =
-        when-both (λ (m : List Row). rowWith w t 0 l < length m) (ltb (rowWith w t 0 l) (length l)) l (createRow mixedFamily t l)
-        (λ e. ltb-true _ _ e) (λ _. omega (arith, with-le l 0, create-length mixedFamily t l))
+        when-both (λ (m : List Row). rowWith w t 0 l < length m) (ltb (rowWith w t 0 l) (length l)) l (createRow t l)
+        (λ e. ltb-true _ _ e) (λ _. omega (arith, with-le l 0, create-length t l))
 
     bare-longer : length l ≤ length (withBare w t l)
     unfolding withBare
     bare-longer =
-        when-both (λ (m : List Row). length l ≤ length m) (ltb (rowWith w t 0 l) (length l)) l (createRow mixedFamily t l)
-        (λ _. omega arith) (λ _. omega (arith, create-length mixedFamily t l))
+        when-both (λ (m : List Row). length l ≤ length m) (ltb (rowWith w t 0 l) (length l)) l (createRow t l)
+        (λ _. omega arith) (λ _. omega (arith, create-length t l))
 
 -- ---- the new terms
 
@@ -117,7 +109,7 @@ module _ (w : ℕ) (t : Tree) where
     row-past h =
         when-both (λ (r : List Row). fitsTable r ≡ false) (eqb m (2 ^ w - 1)) bare masked
         (λ _. add-fits w c (rowWith w t 0 l) (withBare w t l) ∙ bare-past w t l h)
-        (λ _. add-fits w c (length l) (createMasked w t m l) ∙ create-past 0 (maskedTree w t m) l h)
+        (λ _. add-fits w c (length l) (createMasked w t m l) ∙ create-past (maskedTree w t m) l h)
 
     row-longer : w ≤ 64 → length l ≤ length (carriedRow w t c m l)
     unfolding carriedRow createMasked
@@ -127,7 +119,7 @@ module _ (w : ℕ) (t : Tree) where
         (λ _. omega (
           arith,
           add-length w [] hw c (length l) (createMasked w t m l),
-          create-length 0 (maskedTree w t m) l,
+          create-length (maskedTree w t m) l,
         ))
 
   rows-first : (x : Carried) (l : List Carried) (rows : List Row)
@@ -254,8 +246,8 @@ module _ (w c m : ℕ) (t : Tree) (hw : w ≤ 64) {made out coeffs made′ out�
             let u : Tree = maskedTree w t m in
             rw (row-masked w t c m l nm)
             (shows-shown
-            (shown-add w c (length l) (createMasked w t m l) hw (omega (arith, create-length 0 u l)) (g .held l (h .held))
-            (λ f. h .terms (create-fits 0 u l f) ∙ sym (create-coeffs 0 u l f)) at-row));
+            (shown-add w c (length l) (createMasked w t m l) hw (omega (arith, create-length u l)) (g .held l (h .held))
+            (λ f. h .terms (create-fits u l f) ∙ sym (create-coeffs u l f)) at-row));
       }
 
 -- ---- the new terms in turn

@@ -25,6 +25,7 @@ use Rattle.semilinear.specs.Items.{atomLength, isAtom, treeSpan, afterAtom, ato
 use Rattle.semilinear.specs.Valid.{atomTreeOk, treeOk, atomOk, termOk, termsOkF, termsOk, sumOk, frontOk}
 use Rattle.semilinear.specs.Valid.{isSemilinear, lengthRefused}
 use Rattle.semilinear.specs.DecodeForm.{hasTerm, coeffAt, afterTerm, rowAt, rowsF, rowsOf, decodeForm}
+use Rattle.semilinear.specs.DecodeForm.{retiredRows}
 use Rattle.compaction.specs.Compact.{usedRows, compactForm, compactAtomTable}
 use Rattle.group.specs.Group.{at, putEntry, emptyGroup, pushEntry, isLive, consumed, work, onGroup}
 use Rattle.made.specs.Rows.{createRow}
@@ -41,7 +42,7 @@ use Rattle.normalizer_laws.specs.Collect.{joinCollected, collectAtom, collectCo
 use Rattle.normalizer_laws.specs.Collect.{collectNot, isMaskedNot, collectAnd, andCoeff, collectMasked}
 use Rattle.normalizer_laws.specs.Collect.{collectTerms}
 use Rattle.normalizer_laws.specs.Normalize.{collectedForm, collectedOutcome, normalizeTree, normalizeToSemilinear}
-use Rattle.normalizer_laws.specs.Register.{familyOf, joinProvenance, detectProvenance, sameSlot, newestRow}
+use Rattle.normalizer_laws.specs.Register.{sameSlot, newestRow}
 use Rattle.normalizer_laws.specs.Register.{firstRow, hasTree, sharedRow, addRow, registerAtom, registerAll}
 use Rattle.group.specs.Collapse.{thirdFits, findThird, secondFits, findSecond, firstFits, findFirst}
 use Rattle.group.specs.Collapse.{collapseAt, threeTermCollapse}
@@ -64,7 +65,7 @@ use Rattle.claims.specs.Example.{sameOutcome, allHold}
 use Rattle.claims.specs.Examples.{starred, tricky}
 use Rattle.claims.specs.Slips.{slips}
 use Rattle.claims.specs.Wide.{wideNormal, widePasses, wide}
-use Rattle.claims.specs.OnBytes.{onBytes, refusals, orders}
+use Rattle.claims.specs.OnBytes.{onBytes, savedHeads, refusals, orders}
 
 -- all that computing an example opens
 opened : Unit {0}
@@ -75,8 +76,7 @@ unfolding trailingZeros onesIn bitAt effectiveMask reduceMask canChangeCoefficie
     emptyGroup pushEntry isLive consumed work onGroup createRow maskedTree createMasked viewRow anyBasis variableBasis
     insertBasis basesOf groupOf ungrouped addCoeff settleAt settle turnsF forIn firstF firstIn formOutcome limitOutcome
     joinCollected collectAtom collectConstant isNot operand collectNot isMaskedNot collectAnd andCoeff collectMasked
-    collectTerms collectedForm collectedOutcome normalizeTree familyOf joinProvenance detectProvenance isPure sameTable
-    sameSlot
+    collectTerms collectedForm collectedOutcome normalizeTree isPure sameTable sameSlot
     newestRow firstRow hasTree sharedRow addRow registerAtom registerAll hasShift bitBinary bitOf rowBits tableF
     table thirdFits findThird secondFits findSecond firstFits findFirst collapseAt threeTermCollapse refineGroup
     refineAll refineForm remasked cutAt cutMasks dropAt dropZero joinAt slotFits placeAt placeBucket insertKey keyAt
@@ -110,13 +110,17 @@ unfolding opened u16 u32 u64 kind byte1 varIndex amount size width spare literal
     fold leaf lowest usesByte1 fieldsOk sizeOk formOk widthOk rootRefusal exprRefusal frontKind provenance frontNumber
     frontWidth frontSpare frontWord atomLength isAtom treeSpan afterAtom atomsF foldAtoms isTerm atomTreeOk treeOk
     atomOk termOk termsOkF termsOk sumOk frontOk isSemilinear lengthRefused hasTerm coeffAt afterTerm rowAt rowsF
-    rowsOf decodeForm usedRows compactForm passOutcome compactAtomTable normalizeToSemilinear
+    rowsOf decodeForm retiredRows usedRows compactForm passOutcome compactAtomTable normalizeToSemilinear
     refineTerms coalesceTerms flattenComplexAtoms recoverStructure computePartitions passGives useOf afterCall inUse
 openedBytes = tt
 
 on-bytes-hold : allHold onBytes ≡ true
 unfolding openedBytes onBytes
 on-bytes-hold = refl
+
+saved-heads-hold : allHold savedHeads ≡ true
+unfolding openedBytes savedHeads
+saved-heads-hold = refl
 
 refusals-hold : allHold refusals ≡ true
 unfolding openedBytes refusals

@@ -3,3 +3,4 @@ mod ExamplesLaws
 pub mod CallsLaws
 pub mod NormalizedLaws
 pub mod AtomsLaws
+pub mod HeadsLaws

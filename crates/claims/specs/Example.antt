@@ -6,7 +6,7 @@ use lib.Dec.{eqb}
 use Rattle.base.specs.Lists.{eqList}
 use Rattle.record.specs.Tree.{Tree}
 use Rattle.record.specs.Tree.Tree.{Constant, Variable, Binary}
-use Rattle.semilinear.specs.Form.{Row, Form}
+use Rattle.semilinear.specs.Form.{Row, Form, newRow}
 use Rattle.base.specs.Outcome.{Outcome, accepted, refused}
 use Rattle.semilinear.specs.Outcome.{formOutcome}
 use Rattle.normalizer_laws.specs.Normalize.{normalizeTree}
@@ -40,13 +40,13 @@ b = Variable 1
 abbrev pub mask : Tree → ℕ → Tree
 mask t m = Binary 4 t (Constant m)
 
--- a row: provenance (And 0, Xor 2, Not 3, Mixed 4), tree, and coefficient, 0 where it has no term
-abbrev pub row : ℕ → Tree → ℕ → Row
-row p t c = record { provenance = p; tree = t; coeff = c }
+-- a row: tree, and coefficient, 0 where it has no term
+abbrev pub row : Tree → ℕ → Row
+row t c = newRow t c
 
--- c·(a & m), made by And
+-- c·(a & m)
 abbrev pub term : ℕ → ℕ → Row
-term m c = row 0 (mask a m) c
+term m c = row (mask a m) c
 
 abbrev pub form : ℕ → ℕ → List Row → Form
 form w c l = record { bitwidth = w; constant = c; rows = l }

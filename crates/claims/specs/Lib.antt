@@ -8,3 +8,4 @@ pub mod OnBytes
 pub mod Calls
 pub mod Normalized
 pub mod Atoms
+pub mod Heads

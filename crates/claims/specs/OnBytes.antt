@@ -1,6 +1,6 @@
 -- Worked examples on bytes: an expression file or the bytes of a form in, and the bytes, numbers or refusal that the
 -- definitions of the entry points give (w = 8, a is v0, b is v1). Starred puzzles of each kind, document 01's examples
--- of refusals, and two lists of calls.
+-- of refusals, sheets saved with old heads, and two lists of calls.
 use Prim.Native.Nat.{ℕ}
 use mathlib.Core.List.{List, [], _∷_, _++_}
 use mathlib.Core.Bool.{Bool, true, false}
@@ -44,14 +44,14 @@ abbrev sheet : List Row → Form
 sheet l = form 8 0 l
 
 abbrev xor : ℕ → ℕ → Row
-xor m c = row 2 (Binary 6 (Constant m) a) c
+xor m c = row (Binary 6 (Constant m) a) c
 
 unfoldable pub onBytes : List Example
 onBytes =
     -- the starred puzzles of normalising, refining, recovering and the columns
-    normalizes (Binary 6 a (Constant 15)) (form 8 15 (row 4 a 1 ∷ term 15 254 ∷ []))
+    normalizes (Binary 6 a (Constant 15)) (form 8 15 (row a 1 ∷ term 15 254 ∷ []))
     ∷ makes refine-terms (sheet (term 255 16 ∷ [])) (sheet (term 255 0 ∷ term 15 16 ∷ [])) false
-    ∷ makes refine-terms (sheet (term 15 1 ∷ term 240 1 ∷ [])) (sheet (term 15 0 ∷ term 240 0 ∷ row 0 a 1 ∷ [])) false
+    ∷ makes refine-terms (sheet (term 15 1 ∷ term 240 1 ∷ [])) (sheet (term 15 0 ∷ term 240 0 ∷ row a 1 ∷ [])) false
     ∷ makes recover-structure (sheet (term 252 1 ∷ term 3 255 ∷ term 0 255 ∷ []))
     (form 8 253 (term 252 0 ∷ term 3 0 ∷ term 0 255 ∷ xor 3 1 ∷ [])) false
     ∷ record {
@@ -59,12 +59,56 @@ onBytes =
       want = accepted (15 ∷ 2 ∷ 240 ∷ 0 ∷ []) (2 ∷ []);
     }
     -- coalescing, flattening with its flag, and compaction, which numbers the atoms anew
-    ∷ makes coalesce-terms (sheet (term 15 1 ∷ term 240 1 ∷ [])) (sheet (term 15 0 ∷ term 240 0 ∷ row 4 a 1 ∷ [])) false
-    ∷ makes flatten-complex-atoms (form 8 7 (row 3 (Unary 7 0 b) 3 ∷ []))
-    (form 8 4 (row 3 (Unary 7 0 b) 0 ∷ row 0 b 253 ∷ [])) true
-    ∷ makes compact-atom-table (form 8 9 (term 15 0 ∷ row 4 b 2 ∷ term 240 0 ∷ xor 3 1 ∷ []))
-    (form 8 9 (row 4 b 2 ∷ xor 3 1 ∷ [])) false
+    ∷ makes coalesce-terms (sheet (term 15 1 ∷ term 240 1 ∷ [])) (sheet (term 15 0 ∷ term 240 0 ∷ row a 1 ∷ [])) false
+    ∷ makes flatten-complex-atoms (form 8 7 (row (Unary 7 0 b) 3 ∷ []))
+    (form 8 4 (row (Unary 7 0 b) 0 ∷ row b 253 ∷ [])) true
+    ∷ makes compact-atom-table (form 8 9 (term 15 0 ∷ row b 2 ∷ term 240 0 ∷ xor 3 1 ∷ []))
+    (form 8 9 (row b 2 ∷ xor 3 1 ∷ [])) false
     ∷ []
+
+-- ---- sheets saved with other bytes in their heads (ticket #107)
+
+-- a row with byte p in its head
+abbrev saved : ℕ → Tree → ℕ → Row
+saved p t c = record { provenance = p; tree = t; coeff = c }
+
+-- 1 a + 3 b with 0 and 3 there, and as a new sheet
+abbrev old : Form
+old = sheet (saved 0 a 1 ∷ saved 3 b 3 ∷ [])
+
+abbrev new : Form
+new = sheet (row a 1 ∷ row b 3 ∷ [])
+
+-- 1 (a & 15) + 1 (a & 240) with 1 and 2 there
+abbrev halves : List Row
+halves = saved 1 (mask a 15) 1 ∷ saved 2 (mask a 240) 1 ∷ []
+
+unfoldable pub savedHeads : List Example
+savedHeads =
+    -- every pass writes new heads, also where it changes nothing else
+    makes compact-atom-table old new false
+    ∷ makes refine-terms old new false
+    ∷ makes recover-structure old new false
+    ∷ makes coalesce-terms old new false
+    ∷ makes flatten-complex-atoms old new false
+    ∷ makes refine-terms (sheet halves) (sheet (term 15 0 ∷ term 240 0 ∷ row a 1 ∷ [])) false
+    ∷ makes compact-atom-table (sheet (saved 0 a 0 ∷ saved 1 b 2 ∷ [])) (sheet (row b 2 ∷ [])) false
+    -- the columns are the same
+    ∷ record {
+      got = computePartitions (encodeForm (sheet halves)) columnWords;
+      want = computePartitions (encodeForm (sheet (term 15 1 ∷ term 240 1 ∷ []))) columnWords;
+    }
+    -- a refused call leaves the bytes in use as they were
+    ∷ record {
+      got = accepted (inUse (record { pass = compact-atom-table; len = short } ∷ []) (encodeForm old)) [];
+      want = accepted (encodeForm old) [];
+    }
+    -- 5 is no byte of a head
+    ∷ stops compact-atom-table (encodeForm (sheet (saved 5 a 1 ∷ []))) whole 10
+    ∷ stops flatten-complex-atoms (encodeForm (sheet (row a 1 ∷ saved 255 b 2 ∷ []))) whole 10
+    ∷ []
+
+-- ---- refusals
 
 -- 15 bytes; and a form that is none: its term has the coefficient 0
 abbrev fifteen : List ℕ

@@ -20,13 +20,13 @@ coalesces l m = pass coalesceForm (form 8 0 l) (form 8 0 m)
 
 -- c·((a & 60) & 15), c·(a ^ 15), and (a ^ b) & m
 abbrev twice : ℕ → Row
-twice c = row 0 (mask (mask a 60) 15) c
+twice c = row (mask (mask a 60) 15) c
 
 abbrev a^15 : ℕ → Row
-a^15 c = row 2 (Binary 6 a (Constant 15)) c
+a^15 c = row (Binary 6 a (Constant 15)) c
 
 abbrev a^b& : ℕ → Row
-a^b& m = row 0 (mask (Binary 6 a b) m) 1
+a^b& m = row (mask (Binary 6 a b) m) 1
 
 -- the And of v0 to vn
 abbrev andTo : ℕ → Tree
@@ -40,11 +40,11 @@ slips =
     -- the bits passed come before the bits inverted, and both atoms are And's
     ∷ flat (form 8 0 (a^15 1 ∷ [])) (form 8 15 (a^15 0 ∷ term 240 1 ∷ term 15 255 ∷ [])) true
     -- a variable is not flattened, and the flag stays 0; so it is with an atom that has no term
-    ∷ flat (form 8 0 (row 4 a 1 ∷ [])) (form 8 0 (row 4 a 1 ∷ [])) false
-    ∷ flat (form 8 0 (row 3 (Unary 7 0 a) 0 ∷ [])) (form 8 0 (row 3 (Unary 7 0 a) 0 ∷ [])) false
+    ∷ flat (form 8 0 (row a 1 ∷ [])) (form 8 0 (row a 1 ∷ [])) false
+    ∷ flat (form 8 0 (row (Unary 7 0 a) 0 ∷ [])) (form 8 0 (row (Unary 7 0 a) 0 ∷ [])) false
     -- recovering: an entry whose mask became the full one is not found by the mask 0
     ∷ pass recoverForm (form 8 0 (term 15 3 ∷ term 0 2 ∷ term 240 1 ∷ []))
-    (form 8 0 (term 15 2 ∷ term 0 2 ∷ term 240 0 ∷ row 4 a 1 ∷ []))
+    (form 8 0 (term 15 2 ∷ term 0 2 ∷ term 240 0 ∷ row a 1 ∷ []))
     -- coalescing: by rising coefficient, not by place; a masked atom is made though the table has it
     ∷ coalesces (term 1 2 ∷ term 2 2 ∷ term 4 1 ∷ term 0 1 ∷ [])
     (term 1 0 ∷ term 2 0 ∷ term 4 0 ∷ term 0 0 ∷ term 4 1 ∷ term 3 2 ∷ [])
@@ -68,11 +68,11 @@ slips =
     -- the third entry of a collapse may stand before the other two
     ∷ refines (term 4 3 ∷ term 1 1 ∷ term 2 2 ∷ []) (term 4 0 ∷ term 1 0 ∷ term 2 0 ∷ term 5 1 ∷ term 6 2 ∷ [])
     -- columns: five variables have a table, six have none
-    ∷ columns (form 8 0 (row 0 (andTo 4) 1 ∷ [])) (255 ∷ 2 ^ 31 ∷ []) 1
-    ∷ columns (form 8 0 (row 0 (andTo 5) 1 ∷ [])) (255 ∷ 0xDEAD_0000_0000_0000 ∷ []) 1
+    ∷ columns (form 8 0 (row (andTo 4) 1 ∷ [])) (255 ∷ 2 ^ 31 ∷ []) 1
+    ∷ columns (form 8 0 (row (andTo 5) 1 ∷ [])) (255 ∷ 0xDEAD_0000_0000_0000 ∷ []) 1
     -- a shift hides an atom, a shift by 0 does not; the word has the number of the atom
-    ∷ columns (form 8 0 (row 4 (Unary 9 1 a) 1 ∷ [])) (255 ∷ 0xDEAD_0000_0000_0000 ∷ []) 1
-    ∷ columns (form 8 0 (row 4 (Unary 9 0 a) 1 ∷ [])) (255 ∷ 2 ∷ []) 1
-    ∷ columns (form 8 0 (term 15 1 ∷ row 4 (Unary 9 1 a) 1 ∷ []))
+    ∷ columns (form 8 0 (row (Unary 9 1 a) 1 ∷ [])) (255 ∷ 0xDEAD_0000_0000_0000 ∷ []) 1
+    ∷ columns (form 8 0 (row (Unary 9 0 a) 1 ∷ [])) (255 ∷ 2 ∷ []) 1
+    ∷ columns (form 8 0 (term 15 1 ∷ row (Unary 9 1 a) 1 ∷ []))
     (15 ∷ 2 ∷ 0xDEAD_0000_0000_0001 ∷ 240 ∷ 0 ∷ 0xDEAD_0000_0000_0001 ∷ []) 2
     ∷ []

@@ -22,12 +22,12 @@ inverted = Binary 6 a (Constant (2 ^ 64 - 1))
 unfoldable pub wideNormal : List Example
 wideNormal =
     normal 63 half 0 []
-    ∷ normal 64 half 0 (row 4 a (2 ^ 63) ∷ [])
-    ∷ normal 64 (Binary 2 half half) 0 (row 4 a 0 ∷ [])
-    ∷ normal 63 (Unary 8 0 a) 0 (row 4 a (2 ^ 63 - 1) ∷ [])
+    ∷ normal 64 half 0 (row a (2 ^ 63) ∷ [])
+    ∷ normal 64 (Binary 2 half half) 0 (row a 0 ∷ [])
+    ∷ normal 63 (Unary 8 0 a) 0 (row a (2 ^ 63 - 1) ∷ [])
     -- a lowered literal is cut to w bits
-    ∷ normal 63 inverted (2 ^ 63 - 1) (row 4 a 1 ∷ term (2 ^ 63 - 1) (2 ^ 63 - 2) ∷ [])
-    ∷ normal 64 inverted (2 ^ 64 - 1) (row 4 a 1 ∷ term (2 ^ 64 - 1) (2 ^ 64 - 2) ∷ [])
+    ∷ normal 63 inverted (2 ^ 63 - 1) (row a 1 ∷ term (2 ^ 63 - 1) (2 ^ 63 - 2) ∷ [])
+    ∷ normal 64 inverted (2 ^ 64 - 1) (row a 1 ∷ term (2 ^ 64 - 1) (2 ^ 64 - 2) ∷ [])
     ∷ []
 
 -- passes and columns at w bits, where 2 ^ w - 1 is `top` and 2 ^ (w - 1) is `high`
@@ -40,19 +40,19 @@ widePasses w top high =
     -- entries of the highest coefficient are joined with all of one coefficient, and not with the pairs: 4 with 1 first
     ∷ pass refineForm (form w 0 (term 5 top ∷ term 1 top ∷ term 4 top ∷ term 2 top ∷ []))
     (form w 0 (term 5 0 ∷ term 1 0 ∷ term 4 0 ∷ term 2 0 ∷ term 5 top ∷ term 7 top ∷ []))
-    -- all places: the basis alone, made by And in refining and Mixed in coalescing
-    ∷ pass refineForm (form w 0 (halves 1)) (form w 0 (halves 0 ++ (row 0 a 1 ∷ [])))
-    ∷ pass coalesceForm (form w 0 (halves 1)) (form w 0 (halves 0 ++ (row 4 a 1 ∷ [])))
+    -- all places: the basis alone
+    ∷ pass refineForm (form w 0 (halves 1)) (form w 0 (halves 0 ++ (row a 1 ∷ [])))
+    ∷ pass coalesceForm (form w 0 (halves 1)) (form w 0 (halves 0 ++ (row a 1 ∷ [])))
     -- coefficients of a place that add to 2 ^ w carry nothing
     ∷ pass coalesceForm (form w 0 (term 1 high ∷ term 1 high ∷ [])) (form w 0 (term 1 0 ∷ term 1 0 ∷ []))
     -- recovering: a mask of w bits and its complement
     ∷ pass recoverForm (form w 0 (term 15 3 ∷ term (top - 15) 1 ∷ []))
-    (form w 0 (term 15 2 ∷ term (top - 15) 0 ∷ row 4 a 1 ∷ []))
+    (form w 0 (term 15 2 ∷ term (top - 15) 0 ∷ row a 1 ∷ []))
     -- the mask of fewer ones becomes the literal of an Xor
     ∷ pass recoverForm (form w 0 (term (top - 15) 1 ∷ term 15 top ∷ []))
-    (form w (top - 14) (term (top - 15) 0 ∷ term 15 0 ∷ row 2 (Binary 6 (Constant 15) a) 1 ∷ []))
+    (form w (top - 14) (term (top - 15) 0 ∷ term 15 0 ∷ row (Binary 6 (Constant 15) a) 1 ∷ []))
     -- flattening: every bit is inverted, by a literal that is cut at 63 bits; the constant is 3 · (2 ^ w - 1)
-    ∷ flat (form w 0 (row 2 inverted 3 ∷ [])) (form w (top - 2) (row 2 inverted 0 ∷ row 0 a (top - 2) ∷ [])) true
+    ∷ flat (form w 0 (row inverted 3 ∷ [])) (form w (top - 2) (row inverted 0 ∷ row a (top - 2) ∷ [])) true
     -- columns: the highest place is in a class of its own; a literal's bit 63 counts at 64 bits alone
     ∷ columns (form w 0 (term (2 ^ 63 + high % 2 ^ 63) 1 ∷ [])) ((high - 1) ∷ 0 ∷ high ∷ 2 ∷ []) 2
     ∷ []

@@ -15,7 +15,7 @@ use Rattle.atom_table.specs.declared.table.Table.{Table}
 use Rattle.semilinear.specs.Form.{Row}
 use Rattle.semilinear.specs.Items.{atomCount, afterAtoms}
 use Rattle.semilinear.specs.Valid.{isSemilinear}
-use Rattle.semilinear.specs.DecodeForm.{rowsOf, decodeForm, readForm}
+use Rattle.semilinear.specs.DecodeForm.{decodeForm, readForm, readRows}
 use Rattle.semilinear.specs.Answers.{GivesForm}
 use Rattle.semilinear.specs.PassOutcome.{limitOutcome}
 use Rattle.atom_table.specs.Terms.{Copied, FinishRoom, Finished}
@@ -33,9 +33,9 @@ use Rattle.bare.proofs.ShowsLaws.{shows-shown, shows-ends}
 -- ---- the rows
 
 module _ {w : ℕ} {f coeffs views coeffs′ : List ℕ} {n : ℕ}
-    (v : ViewsRead (onlyOf true) w f (rowsOf 0 f (afterAtoms f)) coeffs views coeffs′ n) where
+    (v : ViewsRead (onlyOf true) w f (readRows 0 f (afterAtoms f)) coeffs views coeffs′ n) where
   abbrev rows : List Row
-  rows = rowsOf 0 f (afterAtoms f)
+  rows = readRows 0 f (afterAtoms f)
 
   read-own : ViewsRead variableBasis w f rows coeffs views coeffs′ n
   read-own = rw only-variable at v
@@ -63,7 +63,7 @@ module _ {w : ℕ} {f coeffs views coeffs′ : List ℕ} {n : ℕ}
 -- the end gives the coalesced form, or 9
 pub coalesce-end : (s : List ℕ) → IsBytes s → isSemilinear s ≡ true → {w c k : ℕ} {b : List ℕ} → w ≡ width s → c ≡ literal s
     → b ≡ body s → {tab : Table} {out : List ℕ} → Copied (readForm s) tab out → {made out′ coeffs : List ℕ}
-    → RowsCoalesced w (rowsOf 0 b (afterAtoms b)) (begun tab k) out made out′ coeffs
+    → RowsCoalesced w (readRows 0 b (afterAtoms b)) (begun tab k) out made out′ coeffs
     → {end : Table} → end ≡ tableOf made → (r : Answer) {out″ : List ℕ}
     → Finished w end 1 coeffs c false out′ r out″
     → GivesForm (limitOutcome (coalesceForm (readForm s)) false) 57360 r out″

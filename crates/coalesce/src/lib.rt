@@ -16,7 +16,7 @@ ghost use Rattle.base.specs.Put.{padded};
 ghost use Rattle.record.specs.Decode.{decode};
 ghost use Rattle.semilinear.specs.Items.{atomCount, afterAtoms};
 ghost use Rattle.semilinear.specs.Valid.{isSemilinear};
-ghost use Rattle.semilinear.specs.DecodeForm.{rowsOf, readForm};
+ghost use Rattle.semilinear.specs.DecodeForm.{readForm, readRows};
 ghost use Rattle.semilinear.specs.Answers.{GivesForm};
 ghost use Rattle.semilinear.specs.PassOutcome.{limitOutcome};
 ghost use Rattle.views.specs.Grouping.{variableBasis, basesOf};
@@ -110,8 +110,8 @@ fn coalesce_all(
 )
     requires { ⌜ AllReady variableBasis w (now f) (now views) (now bases) n count (now made) (now out) ⌝ }
     ensures { λ _. ⌜ Coalesced w n (64 * groupEntries)
-        (coalesceAll w (rowsOf 0 (now (f .entry)) (afterAtoms (now (f .entry))))
-        (basesOf variableBasis w (rowsOf 0 (now (f .entry)) (afterAtoms (now (f .entry)))) []))
+        (coalesceAll w (readRows 0 (now (f .entry)) (afterAtoms (now (f .entry))))
+        (basesOf variableBasis w (readRows 0 (now (f .entry)) (afterAtoms (now (f .entry)))) []))
         (now (made .entry)) (now (out .entry)) (now (coeffs .entry))
         (now (made .exit)) (now (out .exit)) (now (coeffs .exit)) ⌝ }
 {
@@ -135,7 +135,7 @@ fn coalesce_rows(
     out: &mut [u8],
 )
     requires { ⌜ RowsReady w (now f) terms (now views) (now bases) (now coeffs) (now made) (now out) ⌝ }
-    ensures { λ _. ⌜ RowsCoalesced w (rowsOf 0 (now (f .entry)) (afterAtoms (now (f .entry))))
+    ensures { λ _. ⌜ RowsCoalesced w (readRows 0 (now (f .entry)) (afterAtoms (now (f .entry))))
         (now (made .entry)) (now (out .entry)) (now (made .exit)) (now (out .exit)) (now (coeffs .exit)) ⌝ }
 {
     let n = views::read_views(f, terms, w, true, views, coeffs);
@@ -153,7 +153,7 @@ fn coalesce_short(
     out: &mut [u8],
 )
     requires { ⌜ FormReady w shortAtoms (now f) terms (now coeffs) (now made) (now out) ⌝ }
-    ensures { λ _. ⌜ RowsCoalesced w (rowsOf 0 (now (f .entry)) (afterAtoms (now (f .entry))))
+    ensures { λ _. ⌜ RowsCoalesced w (readRows 0 (now (f .entry)) (afterAtoms (now (f .entry))))
         (now (made .entry)) (now (out .entry)) (now (made .exit)) (now (out .exit)) (now (coeffs .exit)) ⌝ }
 {
     let mut views = [0u64; views::SHORT_VIEWS];
@@ -171,7 +171,7 @@ fn coalesce_long(
     out: &mut [u8],
 )
     requires { ⌜ FormReady w atomLimit (now f) terms (now coeffs) (now made) (now out) ⌝ }
-    ensures { λ _. ⌜ RowsCoalesced w (rowsOf 0 (now (f .entry)) (afterAtoms (now (f .entry))))
+    ensures { λ _. ⌜ RowsCoalesced w (readRows 0 (now (f .entry)) (afterAtoms (now (f .entry))))
         (now (made .entry)) (now (out .entry)) (now (made .exit)) (now (out .exit)) (now (coeffs .exit)) ⌝ }
 {
     let mut views = [0u64; views::LONG_VIEWS];
@@ -191,7 +191,7 @@ fn coalesce_table(
 )
     requires { ⌜ (atomCount (now f) ≡ count)
         × FormReady w atomLimit (now f) terms (now coeffs) (now made) (now out) ⌝ }
-    ensures { λ _. ⌜ RowsCoalesced w (rowsOf 0 (now (f .entry)) (afterAtoms (now (f .entry))))
+    ensures { λ _. ⌜ RowsCoalesced w (readRows 0 (now (f .entry)) (afterAtoms (now (f .entry))))
         (now (made .entry)) (now (out .entry)) (now (made .exit)) (now (out .exit)) (now (coeffs .exit)) ⌝ }
 {
     if count <= limits::SHORT_ATOMS_U64 {

@@ -4,58 +4,58 @@ use Prim.Native.Nat.{ℕ, _+_, _≤_}
 use native.Mathlib.Omega.{arith}
 use mathlib.Core.List.{List, [], _∷_, _++_}
 use mathlib.Core.Bool.{Bool, true, false}
-use lib.ListN.{length, take, drop, length-take}
+use lib.ListN.{length, drop}
 use borrow.Author.Tests.{ne-eqb}
 use Rattle.base.specs.Choice.{when}
 use Rattle.base.specs.Put.{put}
 use Rattle.record.specs.Tree.{IsBytes}
 use Rattle.record.specs.Decode.{decode}
 use Rattle.compaction.specs.declared.Copying.{Copying}
-use Rattle.semilinear.specs.Form.{Row, atomsBytes, termBytes, termsBytes}
-use Rattle.semilinear.specs.Items.{provenance, frontNumber, frontWord, isAtom, isTerm, atomLength, treeSpan}
+use Rattle.semilinear.specs.Form.{Row, newRow, atomsBytes, termBytes, termsBytes}
+use Rattle.semilinear.specs.Items.{frontWord, isAtom, isTerm, atomLength, treeSpan}
 use Rattle.semilinear.specs.Items.{afterAtom, atomCount}
 use Rattle.semilinear.specs.Valid.{atomOk, termsOk}
-use Rattle.semilinear.specs.DecodeForm.{hasTerm, coeffAt, afterTerm, rowAt, rowsOf}
+use Rattle.semilinear.specs.DecodeForm.{hasTerm, coeffAt, afterTerm, rowAt, readRows}
 use Rattle.compaction.specs.Compact.{usedRows, renumber}
 use Rattle.compaction.specs.Copying.{usedBytes, RowCopied}
-use Rattle.semilinear.proofs.ItemsLaws.{atom-room, fold-atom, fold-done, rows-atom, rows-end, atoms-ind}
+use Rattle.semilinear.proofs.ItemsLaws.{fold-atom, fold-done, atoms-ind}
 use Rattle.semilinear.proofs.ItemsLaws.{has-term-is, after-some, after-none}
 use Rattle.semilinear.proofs.ValidLaws.{terms-first, terms-later, term-parts}
-use Rattle.semilinear.proofs.AcceptLaws.{atom-bytes}
+use Rattle.semilinear.proofs.RetiredLaws.{read-rows-atom, read-rows-end}
+use Rattle.atom_table.specs.Table.{atomSpan}
+use Rattle.atom_table.proofs.TableLaws.{length-atom-span}
+use Rattle.atom_table.proofs.SpansLaws.{length-span, span-atom}
 use Rattle.atom_table.proofs.TermLengthLaws.{put-none}
 use Rattle.compaction.proofs.RenumberLaws.{renumber-term, renumber-end}
 use Rattle.semilinear_value.proofs.SumLaws.{passed-without, passed-with}
 
 -- ---- one turn
-module _ (f : List ℕ) (x : Copying) (ha : x .at ≤ length f) (hn : x .next ≤ length f)
+module _ (w : ℕ) (f : List ℕ) (x : Copying) (ha : x .at ≤ length f) (hn : x .next ≤ length f)
     (e : isAtom (drop (x .at) f) ≡ true)
     {r q : List ℕ} (er : r ≡ drop (x .at) f) (eq : q ≡ drop (x .next) f) {n : ℕ} (en : n ≡ atomLength r) where
   abbrev used : List ℕ
-  used = usedBytes (x .number) (drop (x .at) f) (drop (x .next) f)
+  used = usedBytes w (x .number) (drop (x .at) f) (drop (x .next) f)
 
   used-without : hasTerm (x .number) q ≡ false → used ≡ []
   unfolding usedBytes
   used-without h = let h′ : hasTerm (x .number) (drop (x .next) f) ≡ false = rw eq at h in simp h′
 
-  used-with : hasTerm (x .number) q ≡ true → used ≡ take n r
+  used-with : hasTerm (x .number) q ≡ true → used ≡ atomSpan w (treeSpan r)
   unfolding usedBytes
   used-with h =
       let h′ : hasTerm (x .number) (drop (x .next) f) ≡ true = rw eq at h in
-      simp h′ (rw (en, er))
+      simp h′ (rw er)
 
   length-used-with : hasTerm (x .number) q ≡ true → length used ≡ n
-  unfolding atomLength
-  length-used-with h =
-      ap length (used-with h)
-      ∙ length-take n r
-      ∙ omega (arith, en, ap length er, ap frontNumber er, atom-room (drop (x .at) f) e .fits)
+  length-used-with h = ap length (used-with h) ∙ length-span w r (rw er e) ∙ sym en
 
   -- the room that the copy asks for
-  pub room-with : hasTerm (x .number) q ≡ true → {len : ℕ} → x .to + length used ≤ len → x .to + length (take n r) ≤ len
-  room-with h l = rw (used-with h) at l
+  pub room-with : hasTerm (x .number) q ≡ true → {len : ℕ} → x .to + length used ≤ len
+      → x .to + 16 + length (treeSpan r) ≤ len
+  room-with h l = omega (arith, l, ap length (used-with h), length-atom-span w (treeSpan r))
 
   pub copied-without : hasTerm (x .number) q ≡ false → (out : List ℕ)
-      → RowCopied f x (record { at = x .at + n; next = x .next; number = x .number + 1; to = x .to }) out out
+      → RowCopied w f x (record { at = x .at + n; next = x .next; number = x .number + 1; to = x .to }) out out
   copied-without h out =
       record {
         passed = passed-without f (x .at) (x .next) (x .number) ha hn e er eq en h;
@@ -63,8 +63,8 @@ module _ (f : List ℕ) (x : Copying) (ha : x .at ≤ length f) (hn : x .next �
         written = rw (used-without h) (put-none out (x .to));
       }
 
-  pub copied-with : hasTerm (x .number) q ≡ true → (before after : List ℕ) → after ≡ put before (x .to) (take n r)
-      → RowCopied f x (record { at = x .at + n; next = x .next + 16; number = x .number + 1; to = x .to + n })
+  pub copied-with : hasTerm (x .number) q ≡ true → (before after : List ℕ) → after ≡ put before (x .to) (atomSpan w (treeSpan r))
+      → RowCopied w f x (record { at = x .at + n; next = x .next + 16; number = x .number + 1; to = x .to + n })
       before after
   copied-with h before after p =
       record {
@@ -78,20 +78,20 @@ module _ (f : List ℕ) (x : Copying) (ha : x .at ≤ length f) (hn : x .next �
 -- the first row, by whether it has a term
 module _ (w n i : ℕ) (r q : List ℕ) (e : isAtom r ≡ true) (ok : termsOk w n i q ≡ true) where
   abbrev rest : List Row
-  rest = rowsOf (i + 1) (afterAtom r) (afterTerm i q)
+  rest = readRows (i + 1) (afterAtom r) (afterTerm i q)
 
-  used-none : hasTerm i q ≡ false → usedRows (rowsOf i r q) ≡ usedRows rest
+  used-none : hasTerm i q ≡ false → usedRows (readRows i r q) ≡ usedRows rest
   unfolding usedRows rowAt coeffAt
-  used-none h = rw (rows-atom i r q e) (simp h)
+  used-none h = rw (read-rows-atom i r q e) (simp h)
 
   used-some : hasTerm i q ≡ true
-      → usedRows (rowsOf i r q)
-      ≡ record { provenance = provenance r; tree = decode (treeSpan r); coeff = frontWord q } ∷ usedRows rest
+      → usedRows (readRows i r q)
+      ≡ newRow (decode (treeSpan r)) (frontWord q) ∷ usedRows rest
   unfolding usedRows rowAt coeffAt
   used-some h =
       let t = has-term-is i q h in
       let c : frontWord q ≡ 0 → ⊥ = term-parts w n i q (terms-first w n i q ok (t .0) .0) .nonzero in
-      rw (rows-atom i r q e) (simp (h, ne-eqb (frontWord q) 0 c))
+      rw (read-rows-atom i r q e) (simp (h, ne-eqb (frontWord q) 0 c))
 
   -- the terms of the rows after it
   pub terms-after : termsOk w n (i + 1) (afterTerm i q) ≡ true
@@ -107,16 +107,16 @@ module _ (w n i : ℕ) (r q : List ℕ) (e : isAtom r ≡ true) (ok : termsOk w 
 
   -- the bytes of the used atoms begin with the first row's, where it has a term
   pub used-atoms : IsBytes r → atomOk w r ≡ true
-      → atomsBytes w (usedRows (rowsOf i r q)) ≡ usedBytes i r q ++ atomsBytes w (usedRows rest)
+      → atomsBytes w (usedRows (readRows i r q)) ≡ usedBytes w i r q ++ atomsBytes w (usedRows rest)
   unfolding atomsBytes usedBytes
   used-atoms h good = go (hasTerm i q) refl
     where
       go : (b : Bool) → hasTerm i q ≡ b
-          → atomsBytes w (usedRows (rowsOf i r q))
-          ≡ when (hasTerm i q) (λ _. take (atomLength r) r) (λ _. []) ++ atomsBytes w (usedRows rest)
+          → atomsBytes w (usedRows (readRows i r q))
+          ≡ when (hasTerm i q) (λ _. atomSpan w (treeSpan r)) (λ _. []) ++ atomsBytes w (usedRows rest)
       go true t =
           rw (used-some t)
-          (simp t (ap (λ (l : List ℕ). l ++ atomsBytes w (usedRows rest)) (sym (atom-bytes w r h e good))))
+          (simp t (ap (λ (l : List ℕ). l ++ atomsBytes w (usedRows rest)) (sym (span-atom w r h good))))
       go false t = rw (used-none t) (simp t)
 
 -- the terms of the used rows are the terms, renumbered
@@ -124,11 +124,11 @@ module _ (w : ℕ) where
   Renumbers : List ℕ → Type 0
   Renumbers r =
       (i j n : ℕ) (q : List ℕ) → n ≡ i + atomCount r → termsOk w n i q ≡ true
-      → termsBytes w j (usedRows (rowsOf i r q)) ≡ renumber w j q
+      → termsBytes w j (usedRows (readRows i r q)) ≡ renumber w j q
 
   renumbers-none : (r : List ℕ) → isAtom r ≡ false → Renumbers r
   unfolding Renumbers usedRows termsBytes
-  renumbers-none r e i j n q en ok = rw (rows-end i r q e) (sym (renumber-end w j q (go (isTerm q) refl)))
+  renumbers-none r e i j n q en ok = rw (read-rows-end i r q e) (sym (renumber-end w j q (go (isTerm q) refl)))
     where
       go : (b : Bool) → isTerm q ≡ b → isTerm q ≡ false
       go true t =
@@ -146,7 +146,7 @@ module _ (w : ℕ) where
       after : termsOk w n (i + 1) (afterTerm i q) ≡ true
       after = terms-after w n i r q e ok
 
-      go : (b : Bool) → hasTerm i q ≡ b → termsBytes w j (usedRows (rowsOf i r q)) ≡ renumber w j q
+      go : (b : Bool) → hasTerm i q ≡ b → termsBytes w j (usedRows (readRows i r q)) ≡ renumber w j q
       go true h =
           let t = has-term-is i q h in
           let c : frontWord q ≡ 0 → ⊥ = term-parts w n i q (terms-first w n i q ok (t .0) .0) .nonzero in
@@ -161,6 +161,6 @@ module _ (w : ℕ) where
           (below (i + 1) j n (afterTerm i q) count after ∙ ap (renumber w j) (after-none i q h))
 
   pub used-terms : (r : List ℕ) (i j n : ℕ) (q : List ℕ) → n ≡ i + atomCount r → termsOk w n i q ≡ true
-      → termsBytes w j (usedRows (rowsOf i r q)) ≡ renumber w j q
+      → termsBytes w j (usedRows (readRows i r q)) ≡ renumber w j q
   unfolding Renumbers
   used-terms = atoms-ind Renumbers renumbers-none renumbers-atom

@@ -5,7 +5,7 @@ use native.Mathlib.Omega.{arith}
 use native.Mathlib.Nat.{zero-add}
 use mathlib.Core.List.{List, [], _++_, append-assoc, append-nil}
 use mathlib.Core.Bool.{Bool, true, false}
-use lib.ListN.{length, take, drop, length-append, length-take, length-drop}
+use lib.ListN.{length, drop, length-append, length-drop}
 use Rattle.base.specs.Choice.{when}
 use Rattle.base.specs.Put.{put, padded}
 use Rattle.record.specs.Tree.{IsBytes}
@@ -14,28 +14,30 @@ use Rattle.record.proofs.BytesLaws.{bytes-drop}
 use Rattle.compaction.specs.declared.Copying.{Copying}
 use Rattle.atom_table.specs.declared.table.Written.{Written}
 use Rattle.semilinear.specs.Form.{Row, atomsBytes, termsBytes}
-use Rattle.semilinear.specs.Items.{isAtom, atomLength, afterAtoms, atomCount}
+use Rattle.semilinear.specs.Items.{isAtom, atomLength, treeSpan, afterAtoms, atomCount}
 use Rattle.semilinear.specs.Valid.{atomsOk, termsOk}
-use Rattle.semilinear.specs.DecodeForm.{hasTerm, rowsOf}
+use Rattle.semilinear.specs.DecodeForm.{hasTerm, readRows}
 use Rattle.compaction.specs.Compact.{usedRows, renumber, TermsCopied, FrontCopied}
 use Rattle.semilinear.specs.Scan.{AtomsEnd}
 use Rattle.compaction.specs.Copying.{usedBytes, RowCopied}
-use Rattle.semilinear.proofs.ItemsLaws.{atom-room, length-after-atom, fold-atom, fold-done, rows-end}
+use Rattle.semilinear.proofs.ItemsLaws.{atom-room, length-after-atom, fold-atom, fold-done}
+use Rattle.semilinear.proofs.RetiredLaws.{read-rows-end}
+use Rattle.atom_table.specs.Table.{atomSpan}
+use Rattle.atom_table.proofs.SpansLaws.{length-span}
 use Rattle.semilinear.proofs.FormLaws.{length-terms}
-use Rattle.semilinear.proofs.ValidLaws.{FrontParts}
-use Rattle.semilinear_value.proofs.SumLaws.{first-atom-ok, later-atoms-ok}
+use Rattle.semilinear.proofs.ValidLaws.{FrontParts, first-atom-ok, later-atoms-ok}
 use Rattle.compaction.proofs.CompactLaws.{terms-after, used-atoms, used-terms}
 
-length-used-le : (i : ℕ) (r q : List ℕ) → length (usedBytes i r q) ≤ atomLength r
+length-used-le : (w i : ℕ) (r q : List ℕ) → isAtom r ≡ true → length (usedBytes w i r q) ≤ atomLength r
 unfolding usedBytes
-length-used-le i r q = go (hasTerm i q)
+length-used-le w i r q e = go (hasTerm i q)
   where
-    go : (b : Bool) → length (when b (λ _. take (atomLength r) r) (λ _. [])) ≤ atomLength r
-    go true = simp length-take (omega arith)
+    go : (b : Bool) → length (when b (λ _. atomSpan w (treeSpan r)) (λ _. [])) ≤ atomLength r
+    go true = omega (arith, length-span w r e)
     go false = omega arith
 
 abbrev left : List ℕ → Copying → List Row
-left f x = rowsOf (x .number) (drop (x .at) f) (drop (x .next) f)
+left f x = readRows (x .number) (drop (x .at) f) (drop (x .next) f)
 
 pub record Copied (w : ℕ) (f : List ℕ) (x : Copying) (out : List ℕ) : Type 0 where
   pub inside : x .at ≤ length f
@@ -48,7 +50,7 @@ pub record Copied (w : ℕ) (f : List ℕ) (x : Copying) (out : List ℕ) : Type
   pub done : List ℕ
   pub place : x .to ≡ length done
   pub written : out ≡ padded 57360 done
-  pub all : done ++ atomsBytes w (usedRows (left f x)) ≡ atomsBytes w (usedRows (rowsOf 0 f (afterAtoms f)))
+  pub all : done ++ atomsBytes w (usedRows (left f x)) ≡ atomsBytes w (usedRows (readRows 0 f (afterAtoms f)))
 
 module _ (w : ℕ) (f : List ℕ) (small : length f ≤ 57344) where
   pub copied-length : (x : Copying) (out : List ℕ) → Copied w f x out → length out ≡ 57360
@@ -71,17 +73,17 @@ module _ (w : ℕ) (f : List ℕ) (small : length f ≤ 57344) where
         done = [];
         place = refl;
         written = z;
-        all = ap (λ (q : List ℕ). atomsBytes w (usedRows (rowsOf 0 f q))) (e .rest);
+        all = ap (λ (q : List ℕ). atomsBytes w (usedRows (readRows 0 f q))) (e .rest);
       }
 
   -- the room that a turn asks for
   pub copied-room : (x : Copying) (out : List ℕ) → Copied w f x out → isAtom (drop (x .at) f) ≡ true
-      → x .to + length (usedBytes (x .number) (drop (x .at) f) (drop (x .next) f)) ≤ length out
+      → x .to + length (usedBytes w (x .number) (drop (x .at) f) (drop (x .next) f)) ≤ length out
   unfolding atomLength
   copied-room x out h e =
       omega (
         arith,
-        length-used-le (x .number) (drop (x .at) f) (drop (x .next) f),
+        length-used-le w (x .number) (drop (x .at) f) (drop (x .next) f) e,
         atom-room (drop (x .at) f) e .fits,
         length-drop (x .at) f,
         copied-length x out h,
@@ -90,7 +92,7 @@ module _ (w : ℕ) (f : List ℕ) (small : length f ≤ 57344) where
       )
 
   pub copied-row : IsBytes f → (x y : Copying) (out out′ : List ℕ) → Copied w f x out → isAtom (drop (x .at) f) ≡ true
-      → RowCopied f x y out out′ → Copied w f y out′
+      → RowCopied w f x y out out′ → Copied w f y out′
   unfolding atomLength
   copied-row bytes x y out out′ h e a =
       let r : List ℕ = drop (x .at) f in
@@ -98,7 +100,7 @@ module _ (w : ℕ) (f : List ℕ) (small : length f ≤ 57344) where
       let i : ℕ = x .number in
       let n : ℕ = i + atomCount r in
       let p = a .passed in
-      let u : List ℕ = usedBytes i r q in
+      let u : List ℕ = usedBytes w i r q in
       let good = first-atom-ok w r (h .atoms) e in
       let count : n ≡ y .number + atomCount (drop (y .at) f) =
       omega (arith, fold-atom (λ r. 0) (λ r m. 1 + m) r e, ap atomCount (p .rest), p .next-number) in
@@ -113,7 +115,7 @@ module _ (w : ℕ) (f : List ℕ) (small : length f ≤ 57344) where
               arith,
               a .place,
               h .to-le,
-              length-used-le i r q,
+              length-used-le w i r q e,
               atom-room r e .fits,
               length-after-atom r,
               ap length (p .rest),
@@ -137,7 +139,7 @@ module _ (w : ℕ) (f : List ℕ) (small : length f ≤ 57344) where
   -- the atoms are done: where they end, and what the terms then come to
   module _ (x : Copying) (out : List ℕ) (h : Copied w f x out) (e : isAtom (drop (x .at) f) ≡ false) where
     abbrev rows : List Row
-    rows = rowsOf 0 f (afterAtoms f)
+    rows = readRows 0 f (afterAtoms f)
 
     pub atoms-end : drop (x .at) f ≡ afterAtoms f
     atoms-end = sym (fold-done (λ r. r) (λ r x. x) (drop (x .at) f) e) ∙ h .end
@@ -145,7 +147,7 @@ module _ (w : ℕ) (f : List ℕ) (small : length f ≤ 57344) where
     atoms-done : h .done ≡ atomsBytes w (usedRows rows)
     unfolding usedRows atomsBytes
     atoms-done =
-        let none : left f x ≡ [] = rows-end (x .number) (drop (x .at) f) (drop (x .next) f) e in
+        let none : left f x ≡ [] = read-rows-end (x .number) (drop (x .at) f) (drop (x .next) f) e in
         sym (append-nil (h .done))
         ∙ ap (λ (l : List Row). h .done ++ atomsBytes w (usedRows l)) (sym none)
         ∙ h .all

@@ -15,7 +15,7 @@ ghost use Rattle.semilinear.specs.Items.{afterAtoms};
 ghost use mathlib.Core.List.{[]};
 ghost use Rattle.base.specs.Put.{padded};
 ghost use Rattle.semilinear.specs.Valid.{frontOk, isSemilinear};
-ghost use Rattle.semilinear.specs.DecodeForm.{rowsOf, readForm};
+ghost use Rattle.semilinear.specs.DecodeForm.{readForm, readRows};
 ghost use Rattle.compaction.specs.Copying.{CopyRoom, RowCopied};
 ghost use Rattle.semilinear.specs.Outcome.{formOutcome};
 ghost use Rattle.semilinear.specs.Answers.{GivesForm};
@@ -33,10 +33,10 @@ pub struct Copying {
 }
 
 impl Copying {
-    // The atom at `at` is copied where it has a term.
-    fn copy_row(self, f: &[u8], out: &mut [u8]) -> Self
-        requires { ⌜ CopyRoom (now f) self (now out) ⌝ }
-        ensures { λ r. ⌜ RowCopied (now (f .entry)) self r (now (out .entry)) (now (out .exit)) ⌝ }
+    // The atom at `at` is copied where it has a term, with a new head.
+    fn copy_row(self, f: &[u8], w: u8, out: &mut [u8]) -> Self
+        requires { ⌜ CopyRoom w (now f) self (now out) ⌝ }
+        ensures { λ r. ⌜ RowCopied w (now (f .entry)) self r (now (out .entry)) (now (out .exit)) ⌝ }
     {
         let at = self.at;
         let next = self.next;
@@ -52,7 +52,7 @@ impl Copying {
                 to: to,
             };
         }
-        base::write::put_bytes(out, to, &r[..n]);
+        table::put_atom(out, to, items::tree_span(r), items::front_word(r), w);
         Copying {
             at: at + n,
             next: next + limits::RECORD_LENGTH,
@@ -84,7 +84,7 @@ fn copy_terms(q: &[u8], w: u8, out: &mut [u8], to: usize) -> Written
 // The rows of f that have a term are put into out: their atoms, and then their terms.
 fn copy_front(f: &[u8], w: u8, out: &mut [u8]) -> Written
     requires { ⌜ (frontOk w (now f) ≡ true) × (length (now f) ≤ formBytes - recordLength) × (now out ≡ padded formBytes []) ⌝ }
-    ensures { λ r. ⌜ FrontCopied w formBytes (rowsOf 0 (now (f .entry)) (afterAtoms (now (f .entry)))) (now (out .exit)) r ⌝ }
+    ensures { λ r. ⌜ FrontCopied w formBytes (readRows 0 (now (f .entry)) (afterAtoms (now (f .entry)))) (now (out .exit)) r ⌝ }
 {
     let terms = scan::terms_at(f);
     let mut x = Copying {
@@ -99,7 +99,7 @@ fn copy_front(f: &[u8], w: u8, out: &mut [u8]) -> Written
             let to = x.to;
             return copy_terms(items::rest_from(f, terms), w, out, to);
         }
-        x = x.copy_row(f, out);
+        x = x.copy_row(f, w, out);
     }
 }
 

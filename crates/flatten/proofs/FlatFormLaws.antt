@@ -14,7 +14,7 @@ use Rattle.atom_table.specs.declared.table.Table.{Table}
 use Rattle.semilinear.specs.Form.{Row}
 use Rattle.semilinear.specs.Items.{afterAtoms}
 use Rattle.semilinear.specs.Valid.{isSemilinear}
-use Rattle.semilinear.specs.DecodeForm.{rowsOf, decodeForm, readForm}
+use Rattle.semilinear.specs.DecodeForm.{decodeForm, readForm, readRows}
 use Rattle.semilinear.specs.Answers.{GivesForm}
 use Rattle.semilinear.specs.PassOutcome.{limitOutcome}
 use Rattle.atom_table.specs.Table.{Placed}
@@ -74,7 +74,7 @@ module _ {w k len : ℕ} {l : List Row} {g : Bool} {made out coeffs : List ℕ} 
 
 -- of the rows of a form it is the flattened form
 pub flatten-end : (s : List ℕ) {w k len : ℕ} {b : List ℕ} → w ≡ width s → k ≡ literal s → b ≡ body s
-    → {g : Bool} {made out coeffs : List ℕ} → RowsFlattened w (rowsOf 0 b (afterAtoms b)) k len g made out coeffs
+    → {g : Bool} {made out coeffs : List ℕ} → RowsFlattened w (readRows 0 b (afterAtoms b)) k len g made out coeffs
     → {tab : Table} → tab ≡ tableOf made → (r : Answer) {out′ : List ℕ}
     → Finished w tab 1 coeffs (getD made 5 0) g out r out′
     → GivesForm (limitOutcome (flattenForm (readForm s)) (flattened (readForm s) .flag)) 57360 r out′

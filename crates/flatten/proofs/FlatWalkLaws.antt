@@ -11,13 +11,13 @@ use Rattle.base.specs.Put.{padded}
 use Rattle.semilinear.specs.Form.{Row}
 use Rattle.semilinear.specs.Items.{isAtom, atomCount, afterAtoms}
 use Rattle.semilinear.specs.Valid.{atomsOk, termsOk}
-use Rattle.semilinear.specs.DecodeForm.{rowsOf}
+use Rattle.semilinear.specs.DecodeForm.{readRows}
 use Rattle.semilinear.specs.Scan.{AtomsEnd}
 use Rattle.atom_table.specs.Terms.{coeffsOf}
 use Rattle.atom_table.proofs.HoldsLaws.{bareRows, holds-bare}
-use Rattle.semilinear.proofs.ItemsLaws.{fold-atom, rows-atom, rows-end}
-use Rattle.semilinear.proofs.ValidLaws.{FrontParts}
-use Rattle.semilinear_value.proofs.SumLaws.{later-atoms-ok}
+use Rattle.semilinear.proofs.ItemsLaws.{fold-atom}
+use Rattle.semilinear.proofs.RetiredLaws.{read-rows-atom, read-rows-end}
+use Rattle.semilinear.proofs.ValidLaws.{FrontParts, later-atoms-ok}
 use Rattle.compaction.proofs.CompactLaws.{terms-after}
 use Rattle.made.specs.Made.{tableOf, Room, Held}
 use Rattle.views.proofs.ReadLaws.{length-rows}
@@ -32,7 +32,7 @@ use Rattle.flatten.proofs.KeptRowsLaws.{kept-more, length-kept, flatten
 
 -- the rows that are left
 abbrev pub left : List ℕ → Flattening → List Row
-left f x = rowsOf (x .number) (drop (x .at) f) (drop (x .next) f)
+left f x = readRows (x .number) (drop (x .at) f) (drop (x .next) f)
 
 -- the rows `done` flattened, with those left behind them and those added last
 abbrev soFar : ℕ → ℕ → List Row → List Row → Flat
@@ -53,7 +53,7 @@ pub record Walked (w : ℕ) (f : List ℕ) (k len : ℕ) (x : Flattening) (made 
   pub wide : length coeffs ≡ 256
   pub done : List Row
   pub numbered : length done ≡ x .number
-  pub all : done ++ left f x ≡ rowsOf 0 f (afterAtoms f)
+  pub all : done ++ left f x ≡ readRows 0 f (afterAtoms f)
   pub works : Works w (x .flag) made out coeffs (soFar w k done (left f x))
 
 coeffs-bare : (l : List Row) → coeffsOf (bareRows l) ≡ replicate (length l) 0
@@ -125,13 +125,13 @@ works-row w k g h made out coeffs made′ out′ coeffs′ done rest x turn was 
 
 module _ (w : ℕ) (f : List ℕ) (k len : ℕ) where
   pub walked-start : FrontParts w f → (terms : ℕ) → AtomsEnd f terms → (made out coeffs : List ℕ)
-      → length made ≡ 6 → coeffs ≡ replicate 256 0 → Held w made out (rowsOf 0 f (afterAtoms f))
+      → length made ≡ 6 → coeffs ≡ replicate 256 0 → Held w made out (readRows 0 f (afterAtoms f))
       → getD made 5 0 ≡ k → length out ≡ len
       → Walked w f k len (record { at = 0; next = terms; number = 0; flag = false }) made out coeffs
   unfolding keptRows flattenRows
   walked-start p terms end made out coeffs six z h ek long =
-      let rows : List Row = rowsOf 0 f (afterAtoms f) in
-      let same : rowsOf 0 f (drop terms f) ≡ rows = ap (rowsOf 0 f) (end .rest) in
+      let rows : List Row = readRows 0 f (afterAtoms f) in
+      let same : readRows 0 f (drop terms f) ≡ rows = ap (readRows 0 f) (end .rest) in
       record {
         inside = omega arith;
         terms-inside = end .inside;
@@ -174,7 +174,7 @@ module _ (w : ℕ) (f : List ℕ) (k len : ℕ) where
       let count : n ≡ y .number + atomCount (drop (y .at) f) =
       omega (arith, fold-atom (λ r. 0) (λ r m. 1 + m) r e, ap atomCount (p .rest), p .next-number) in
       let first : left f x ≡ rowHere f x ∷ left f y =
-      rows-atom i r q e ∙ rw (p .next-number, p .rest, p .terms) in
+      read-rows-atom i r q e ∙ rw (p .next-number, p .rest, p .terms) in
       record {
         inside = p .inside;
         terms-inside = p .terms-inside;
@@ -199,11 +199,11 @@ module _ (w : ℕ) (f : List ℕ) (k len : ℕ) where
 
   pub walked-end : (x : Flattening) (made out coeffs : List ℕ) → Walked w f k len x made out coeffs
       → isAtom (drop (x .at) f) ≡ false
-      → RowsFlattened w (rowsOf 0 f (afterAtoms f)) k len (x .flag) made out coeffs
+      → RowsFlattened w (readRows 0 f (afterAtoms f)) k len (x .flag) made out coeffs
   unfolding bareRows flatRows
   walked-end x made out coeffs h e =
-      let none : left f x ≡ [] = rows-end (x .number) (drop (x .at) f) (drop (x .next) f) e in
-      let all : h .done ≡ rowsOf 0 f (afterAtoms f) =
+      let none : left f x ≡ [] = read-rows-end (x .number) (drop (x .at) f) (drop (x .next) f) e in
+      let all : h .done ≡ readRows 0 f (afterAtoms f) =
       sym (append-nil (h .done)) ∙ ap (λ (l : List Row). h .done ++ l) (sym none) ∙ h .all in
       record {
         room = h .room;

@@ -11,7 +11,7 @@ use Rattle.base.specs.Choice.{when}
 use Rattle.record.specs.Tree.{Tree}
 use Rattle.record.specs.Tree.Tree.{Variable}
 use Rattle.expr.specs.Vars.{nextVar}
-use Rattle.semilinear.specs.Form.{andFamily, Row}
+use Rattle.semilinear.specs.Form.{Row, newRow}
 use Rattle.made.specs.Rows.{maskedTree}
 use Rattle.structure_laws.specs.FlattenComplexAtoms.{isComplex, atZero, atOnes, Flat, flatRow, flattenRow}
 use Rattle.structure_laws.specs.FlattenComplexAtoms.{flattenRows, keptRows}
@@ -61,7 +61,7 @@ module _ (w : ℕ) where
   flat-behind v m c p l = go (eqb m 0)
     where
       new : List Row
-      new = record { provenance = andFamily; tree = maskedTree w (Variable v) m; coeff = c } ∷ []
+      new = newRow (maskedTree w (Variable v) m) c ∷ []
 
       go : (b : Bool) → when b (λ _. p ++ l) (λ _. (p ++ l) ++ new) ≡ p ++ when b (λ _. l) (λ _. l ++ new)
       go true = refl

@@ -15,7 +15,7 @@ use Rattle.record.specs.Decode.{decode}
 use Rattle.base.proofs.PutLaws.{length-padded}
 use Rattle.record.proofs.EncodeLaws.{Encoded, encoded}
 use Rattle.expr.specs.Hash.{structuralHash}
-use Rattle.semilinear.specs.Form.{andFamily, Row, fitsTable}
+use Rattle.semilinear.specs.Form.{Row, fitsTable, newRow}
 use Rattle.atom_table.specs.Terms.{coeffsOf}
 use Rattle.atom_table.proofs.TermsLaws.{length-coeffs, coeffs-append}
 use Rattle.made.specs.Rows.{createRow, maskedTree, createMasked}
@@ -70,7 +70,7 @@ extended-none w v m c made out coeffs r e =
 module _ (w v m c : ℕ) (some : m ≡ 0 → ⊥) {made out made′ out′ : List ℕ}
     (g : Grew w 1 (createMasked w (Variable v) m) made out made′ out′) where
   abbrev new : ℕ → Row
-  new x = record { provenance = andFamily; tree = maskedTree w (Variable v) m; coeff = x }
+  new x = newRow (maskedTree w (Variable v) m) x
 
   flat-some : (l : List Row) → flatRow w v m c l ≡ l ++ (new c ∷ [])
   unfolding flatRow

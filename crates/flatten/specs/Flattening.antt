@@ -15,7 +15,7 @@ use Rattle.expr.specs.Vars.{nextVar, support}
 use Rattle.semilinear.specs.Form.{Row}
 use Rattle.semilinear.specs.Items.{atomCount, afterAtoms}
 use Rattle.semilinear.specs.Valid.{termsOk, frontOk}
-use Rattle.semilinear.specs.DecodeForm.{rowAt, rowsOf}
+use Rattle.semilinear.specs.DecodeForm.{readRows, readRow}
 use Rattle.semilinear.specs.Scan.{AtomsEnd}
 use Rattle.semilinear_value.specs.Running.{AtRow, RowPassed}
 use Rattle.made.specs.Made.{Room, Held}
@@ -72,7 +72,7 @@ pub record FrontReady (w : ℕ) (f : List ℕ) (terms : ℕ) (made coeffs out : 
   pub ends : AtomsEnd f terms
   pub words : length made ≡ 6
   pub clear : coeffs ≡ replicate atomLimit 0
-  pub held : Held w made out (rowsOf 0 f (afterAtoms f))
+  pub held : Held w made out (readRows 0 f (afterAtoms f))
 
 -- ---- the table with its coefficients
 
@@ -106,7 +106,7 @@ keptRow w x = when (isComplex w x) (λ _. bareRow x) (λ _. x)
 
 -- the row whose atom stands at the place of x
 abbrev pub rowHere : List ℕ → Flattening → Row
-rowHere f x = rowAt (x .number) (drop (x .at) f) (drop (x .next) f)
+rowHere f x = readRow (x .number) (drop (x .at) f) (drop (x .next) f)
 
 -- y is x after one row: of all rows a before it and b behind it
 pub record RowFlattened (w : ℕ) (f : List ℕ) (x y : Flattening) (made out coeffs made′ out′ coeffs′ : List ℕ)

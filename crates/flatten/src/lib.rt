@@ -19,7 +19,7 @@ ghost use Rattle.record.specs.Decode.{decode};
 ghost use Rattle.expr.specs.Vars.{nextVar};
 ghost use Rattle.semilinear.specs.Items.{afterAtoms};
 ghost use Rattle.semilinear.specs.Valid.{isSemilinear};
-ghost use Rattle.semilinear.specs.DecodeForm.{rowsOf, readForm};
+ghost use Rattle.semilinear.specs.DecodeForm.{readForm, readRows};
 ghost use Rattle.semilinear.specs.Answers.{GivesForm};
 ghost use Rattle.semilinear.specs.PassOutcome.{limitOutcome};
 ghost use Rattle.structure_laws.specs.FlattenComplexAtoms.{isPlain, atOnes, flatRow, flattened};
@@ -190,7 +190,7 @@ fn flatten_rows(
     out: &mut [u8],
 ) -> bool
     requires { ⌜ FrontReady w (now f) terms (now made) (now coeffs) (now out) ⌝ }
-    ensures { λ r. ⌜ RowsFlattened w (rowsOf 0 (now (f .entry)) (afterAtoms (now (f .entry))))
+    ensures { λ r. ⌜ RowsFlattened w (readRows 0 (now (f .entry)) (afterAtoms (now (f .entry))))
         (getD (now (made .entry)) 5 0) (length (now (out .entry))) r
         (now (made .exit)) (now (out .exit)) (now (coeffs .exit)) ⌝ }
 {

@@ -12,7 +12,7 @@ use Rattle.expr.specs.Value.{value}
 use Rattle.semilinear.specs.Form.{Row, rowsOk}
 use Rattle.decompose.specs.Decompose.{Decomposed, noBasis, masked}
 use Rattle.views.specs.Grouping.{viewRow, ungrouped}
-use Rattle.atom_table.proofs.HoldsLaws.{bareRows}
+use Rattle.atom_table.proofs.HoldsLaws.{bareRows, new-same}
 use Rattle.semilinear.proofs.FormLaws.{Good, good-row, rows-cons}
 use Rattle.group.proofs.WorkLaws.{rowValue, Extends}
 
@@ -81,4 +81,5 @@ module _ (only : Tree → Bool) (w : ℕ) where
           longer = omega (arith, ungrouped-length l);
           older = λ j h. ungrouped-value l j;
           ok = ungrouped-ok l;
+          new = λ h. new-same (ungrouped only w l) l (ungrouped-bare l) ∙ h;
         }

@@ -16,7 +16,7 @@ use Rattle.atom_table.specs.declared.table.Table.{Table}
 use Rattle.semilinear.specs.Form.{Row}
 use Rattle.semilinear.specs.Items.{atomCount, afterAtoms}
 use Rattle.semilinear.specs.Valid.{isSemilinear}
-use Rattle.semilinear.specs.DecodeForm.{rowsOf, decodeForm, readForm}
+use Rattle.semilinear.specs.DecodeForm.{decodeForm, readForm, readRows}
 use Rattle.atom_table.specs.Table.{Placed}
 use Rattle.atom_table.specs.Terms.{coeffsOf, Copied, FinishRoom}
 use Rattle.atom_table.proofs.HoldsLaws.{holds-bare}
@@ -44,7 +44,7 @@ use Rattle.group.proofs.ShownLaws.{begun, held-copied, copied-end}
 module _ (s : List ℕ) (bytes : IsBytes s) (ok : isSemilinear s ≡ true) where
   -- the words of the copied table hold the rows
   pub held-form : {tab : Table} {out : List ℕ} (k : ℕ) → Copied (readForm s) tab out
-      → Held (width s) (begun tab k) out (rowsOf 0 (body s) (afterAtoms (body s)))
+      → Held (width s) (begun tab k) out (readRows 0 (body s) (afterAtoms (body s)))
   unfolding decodeForm
   held-form {tab} {out} k h = held-copied (readForm s) tab out k h
 
@@ -99,7 +99,7 @@ ungrouped-held only w {made} {out} l h =
 -- ---- the views, as the code has read them
 
 module _ {only : Tree → Bool} {w : ℕ} {f coeffs views coeffs′ : List ℕ} {n : ℕ}
-    (v : ViewsRead only w f (rowsOf 0 f (afterAtoms f)) coeffs views coeffs′ n) where
+    (v : ViewsRead only w f (readRows 0 f (afterAtoms f)) coeffs views coeffs′ n) where
   pub read-count : n ≡ atomCount f
   read-count = v .number ∙ length-rows f 0 (afterAtoms f)
 
@@ -109,17 +109,17 @@ module _ {only : Tree → Bool} {w : ℕ} {f coeffs views coeffs′ : List ℕ} 
   module _ (e : coeffs ≡ padded 256 []) where
     pub read-wide : atomCount f ≤ 256 → length coeffs′ ≡ 256
     read-wide most =
-        let rows : List Row = rowsOf 0 f (afterAtoms f) in
+        let rows : List Row = readRows 0 f (afterAtoms f) in
         let own : List Row = ungrouped only w rows in
         ap length (kept-padded v 256 e)
         ∙ length-padded 256 (coeffsOf own)
         (omega (arith, length-coeffs own, ungrouped-length only w rows, length-rows f 0 (afterAtoms f)))
 
     -- a table that holds the rows, with the coefficients that are kept
-    pub read-shown : {made out : List ℕ} → Held w made out (rowsOf 0 f (afterAtoms f))
-        → Shown w made out coeffs′ (ungrouped only w (rowsOf 0 f (afterAtoms f)))
+    pub read-shown : {made out : List ℕ} → Held w made out (readRows 0 f (afterAtoms f))
+        → Shown w made out coeffs′ (ungrouped only w (readRows 0 f (afterAtoms f)))
     read-shown held = record {
-      held = ungrouped-held only w (rowsOf 0 f (afterAtoms f)) held;
+      held = ungrouped-held only w (readRows 0 f (afterAtoms f)) held;
       terms = λ _. kept-padded v 256 e;
     }
 
@@ -131,7 +131,7 @@ first-same s = record { count = s .count; are = s .are; long = refl }
 module _ {only : Tree → Bool} {w : ℕ} {f views bases : List ℕ} {n count : ℕ}
     (h : BasesFound only w f views bases n count) where
   abbrev rows : List Row
-  rows = rowsOf 0 f (afterAtoms f)
+  rows = readRows 0 f (afterAtoms f)
 
   pub readable-at : Readable f views n
   readable-at = rw (h .number) (readable (h .viewed))

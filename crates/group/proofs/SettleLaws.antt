@@ -13,7 +13,7 @@ use Rattle.base.specs.Choice.{when}
 use Rattle.base.proofs.LoopLaws.{for-ind}
 use Rattle.expr.specs.Value.{value}
 use Rattle.group.specs.declared.Group.{Group}
-use Rattle.semilinear.specs.Form.{Row, sumRows, rowsOk}
+use Rattle.semilinear.specs.Form.{Row, newRows, sumRows, rowsOk}
 use Rattle.group.specs.Group.{Entry, at, isLive, settleAt, settle}
 use Rattle.made.specs.Rows.{addCoeff}
 use Rattle.semilinear.proofs.FormLaws.{Good, good-row, rows-cons}
@@ -74,6 +74,12 @@ module _ (w : ℕ) (vars : List ℕ) (le : w ≤ 64) where
       simp (good-row w _ g, p .1)
   add-ok c (suc j) (x ∷ l) e = let p = rows-cons w x l e in simp (good-row w x (p .0), add-ok c j l (p .1))
 
+  add-new : (c j : ℕ) (l : List Row) → newRows (addCoeff w c j l) ≡ newRows l
+  unfolding addCoeff newRows
+  add-new c j [] = refl
+  add-new c zero (x ∷ l) = refl
+  add-new c (suc j) (x ∷ l) = rw (add-new c j l)
+
   -- c added to row j
   pub added-coeff : (c j : ℕ) (l : List Row) → j < length l
       → Added w vars (c * rowValue w vars l j) l (addCoeff w c j l)
@@ -84,6 +90,7 @@ module _ (w : ℕ) (vars : List ℕ) (le : w ≤ 64) where
               longer = omega (arith, add-length c j l);
               older = λ k h. add-value c j l k;
               ok = add-ok c j l;
+              new = λ h. add-new c j l ∙ h;
             };
         sum = add-sum c j l lt;
       }

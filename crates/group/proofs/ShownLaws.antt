@@ -19,10 +19,12 @@ use Rattle.atom_table.specs.declared.table.Table.{Table}
 use Rattle.semilinear.specs.Form.{Row, Form, atomsBytes, treeRecords, fitsTable}
 use Rattle.semilinear.specs.Items.{afterAtoms}
 use Rattle.semilinear.specs.Valid.{isSemilinear}
-use Rattle.semilinear.specs.DecodeForm.{rowsOf, decodeForm, readForm}
+use Rattle.semilinear.specs.DecodeForm.{decodeForm, readForm, rowsOf, retiredRows}
 use Rattle.semilinear.specs.Scan.{AtomsEnd}
 use Rattle.atom_table.specs.Terms.{coeffsOf, coeffsIn, Copied, Ends}
 use Rattle.semilinear.proofs.AcceptLaws.{written}
+use Rattle.semilinear.proofs.FormLaws.{length-atoms}
+use Rattle.semilinear.proofs.RetiredLaws.{length-retired, records-retired}
 use Rattle.atom_table.proofs.HoldsLaws.{at-holds, bareRows, holds-bare}
 use Rattle.atom_table.proofs.TermsLaws.{length-coeffs}
 use Rattle.group.specs.declared.Group.{Group}
@@ -58,7 +60,15 @@ copied-end s bytes ok tab out h =
     let rows : List Row = rowsOf 0 (body s) (afterAtoms (body s)) in
     let atoms : List ℕ = atomsBytes (width s) rows in
     let all : atoms ++ afterAtoms (body s) ≡ body s = written s bytes ok .atoms in
-    let at : tab .at ≡ length atoms = at-holds (width s) tab out rows (h .holds) (h .more) in
+    let at : tab .at ≡ length atoms =
+    omega (
+      arith,
+      at-holds (width s) tab out (retiredRows rows) (h .holds) (h .more),
+      length-atoms (width s) (retiredRows rows),
+      length-atoms (width s) rows,
+      length-retired rows,
+      records-retired rows,
+    ) in
     record {
       inside = omega (arith, at, ap length all, length-append atoms (afterAtoms (body s)));
       rest = ap (drop (tab .at)) (sym all) ∙ drop-at atoms (afterAtoms (body s)) (tab .at) (sym at);

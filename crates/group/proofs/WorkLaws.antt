@@ -21,9 +21,10 @@ use Rattle.record.specs.Tree.{Tree}
 use Rattle.record.specs.Tree.Tree.{Constant, Binary}
 use Rattle.expr.specs.Value.{value, binary}
 use Rattle.expr.proofs.ValueLaws.{value-lt}
-use Rattle.semilinear.specs.Form.{Row, sumRows, isAtomTree, rowOk, rowsOk, fitsTable}
+use Rattle.semilinear.specs.Form.{Row, newRow, newRows, sumRows, isAtomTree, rowOk, rowsOk, fitsTable}
 use Rattle.atom_table.specs.Terms.{coeffsOf}
 use Rattle.made.specs.Rows.{createRow, maskedTree, createMasked}
+use Rattle.semilinear.proofs.RetiredLaws.{new-append}
 use Rattle.semilinear.proofs.FormLaws.{good-row, rows-cons}
 use Rattle.semilinear.proofs.AtomLaws.{atom-tree, tree-atom, masked-atom}
 use Rattle.made.proofs.CoeffsLaws.{coeffs-create, fits-less}
@@ -67,6 +68,7 @@ pub record Extends (w : ℕ) (vars : List ℕ) (before after : List Row) : Type 
   pub longer : length before ≤ length after
   pub older : (j : ℕ) → j < length before → rowValue w vars after j ≡ rowValue w vars before j
   pub ok : rowsOk w before ≡ true → rowsOk w after ≡ true
+  pub new : newRows before ≡ true → newRows after ≡ true
 
 -- and n more in its sum, modulo 2 ^ w
 pub record Added (w : ℕ) (vars : List ℕ) (n : ℕ) (before after : List Row) : Type 0 where
@@ -82,7 +84,7 @@ pub record Grown (w : ℕ) (vars : List ℕ) (before after : List Row) : Type 0 
 
 module _ (w : ℕ) (vars : List ℕ) where
   pub extends-refl : (l : List Row) → Extends w vars l l
-  extends-refl l = record { longer = omega arith; older = λ j h. refl; ok = λ h. h }
+  extends-refl l = record { longer = omega arith; older = λ j h. refl; ok = λ h. h; new = λ h. h }
 
   pub extends-trans : {l m n : List Row} → Extends w vars l m → Extends w vars m n → Extends w vars l n
   extends-trans {l} {m} {n} p q =
@@ -90,6 +92,7 @@ module _ (w : ℕ) (vars : List ℕ) where
         longer = omega (arith, p .longer, q .longer);
         older = λ j h. q .older j (omega (arith, p .longer)) ∙ p .older j h;
         ok = λ h. q .ok (p .ok h);
+        new = λ h. q .new (p .new h);
       }
 
   pub added-refl : (l : List Row) → Added w vars 0 l l
@@ -122,29 +125,30 @@ module _ (w : ℕ) (vars : List ℕ) where
   pub grown-added : {l m : List Row} → Grown w vars l m → Added w vars 0 l m
   grown-added g = record { extends = g .extends; sum = eqm-of-eq (omega (arith, g .sum-same)) }
 
-  module _ (p : ℕ) (t : Tree) (l : List Row) where
-    pub length-create : length (createRow p t l) ≡ length l + 1
+  module _ (t : Tree) (l : List Row) where
+    pub length-create : length (createRow t l) ≡ length l + 1
     unfolding createRow
-    length-create = length-append l (record { provenance = p; tree = t; coeff = 0 } ∷ [])
+    length-create = length-append l (newRow t 0 ∷ [])
 
-    pub row-value-create : rowValue w vars (createRow p t l) (length l) ≡ value w vars t
+    pub row-value-create : rowValue w vars (createRow t l) (length l) ≡ value w vars t
     unfolding createRow
-    row-value-create = row-value-next w vars l (record { provenance = p; tree = t; coeff = 0 })
+    row-value-create = row-value-next w vars l (newRow t 0)
 
-    pub grown-create : p ≤ 4 → isAtomTree t ≡ true → Grown w vars l (createRow p t l)
-    unfolding createRow
-    grown-create hp ht =
-        let x : Row = record { provenance = p; tree = t; coeff = 0 } in
+    pub grown-create : isAtomTree t ≡ true → Grown w vars l (createRow t l)
+    unfolding createRow newRows
+    grown-create ht =
+        let x : Row = newRow t 0 in
         record {
           extends =
               record {
                 longer = omega (arith, length-create);
                 older = row-value-before w vars l (x ∷ []);
-                ok = rows-ok-more w l x (good-row w x (record { known = hp; atom = ht; fits = pow-pos w }));
+                ok = rows-ok-more w l x (good-row w x (record { known = omega arith; atom = ht; fits = pow-pos w }));
+                new = λ h. new-append l (x ∷ []) h refl;
               };
           sum-same = sum-rows-more w vars l x refl;
           fits = fits-less l (x ∷ []);
-          coeffs = λ n h. coeffs-create n p t l (omega (arith, length-create, h));
+          coeffs = λ n h. coeffs-create n t l (omega (arith, length-create, h));
         }
 
 -- ---- the basis under a mask
@@ -177,12 +181,12 @@ masked-tree-atom w b m hb hm = go (eqb m (2 ^ w - 1))
 module _ (w : ℕ) (vars : List ℕ) (b : Tree) (m : ℕ) (l : List Row) where
   pub length-masked : length (createMasked w b m l) ≡ length l + 1
   unfolding createMasked
-  length-masked = length-create w vars 0 (maskedTree w b m) l
+  length-masked = length-create w vars (maskedTree w b m) l
 
   pub row-value-masked : m < 2 ^ w → rowValue w vars (createMasked w b m l) (length l) ≡ bitAnd (value w vars b) m
   unfolding createMasked
-  row-value-masked hm = row-value-create w vars 0 (maskedTree w b m) l ∙ masked-value w vars b m hm
+  row-value-masked hm = row-value-create w vars (maskedTree w b m) l ∙ masked-value w vars b m hm
 
   pub grown-masked : isAtomTree b ≡ true → m < 2 ^ 64 → Grown w vars l (createMasked w b m l)
   unfolding createMasked
-  grown-masked hb hm = grown-create w vars 0 (maskedTree w b m) l (omega arith) (masked-tree-atom w b m hb hm)
+  grown-masked hb hm = grown-create w vars (maskedTree w b m) l (masked-tree-atom w b m hb hm)

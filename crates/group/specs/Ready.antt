@@ -10,7 +10,7 @@ use Rattle.base.specs.Put.{padded}
 use Rattle.record.specs.Tree.{Tree}
 use Rattle.semilinear.specs.Items.{atomCount, afterAtoms}
 use Rattle.semilinear.specs.Valid.{atomsOk}
-use Rattle.semilinear.specs.DecodeForm.{rowsOf}
+use Rattle.semilinear.specs.DecodeForm.{readRows}
 use Rattle.semilinear.specs.Scan.{AtomsEnd}
 use Rattle.made.specs.Made.{Room, Makes}
 use Rattle.views.specs.Views.{viewAt, InGroup, Views, Readable}
@@ -40,8 +40,8 @@ pub record RowsReady (w : ℕ) (f : List ℕ) (terms : ℕ) (views bases coeffs 
 -- the views of all n rows of f were read, and `count` bases found
 pub record BasesFound (only : Tree → Bool) (w : ℕ) (f views bases : List ℕ) (n count : ℕ) : Type 0 where
   pub few : n ≤ atomLimit
-  pub number : n ≡ length (rowsOf 0 f (afterAtoms f))
-  pub viewed : Views only w f views (rowsOf 0 f (afterAtoms f))
+  pub number : n ≡ length (readRows 0 f (afterAtoms f))
+  pub viewed : Views only w f views (readRows 0 f (afterAtoms f))
   pub first : FirstAre (firstRows f views n) bases bases count
 
 -- the same, with a table to work on

@@ -41,7 +41,7 @@ record Handed (o : Outcome) (len : ℕ) : Type 0 where
   given : GivesForm o len answer out
 
 handed : {f : Form} {o : Outcome} (len : ℕ) → Made f o → Handed o len
-handed len (made g flag k e) =
+handed len (made g flag k new e) =
     record {
       answer = formAnswer g flag;
       out = padded len (encodeForm g);

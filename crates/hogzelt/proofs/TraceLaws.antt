@@ -114,7 +114,7 @@ take-written {len = len} {out = out} {b = b} g e k =
 after-gives : (s : List ℕ) {f : Form} {o : Outcome} {len r used : ℕ} {out : List ℕ} → Made f o
     → GivesUsed o len r used out → inUseAfter r used out s ≡ useOf s o
 unfolding inUseAfter useOf refusalOf numbersOf formOutcome
-after-gives s {r = r} (made f flag k e) g =
+after-gives s {r = r} (made f flag k new e) g =
     let zero : r ≡ 0 = g .given .number ∙ ap refusalOf e in
     rw (zero, e) (take-written g e (used-of g e))
 after-gives s {r = r} (not-made n pos e) g =

@@ -12,18 +12,23 @@ use borrow.Author.Tests.{leb-true}
 use Rattle.base.specs.Put.{padded}
 use Rattle.record.specs.Tree.{Tree}
 use Rattle.base.proofs.BoolLaws.{false-true, and-true}
-use Rattle.semilinear.specs.Form.{Row, treeRecords, fitsTable}
+use Rattle.semilinear.specs.Form.{Row, newRow, treeRecords, fitsTable}
 use Rattle.atom_table.specs.Terms.{coeffsOf}
 use Rattle.atom_table.proofs.HoldsLaws.{past-more}
 use Rattle.atom_table.proofs.TermsLaws.{length-coeffs, coeffs-append}
 use Rattle.made.specs.Rows.{createRow}
 
+-- rows that pass a limit pass it with a row more
+pub create-past : (t : Tree) (l : List Row) → fitsTable l ≡ false → fitsTable (createRow t l) ≡ false
+unfolding createRow
+create-past t l h = past-more l (newRow t 0 ∷ []) h
+
 -- a row more, without a term, where there is a word for it
-pub coeffs-create : (m p : ℕ) (t : Tree) (l : List Row) → length l < m
-    → padded m (coeffsOf (createRow p t l)) ≡ padded m (coeffsOf l)
+pub coeffs-create : (m : ℕ) (t : Tree) (l : List Row) → length l < m
+    → padded m (coeffsOf (createRow t l)) ≡ padded m (coeffsOf l)
 unfolding padded createRow coeffsOf
-coeffs-create m p t l h =
-    let x : Row = record { provenance = p; tree = t; coeff = 0 } in
+coeffs-create m t l h =
+    let x : Row = newRow t 0 in
     let e : coeffsOf (l ++ (x ∷ [])) ≡ coeffsOf l ++ (0 ∷ []) = coeffs-append l (x ∷ []) in
     let n : m - length (coeffsOf l) ≡ suc (m - length (coeffsOf l ++ (0 ∷ []))) =
     omega (arith, length-append (coeffsOf l) (0 ∷ []), length-coeffs l) in

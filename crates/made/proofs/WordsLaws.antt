@@ -19,7 +19,7 @@ use Rattle.record.proofs.EncodeLaws.{length-encode, size-encode, Encoded, encod
 use Rattle.base.proofs.PutLaws.{length-put, put-then}
 use Rattle.expr.specs.Hash.{mixHash, tagHash, structuralHash}
 use Rattle.atom_table.specs.declared.table.Table.{Table}
-use Rattle.semilinear.specs.Form.{Row, atomsBytes, fitsTable}
+use Rattle.semilinear.specs.Form.{headByte, Row, newRow, atomsBytes, fitsTable}
 use Rattle.made.specs.Rows.{createRow, maskedTree, createMasked}
 use Rattle.atom_table.specs.Table.{Placed, Holds, Clean, Store, storeOf, atomSpan, fullTable, moreAtoms, createAtom}
 use Rattle.made.specs.Made.{tableOf, flagOf, wordsOf, Room, Later, Held, Grew, Basis, Makes}
@@ -87,12 +87,12 @@ grew-as {w} {made′ = made′} {out′ = out′} e g =
       held = λ l h. rw (← (e l)) (g .held l h);
     }
 
-module _ (w p : ℕ) (t : List ℕ) (ok : sized t ≡ true) (same : encode w (decode t) ≡ t) (made out : List ℕ)
+module _ (w : ℕ) (t : List ℕ) (ok : sized t ≡ true) (same : encode w (decode t) ≡ t) (made out : List ℕ)
     (r : Room made out) where
   pub grew-create : {tab : Table} {wrote made′ : List ℕ}
-      → storeOf tab wrote ≡ createAtom w p t (storeOf (tableOf made) out)
+      → storeOf tab wrote ≡ createAtom w t (storeOf (tableOf made) out)
       → made′ ≡ wordsOf tab (getD made 4 0 + 1) (getD made 5 0)
-      → Grew w 1 (createRow p (decode t)) made out made′ wrote
+      → Grew w 1 (createRow (decode t)) made out made′ wrote
   unfolding createRow
   grew-create {tab} {wrote} {made′} e q =
       let n : ℕ = getD made 4 0 + 1 in
@@ -103,7 +103,7 @@ module _ (w p : ℕ) (t : List ℕ) (ok : sized t ≡ true) (same : encode w (de
         room =
             record {
               words = ap length q ∙ length-words tab n k;
-              placed = rw m (placed-create w p t (tableOf made) out (r .placed) ok e);
+              placed = rw m (placed-create w t (tableOf made) out (r .placed) ok e);
             };
         later =
             record {
@@ -111,16 +111,16 @@ module _ (w p : ℕ) (t : List ℕ) (ok : sized t ≡ true) (same : encode w (de
               constant = ap (λ (s : List ℕ). getD s 5 0) q ∙ constant-words tab n k;
             };
         long =
-            create-cases w p t (tableOf made) out (r .placed) ok (λ _ o. length o ≡ length out) (λ _. refl) (λ _ _. refl)
+            create-cases w t (tableOf made) out (r .placed) ok (λ _ o. length o ≡ length out) (λ _. refl) (λ _ _. refl)
             (λ _ f.
-            length-put out (tableOf made .at) (atomSpan w p t) (room-atom w p t (tableOf made) out (r .placed) ok f)) e;
+            length-put out (tableOf made .at) (atomSpan w t) (room-atom w t (tableOf made) out (r .placed) ok f)) e;
         held = λ l h.
             record {
-              holds = rw m (holds-create w p 0 t (tableOf made) out l (h .holds) ok same e);
-              clean = rw m (clean-create w p t (tableOf made) out (r .placed) ok (h .clean) e);
+              holds = rw m (holds-create w 0 t (tableOf made) out l (h .holds) ok same e);
+              clean = rw m (clean-create w t (tableOf made) out (r .placed) ok (h .clean) e);
               rows =
                   rows′ ∙ ap (λ (x : ℕ). x + 1) (h .rows)
-                  ∙ sym (length-append l (record { provenance = p; tree = decode t; coeff = 0 } ∷ []));
+                  ∙ sym (length-append l (newRow (decode t) 0 ∷ []));
             };
       }
 
@@ -155,7 +155,7 @@ module _ (w hash : ℕ) (b : List ℕ) (h : Basis w hash b) where
     -- the table with this atom more, with the numbers as the code has them
     pub created-masked : (tab : Table) (out : List ℕ) → tab .full ≡ false → tab .count < 256
         → {n : ℕ} → n ≡ size b → tab .records + (n + 2) ≤ 3072
-        → {wrote : List ℕ} → wrote ≡ put out (tab .at) (atomSpan w 0 (maskedBytes w b m))
+        → {wrote : List ℕ} → wrote ≡ put out (tab .at) (atomSpan w (maskedBytes w b m))
         → storeOf
         (record {
           at = tab .at + 48 + length b;
@@ -164,12 +164,12 @@ module _ (w hash : ℕ) (b : List ℕ) (h : Basis w hash b) where
           full = tab .full;
         })
         wrote
-        ≡ createAtom w 0 (maskedBytes w b m) (storeOf tab out)
+        ≡ createAtom w (maskedBytes w b m) (storeOf tab out)
     created-masked tab out e l {n} hn fit {wrote} hw =
         let at-same : tab .at + 48 + length b ≡ tab .at + 16 + length (maskedBytes w b m) = omega (arith, masked-length) in
         let hn′ : n + 2 ≡ size (maskedBytes w b m) = omega (arith, masked-size) in
         ap (λ (x : ℕ). storeOf (record { at = x; count = tab .count + 1; records = tab .records + (n + 2); full = tab .full }) wrote) at-same
-        ∙ created w 0 (maskedBytes w b m) tab out e l hn′ fit hw
+        ∙ created w (maskedBytes w b m) tab out e l hn′ fit hw
 
   module _ (m : ℕ) (hm : m < 2 ^ 64) where
     abbrev maskedBasis : Tree
@@ -198,15 +198,15 @@ module _ (w hash : ℕ) (b : List ℕ) (h : Basis w hash b) where
     -- the head, the basis, the literal and the root
     put-masked-span : (d : List ℕ) (at n v : ℕ) → at + 48 + length b ≤ length d → n * 16 ≡ length b + 32
         → v ≡ mixHash (mixHash 4 hash) (tagHash 0 m)
-        → put (put (put (put d at (recordBytes 33 0 n w v)) (at + 16) b) (at + 16 + length b) (recordBytes 0 0 1 w m))
+        → put (put (put (put d at (recordBytes 33 headByte n w v)) (at + 16) b) (at + 16 + length b) (recordBytes 0 0 1 w m))
         (at + 16 + length b + 16) (recordBytes 4 0 n w 0)
-        ≡ put d at (atomSpan w 0 (encode w maskedBasis))
+        ≡ put d at (atomSpan w (encode w maskedBasis))
     unfolding atomSpan
     put-masked-span d at n v room hn hv =
-        let head : List ℕ = recordBytes 33 0 n w v in
+        let head : List ℕ = recordBytes 33 headByte n w v in
         let one : List ℕ = recordBytes 0 0 1 w m in
         let root : List ℕ = recordBytes 4 0 n w 0 in
-        let lh : length head ≡ 16 = length-record [] 33 0 n w v in
+        let lh : length head ≡ 16 = length-record [] 33 headByte n w v in
         let lo : length one ≡ 16 = length-record [] 0 0 1 w m in
         let l2 : length (head ++ b) ≡ length head + length b = length-append head b in
         let l3 : length ((head ++ b) ++ one) ≡ length (head ++ b) + length one = length-append (head ++ b) one in
@@ -214,7 +214,7 @@ module _ (w hash : ℕ) (b : List ℕ) (h : Basis w hash b) where
         let size-same : size (encode w maskedBasis) ≡ n = omega (arith, masked-size m, basis-fields) in
         let bytes : encode w maskedBasis ≡ (b ++ one) ++ root =
         masked-bytes ∙ ap (λ (k : ℕ). (b ++ one) ++ recordBytes 4 0 k w 0) (sym same-n) in
-        let front : recordBytes 33 0 (size (encode w maskedBasis)) w (structuralHash (decode (encode w maskedBasis))) ≡ head =
+        let front : recordBytes 33 headByte (size (encode w maskedBasis)) w (structuralHash (decode (encode w maskedBasis))) ≡ head =
         rw (size-same, ← masked-hash, ← hv) refl in
         ap (λ (s : List ℕ). put (put s (at + 16 + length b) one) (at + 16 + length b + 16) root)
         (put-then d at head b (at + 16) (omega arith) (omega arith))
@@ -233,10 +233,10 @@ module _ (w hash : ℕ) (b : List ℕ) (h : Basis w hash b) where
 pub wrote-masked : (w hash : ℕ) (b : List ℕ) (h : Basis w hash b) (m : ℕ) → m < 2 ^ 64 → (d : List ℕ) (at n : ℕ)
     → at + 48 + length b ≤ length d → n * 16 ≡ length b + 32
     → {v : ℕ} {o1 o2 o3 o4 : List ℕ} → v ≡ mixHash (mixHash 4 hash) (tagHash 0 m)
-    → o1 ≡ put d at (recordBytes 33 0 n w v) → o2 ≡ put o1 (at + 16) b
+    → o1 ≡ put d at (recordBytes 33 headByte n w v) → o2 ≡ put o1 (at + 16) b
     → o3 ≡ put o2 (at + 16 + length b) (recordBytes 0 0 1 w m)
     → o4 ≡ put o3 (at + 16 + length b + 16) (recordBytes 4 0 n w 0)
-    → o4 ≡ put d at (atomSpan w 0 (maskedBytes w b m))
+    → o4 ≡ put d at (atomSpan w (maskedBytes w b m))
 wrote-masked w hash b h m hm d at n room hn {v} hv e1 e2 e3 e4 =
     e4
     ∙ ap (λ (o : List ℕ). put o (at + 16 + length b + 16) (recordBytes 4 0 n w 0))
@@ -245,11 +245,11 @@ wrote-masked w hash b h m hm d at n room hn {v} hv e1 e2 e3 e4 =
     ∙ put-masked-span w hash b h m hm d at n v room hn hv
 
 module _ (w m : ℕ) (b : Tree) (l : List Row) where
-  pub masked-full : m ≡ 2 ^ w - 1 → createRow 0 b l ≡ createMasked w b m l
+  pub masked-full : m ≡ 2 ^ w - 1 → createRow b l ≡ createMasked w b m l
   unfolding createMasked maskedTree
   masked-full e = sym (simp (eq-eqb m (2 ^ w - 1) e))
 
-  pub masked-part : (m ≡ 2 ^ w - 1 → ⊥) → createRow 0 (Binary 4 b (Constant m)) l ≡ createMasked w b m l
+  pub masked-part : (m ≡ 2 ^ w - 1 → ⊥) → createRow (Binary 4 b (Constant m)) l ≡ createMasked w b m l
   unfolding createMasked maskedTree
   masked-part e = sym (simp (ne-eqb m (2 ^ w - 1) e))
 
@@ -257,13 +257,13 @@ module _ (w m : ℕ) (b : Tree) (l : List Row) where
 module _ (w hash : ℕ) (b : List ℕ) (h : Basis w hash b) (m : ℕ) (hm : m < 2 ^ 64) (made out : List ℕ)
     (r : Room made out) (part : m ≡ 2 ^ w - 1 → ⊥) where
   pub grew-masked : {tab : Table} {wrote made′ : List ℕ}
-      → storeOf tab wrote ≡ createAtom w 0 (maskedBytes w b m) (storeOf (tableOf made) out)
+      → storeOf tab wrote ≡ createAtom w (maskedBytes w b m) (storeOf (tableOf made) out)
       → made′ ≡ wordsOf tab (getD made 4 0 + 1) (getD made 5 0)
       → Grew w 1 (createMasked w (decode b) m) made out made′ wrote
   grew-masked e q =
       let t = maskedBytes w b m in
-      grew-as (λ l. ap (λ (u : Tree). createRow 0 u l) (masked-back w hash b h m hm) ∙ masked-part w m (decode b) l part)
-      (grew-create w 0 t (masked-sized w hash b h m hm) (ap (encode w) (masked-back w hash b h m hm)) made out r e q)
+      grew-as (λ l. ap (λ (u : Tree). createRow u l) (masked-back w hash b h m hm) ∙ masked-part w m (decode b) l part)
+      (grew-create w t (masked-sized w hash b h m hm) (ap (encode w) (masked-back w hash b h m hm)) made out r e q)
 
 -- ---- the start and the end of a pass
 

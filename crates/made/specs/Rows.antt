@@ -6,11 +6,11 @@ use Rattle.arith.specs.Width.{modAdd}
 use Rattle.base.specs.Choice.{when}
 use Rattle.record.specs.Tree.{Tree}
 use Rattle.record.specs.Tree.Tree.{Constant, Binary}
-use Rattle.semilinear.specs.Form.{andFamily, Row}
+use Rattle.semilinear.specs.Form.{Row, newRow}
 
 -- `create_atom`: a row more, without a term; its number is the count of rows before
-unfoldable pub createRow : ℕ → Tree → List Row → List Row
-createRow p t rows = rows ++ (record { provenance = p; tree = t; coeff = 0 } ∷ [])
+unfoldable pub createRow : Tree → List Row → List Row
+createRow t rows = rows ++ (newRow t 0 ∷ [])
 
 -- basis & mask, or the basis alone under the full mask
 unfoldable pub maskedTree : ℕ → Tree → ℕ → Tree
@@ -18,7 +18,7 @@ maskedTree w b m = when (eqb m (2 ^ w - 1)) (λ _. b) (λ _. Binary 4 b (Constan
 
 -- `create_masked_atom` (term_refiner.rs 73-83)
 unfoldable pub createMasked : ℕ → Tree → ℕ → List Row → List Row
-createMasked w b m rows = createRow andFamily (maskedTree w b m) rows
+createMasked w b m rows = createRow (maskedTree w b m) rows
 
 -- c added to the coefficient of row j
 unfoldable pub addCoeff : ℕ → ℕ → ℕ → List Row → List Row

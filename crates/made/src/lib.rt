@@ -10,7 +10,6 @@ ghost use Rattle.record.specs.Tree.{encode};
 ghost use Rattle.record.specs.Tree.Tree.{Constant, Binary};
 ghost use Rattle.base.specs.Put.{put};
 ghost use Rattle.record.specs.Decode.{decode};
-ghost use Rattle.semilinear.specs.Form.{andFamily};
 ghost use Rattle.atom_table.specs.Table.{Placed, storeOf, atomSpan, createAtom};
 ghost use Rattle.made.specs.Rows.{createMasked};
 ghost use Rattle.made.specs.Made.{tableOf, flagOf, wordsOf, Grew, Basis, Makes, AtomFits};
@@ -57,14 +56,14 @@ pub fn store(made: &mut [u64], tab: Table)
 fn put_masked(out: &mut [u8], at: usize, b: &[u8], m: u64, size: u64, hash: u64, w: u8)
     requires { ⌜ AtomFits at size (now b) (now out) × Basis w hash (now b) ⌝ }
     ensures { λ _. ⌜ now (out .exit) ≡ put (now (out .entry)) at
-        (atomSpan w andFamily (encode w (Binary 4 (decode (now (b .entry))) (Constant m)))) ⌝ }
+        (atomSpan w (encode w (Binary 4 (decode (now (b .entry))) (Constant m)))) ⌝ }
 {
     let end = at + limits::RECORD_LENGTH + b.len();
     record::write::put_record(
         out,
         at,
         33,
-        table::AND_FAMILY,
+        table::HEAD_BYTE,
         size,
         w,
         expr::hash::masked_hash(hash, m),
@@ -77,7 +76,7 @@ fn put_masked(out: &mut [u8], at: usize, b: &[u8], m: u64, size: u64, hash: u64,
 // Appends the And of the tree b and the literal m.
 fn create_joined(tab: Table, out: &mut [u8], b: &[u8], m: u64, hash: u64, w: u8) -> Table
     requires { ⌜ Placed tab (length (now out)) × Basis w hash (now b) ⌝ }
-    ensures { λ r. ⌜ storeOf r (now (out .exit)) ≡ createAtom w andFamily
+    ensures { λ r. ⌜ storeOf r (now (out .exit)) ≡ createAtom w
         (encode w (Binary 4 (decode (now (b .entry))) (Constant m)))
         (storeOf tab (now (out .entry))) ⌝ }
 {
@@ -112,7 +111,7 @@ pub fn create_masked(made: &mut [u64], out: &mut [u8], b: &[u8], hash: u64, mask
 {
     let tab = load(made);
     if mask == arith::bitmask(w as u32) {
-        let more = tab.create_atom(out, b, hash, table::AND_FAMILY, w);
+        let more = tab.create_atom(out, b, hash, w);
         store(made, more);
         return;
     }

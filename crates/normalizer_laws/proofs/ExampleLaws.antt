@@ -16,7 +16,7 @@ use Rattle.expr.specs.Vars.{nextVar, supportF, support, sameVars}
 use Rattle.expr.specs.Hash.{mixHash, tagHash, varHash, structuralHash}
 use Rattle.truth.specs.Key.{isPure, sameTable}
 use Rattle.truth.specs.Truth.{bitBinary, bitOf, rowBits, tableF, table}
-use Rattle.semilinear.specs.Form.{Row, termCount, atomBytes, atomsBytes, termBytes, termsBytes, sumBytes, encodeForm}
+use Rattle.semilinear.specs.Form.{Row, newRow, termCount, atomBytes, atomsBytes, termBytes, termsBytes, sumBytes, encodeForm}
 use Rattle.semilinear.specs.Form.{eqTree, treeRecords, fitsTable}
 use Rattle.base.specs.Outcome.{Outcome, accepted, refused, refusalOf}
 use Rattle.semilinear.specs.Outcome.{formOutcome}
@@ -24,7 +24,7 @@ use Rattle.semilinear.specs.PassOutcome.{limitOutcome}
 use Rattle.normalizer_laws.specs.Collect.{joinCollected, collectAtom, collectConstant, isNot, operand}
 use Rattle.normalizer_laws.specs.Collect.{collectNot, isMaskedNot, collectAnd, andCoeff, collectMasked}
 use Rattle.normalizer_laws.specs.Collect.{collectTerms}
-use Rattle.normalizer_laws.specs.Register.{familyOf, joinProvenance, detectProvenance, sameSlot}
+use Rattle.normalizer_laws.specs.Register.{sameSlot}
 use Rattle.normalizer_laws.specs.Register.{newestRow, firstRow, hasTree, sharedRow, addRow, registerAtom}
 use Rattle.normalizer_laws.specs.Register.{registerAll}
 use Rattle.normalizer_laws.specs.Normalize.{collectedForm, collectedOutcome, normalizeTree}
@@ -51,9 +51,6 @@ abbrev allHold : List Example → Bool
 allHold [] = true
 allHold (x ∷ l) = holds x && allHold l
 
--- a row by provenance, tree and coefficient
-abbrev row : ℕ → Tree → ℕ → Row
-row p t c = record { provenance = p; tree = t; coeff = c }
 
 abbrev a : Tree
 a = Variable 0
@@ -104,17 +101,17 @@ abbrev starred : List Example
 starred =
     -- 5; a ^ 15; a | 15; ~a & 15
     gives 8 (literal 5) 5 []
-    ∷ gives 8 (xor a (literal 15)) 15 (row 4 a 1 ∷ row 0 low 254 ∷ [])
-    ∷ gives 8 (Binary 5 a (literal 15)) 15 (row 4 a 1 ∷ row 0 low 255 ∷ [])
-    ∷ gives 8 (conj (not a) (literal 15)) 15 (row 0 low 255 ∷ [])
+    ∷ gives 8 (xor a (literal 15)) 15 (newRow a 1 ∷ newRow low 254 ∷ [])
+    ∷ gives 8 (Binary 5 a (literal 15)) 15 (newRow a 1 ∷ newRow low 255 ∷ [])
+    ∷ gives 8 (conj (not a) (literal 15)) 15 (newRow low 255 ∷ [])
     -- 0 × (a × b); a × b; a ^ (-1); 3 & (1 + 2)
     ∷ gives 8 (mul (literal 0) (mul a b)) 0 []
     ∷ refuses 8 (mul a b) 8
     ∷ refuses 8 (xor a (neg (literal 1))) 8
     ∷ refuses 8 maskedSum 7
     -- (a & b) + (b & a); a ^ 1 of width 1
-    ∷ gives 8 (add (conj a b) (conj b a)) 0 (row 0 (conj a b) 2 ∷ [])
-    ∷ gives 1 (xor a (literal 1)) 1 (row 4 a 1 ∷ [])
+    ∷ gives 8 (add (conj a b) (conj b a)) 0 (newRow (conj a b) 2 ∷ [])
+    ∷ gives 1 (xor a (literal 1)) 1 (newRow a 1 ∷ [])
     ∷ []
 
 -- a nested Xor with n literals, whose atoms have (n + 1) * (n + 1) tree records
@@ -126,19 +123,19 @@ nested (suc n) = xor (nested n) (literal n)
 abbrev others : List Example
 others =
     -- ~~a & 15 is lowered once; the And made of ~a ^ 15 is looked at again
-    gives 8 (conj (not (not a)) (literal 15)) 15 (row 4 (conj (not a) (literal 15)) 255 ∷ [])
-    ∷ gives 8 (xor (not a) (literal 15)) 241 (row 3 (not a) 1 ∷ row 0 low 2 ∷ [])
+    gives 8 (conj (not (not a)) (literal 15)) 15 (newRow (conj (not a) (literal 15)) 255 ∷ [])
+    ∷ gives 8 (xor (not a) (literal 15)) 241 (newRow (not a) 1 ∷ newRow low 2 ∷ [])
     -- a - a keeps its atom; 256 × a makes none; neither does the mask of 128 × (a ^ 15); a ^ 0 makes two
-    ∷ gives 8 (add a (neg a)) 0 (row 4 a 0 ∷ [])
+    ∷ gives 8 (add a (neg a)) 0 (newRow a 0 ∷ [])
     ∷ gives 8 (mul (literal 256) a) 0 []
-    ∷ gives 8 (mul (literal 128) (xor a (literal 15))) 128 (row 4 a 128 ∷ [])
-    ∷ gives 8 (xor a (literal 0)) 0 (row 4 a 1 ∷ row 0 (conj a (literal 0)) 254 ∷ [])
+    ∷ gives 8 (mul (literal 128) (xor a (literal 15))) 128 (newRow a 128 ∷ [])
+    ∷ gives 8 (xor a (literal 0)) 0 (newRow a 1 ∷ newRow (conj a (literal 0)) 254 ∷ [])
     -- ~~a + a shares by the truth table and keeps the first tree; (a >> 0) + a does not
-    ∷ gives 8 (add (not (not a)) a) 0 (row 3 (not (not a)) 2 ∷ [])
-    ∷ gives 8 (add (shr 0 a) a) 0 (row 4 (shr 0 a) 1 ∷ row 4 a 1 ∷ [])
+    ∷ gives 8 (add (not (not a)) a) 0 (newRow (not (not a)) 2 ∷ [])
+    ∷ gives 8 (add (shr 0 a) a) 0 (newRow (shr 0 a) 1 ∷ newRow a 1 ∷ [])
     -- a literal of 2 ^ 8 or more stays as it is written in an And, and is cut where it is lowered
-    ∷ gives 8 (conj a (literal 271)) 0 (row 0 (conj a (literal 271)) 1 ∷ [])
-    ∷ gives 8 (xor (literal 271) a) 15 (row 4 a 1 ∷ row 0 low 254 ∷ [])
+    ∷ gives 8 (conj a (literal 271)) 0 (newRow (conj a (literal 271)) 1 ∷ [])
+    ∷ gives 8 (xor (literal 271) a) 15 (newRow a 1 ∷ newRow low 254 ∷ [])
     -- (a × 0) × b; (0 × a) >> 1; a & (1 + 2)
     ∷ refuses 8 (mul (mul a (literal 0)) b) 8
     ∷ refuses 8 (shr 1 (mul (literal 0) a)) 8
@@ -154,8 +151,8 @@ others =
     ∷ gives 8 (mul (literal 0) (nested 55)) 0 []
     -- with t = a & 15 and a u of the same hash: t + u + t makes three atoms, t + u + u two
     ∷ alike low other
-    ∷ gives 8 (add (add low other) low) 0 (row 0 low 1 ∷ row 0 other 1 ∷ row 0 low 1 ∷ [])
-    ∷ gives 8 (add (add low other) other) 0 (row 0 low 1 ∷ row 0 other 2 ∷ [])
+    ∷ gives 8 (add (add low other) low) 0 (newRow low 1 ∷ newRow other 1 ∷ newRow low 1 ∷ [])
+    ∷ gives 8 (add (add low other) other) 0 (newRow low 1 ∷ newRow other 2 ∷ [])
     ∷ []
 
 examples-hold : allHold starred && allHold others ≡ true
@@ -164,6 +161,6 @@ unfolding bitmask wrappingMul modAdd modMul modNeg bitAt eqList sizeOf recordByt
     mixHash tagHash varHash structuralHash termCount atomBytes atomsBytes termBytes termsBytes sumBytes encodeForm
     eqTree treeRecords fitsTable refusalOf formOutcome joinCollected collectAtom collectConstant isNot operand
     collectNot isMaskedNot collectAnd andCoeff collectMasked collectTerms bitBinary bitOf rowBits tableF table
-    familyOf joinProvenance detectProvenance isPure sameTable sameSlot newestRow firstRow hasTree sharedRow addRow
+    isPure sameTable sameSlot newestRow firstRow hasTree sharedRow addRow
     registerAtom registerAll collectedForm limitOutcome collectedOutcome normalizeTree
 examples-hold = refl

@@ -24,7 +24,7 @@ use Rattle.expr.proofs.ValueLaws.{value-lt}
 use Rattle.expr_refusal.proofs.RefusalLaws.{accepted-root}
 use Rattle.expr.proofs.AcceptLaws.{accept-expr}
 use Rattle.expr.proofs.ExprValueLaws.{accepted-tree, expr-value-accepted}
-use Rattle.semilinear.specs.Form.{Form, sumRows, formValue, termCount, encodeForm, rowsOk, fitsTable, validForm}
+use Rattle.semilinear.specs.Form.{Form, newRows, sumRows, formValue, termCount, encodeForm, rowsOk, fitsTable, validForm}
 use Rattle.semilinear_value.specs.Value.{semilinearValue}
 use Rattle.base.specs.Outcome.{Outcome, accepted, refused, refusalOf, numbersOf}
 use Rattle.semilinear.specs.Outcome.{formOutcome}
@@ -36,7 +36,7 @@ use Rattle.normalizer_laws.specs.Normalize.{collectedForm, collectedOutc
 use Rattle.normalizer_laws.specs.Normalize.{normalizeToSemilinear}
 use Rattle.normalizer_laws.proofs.CollectLaws.{sumEmitted, HasValue, collect-value}
 use Rattle.normalizer_laws.proofs.EmittedLaws.{AllGood, GoodCollected, collect-good}
-use Rattle.normalizer_laws.proofs.RegisterLaws.{register-all-sum, register-all-ok}
+use Rattle.normalizer_laws.proofs.RegisterLaws.{register-all-sum, register-all-ok, register-all-new}
 
 -- ---- the form of what was collected
 
@@ -216,12 +216,13 @@ pub record Normalized (s bytes numbers : List ℕ) : Type 0 where
   pub valid : validForm form ≡ true
   pub wide : form .bitwidth ≡ width s
   pub kept : (vars : List ℕ) → formValue vars form ≡ exprValue s vars
+  pub new : newRows (form .rows) ≡ true
 
 module _ (s : List ℕ) (h : IsBytes s) (len : ℕ) (bytes numbers : List ℕ)
     (given : normalizeToSemilinear s len ≡ accepted bytes numbers) where
   from-tree : exprRefusal s ≡ 0 → normalizeTree (width s) (decode s) ≡ accepted bytes numbers
       → TreeCase (width s) (decode s) → Normalized s bytes numbers
-  unfolding elements numbersOf formOutcome collectedForm
+  unfolding elements numbersOf formOutcome collectedForm newRows
   from-tree z o (arithmetic a f) = not-accepted f (omega arith) o
   from-tree z o (not-linear a e f) = not-accepted f (omega arith) o
   from-tree z o (too-large a c l e fits f) = not-accepted f (omega arith) o
@@ -242,6 +243,7 @@ module _ (s : List ℕ) (h : IsBytes s) (len : ℕ) (bytes numbers : List ℕ)
             λ vars.
             collected-value w (root .width-pos) (root .width-le) (decode s) expr c l e vars
             ∙ sym (expr-value-accepted s vars z refl);
+        new = register-all-new w [] (root .width-le) l [] refl;
       }
 
   pub normalize-form : Normalized s bytes numbers

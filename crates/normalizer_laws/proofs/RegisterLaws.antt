@@ -12,53 +12,20 @@ use Rattle.arith.specs.Width.{modAdd}
 use Rattle.arith.proofs.CongruenceLaws.{eqm-of-eq, eqm-refl, eqm-trans, eqm-add, eqm-mul-r}
 use Rattle.arith.proofs.WidthLaws.{mod-add-eqm, mod-add-lt}
 use Rattle.base.specs.Choice.{when}
+use Rattle.base.proofs.BoolLaws.{and-true}
 use Rattle.record.specs.Tree.{Tree}
 use Rattle.record.specs.Tree.Tree.{Constant, Variable, Unary, Binary}
 use Rattle.expr.specs.Value.{value}
 use Rattle.truth.specs.Key.{sameTable}
 use Rattle.truth.proofs.TruthLaws.{table-value}
-use Rattle.semilinear.specs.Form.{Row, sumRows, rowsOk}
+use Rattle.semilinear.specs.Form.{Row, newRow, newRows, sumRows, rowsOk}
 use Rattle.semilinear.proofs.FormLaws.{Good, good-row, rows-cons}
 use Rattle.semilinear.proofs.AtomLaws.{Atom, atom-tree, tree-atom, eq-of-eq-tree}
 use Rattle.normalizer_laws.specs.Collect.{Emitted}
-use Rattle.normalizer_laws.specs.Register.{familyOf, joinProvenance, detectProvenance, sameSlot, newestRow}
-use Rattle.normalizer_laws.specs.Register.{firstRow, hasTree, sharedRow, addRow, registerAtom, registerAll}
+use Rattle.normalizer_laws.specs.Register.{sameSlot, newestRow, firstRow, hasTree, sharedRow, addRow, registerAtom}
+use Rattle.normalizer_laws.specs.Register.{registerAll}
 use Rattle.normalizer_laws.proofs.CollectLaws.{sumEmitted}
 use Rattle.normalizer_laws.proofs.EmittedLaws.{GoodEmitted, AllGood}
-
--- ---- provenance
-
-family-le : (f x y : ℕ) → f ≤ 4 → familyOf f x y ≤ 4
-unfolding familyOf
-family-le f x y h = go ((eqb x f || eqb x 4) && (eqb y f || eqb y 4))
-  where
-    go : (b : Bool) → when b (λ _. f) (λ _. 4) ≤ 4
-    go true = h
-    go false = omega arith
-
-provenance-le : (t : Tree) → detectProvenance t ≤ 4
-unfolding joinProvenance detectProvenance
-provenance-le (Constant v) = omega arith
-provenance-le (Variable i) = omega arith
-provenance-le (Unary k a t) = go (eqb k 7)
-  where
-    go : (b : Bool) → when b (λ _. 3) (λ _. 4) ≤ 4
-    go true = omega arith
-    go false = omega arith
-provenance-le (Binary k l r) = go (eqb k 4) (eqb k 5) (eqb k 6)
-  where
-    both : ℕ → ℕ
-    both f = familyOf f (detectProvenance l) (detectProvenance r)
-
-    both-le : (f : ℕ) → f ≤ 4 → both f ≤ 4
-    both-le f h = family-le f (detectProvenance l) (detectProvenance r) h
-
-    go : (a b c : Bool)
-        → when a (λ _. both 0) (λ _. when b (λ _. both 1) (λ _. when c (λ _. both 2) (λ _. 4))) ≤ 4
-    go true b c = both-le 0 (omega arith)
-    go false true c = both-le 1 (omega arith)
-    go false false true = both-le 2 (omega arith)
-    go false false false = omega arith
 
 -- ---- the row that a tree shares
 
@@ -153,22 +120,29 @@ module _ (w : ℕ) (vars : List ℕ) (hw : w ≤ 64) where
       let p = rows-cons w x l ok in
       simp (good-row w x (p .0), add-row-ok new j l g (p .1))
 
+  add-row-new : (new : Row) (j : ℕ) (l : List Row) → newRows (new ∷ []) ≡ true → newRows l ≡ true
+      → newRows (addRow w new j l) ≡ true
+  unfolding addRow newRows
+  add-row-new new j [] g h = g
+  add-row-new new zero (x ∷ l) g h = h
+  add-row-new new (suc j) (x ∷ l) g h =
+      let p = and-true (eqb (x .provenance) 4) (newRows l) h in
+      simp (p .0, add-row-new new j l g (p .1))
+
   -- ---- what is registered
 
   register-sum : (e : Emitted) (l : List Row) → GoodEmitted w hw e → rowsOk w l ≡ true
       → Eqm (2 ^ w) (sumRows w vars (registerAtom w e l)) (sumRows w vars l + e .coeff * value w vars (e .tree))
   unfolding registerAtom
   register-sum e l g ok =
-      add-row-sum (record { provenance = detectProvenance (e .tree); tree = e .tree; coeff = e .coeff })
-      (sharedRow w (e .tree) l) l (shared-row-has w vars (e .tree) (g .atom) l ok)
+      add-row-sum (newRow (e .tree) (e .coeff)) (sharedRow w (e .tree) l) l (shared-row-has w vars (e .tree) (g .atom) l ok)
 
   register-ok : (e : Emitted) (l : List Row) → GoodEmitted w hw e → rowsOk w l ≡ true
       → rowsOk w (registerAtom w e l) ≡ true
   unfolding registerAtom
   register-ok e l g ok =
-      add-row-ok (record { provenance = detectProvenance (e .tree); tree = e .tree; coeff = e .coeff })
-      (sharedRow w (e .tree) l) l
-      (record { known = provenance-le (e .tree); atom = atom-tree (e .tree) (g .atom); fits = g .fits }) ok
+      add-row-ok (newRow (e .tree) (e .coeff)) (sharedRow w (e .tree) l) l
+      (record { known = omega arith; atom = atom-tree (e .tree) (g .atom); fits = g .fits }) ok
 
   pub register-all-sum : (m : List Emitted) (l : List Row) → AllGood w hw m → rowsOk w l ≡ true
       → Eqm (2 ^ w) (sumRows w vars (registerAll w m l)) (sumRows w vars l + sumEmitted w vars m)
@@ -183,3 +157,11 @@ module _ (w : ℕ) (vars : List ℕ) (hw : w ≤ 64) where
   unfolding registerAll AllGood
   register-all-ok [] l g ok = ok
   register-all-ok (e ∷ m) l g ok = register-all-ok m (registerAtom w e l) (g .1) (register-ok e l (g .0) ok)
+
+  -- and all heads are new ones
+  pub register-all-new : (m : List Emitted) (l : List Row) → newRows l ≡ true → newRows (registerAll w m l) ≡ true
+  unfolding registerAll registerAtom newRows
+  register-all-new [] l h = h
+  register-all-new (e ∷ m) l h =
+      register-all-new m (registerAtom w e l)
+      (add-row-new (newRow (e .tree) (e .coeff)) (sharedRow w (e .tree) l) l refl h)

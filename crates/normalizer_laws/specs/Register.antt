@@ -1,39 +1,19 @@
--- The atom table of the normaliser (semilinear_normalizer.rs 235-282, `register_atom`, `detect_provenance` 174-213).
--- Difference 1: sharing by hash needs equal trees; the published Rust asks for it too and keeps one slot for each
--- (hash, variables), that of the newest atom.
+-- The atom table of the normaliser (semilinear_normalizer.rs 235-282, `register_atom`). A new row says no provenance
+-- (ticket #107). Difference 1: sharing by hash needs equal trees; the published Rust asks for it too and keeps one slot
+-- for each (hash, variables), that of the newest atom.
 use Prim.Native.Nat.{ℕ, zero, suc, _+_}
 use mathlib.Core.List.{List, [], _∷_}
-use mathlib.Core.Bool.{Bool, false, _&&_, _||_}
+use mathlib.Core.Bool.{Bool, false, _&&_}
 use lib.ListN.{length}
 use lib.Dec.{eqb}
 use Rattle.arith.specs.Width.{modAdd}
 use Rattle.base.specs.Choice.{when}
 use Rattle.record.specs.Tree.{Tree}
-use Rattle.record.specs.Tree.Tree.{Constant, Variable, Unary, Binary}
 use Rattle.expr.specs.Vars.{sameVars}
 use Rattle.expr.specs.Hash.{structuralHash}
 use Rattle.truth.specs.Key.{sameTable}
-use Rattle.semilinear.specs.Form.{andFamily, orFamily, xorFamily, notFamily, mixedFamily, Row, eqTree}
+use Rattle.semilinear.specs.Form.{Row, newRow, eqTree}
 use Rattle.normalizer_laws.specs.Collect.{Emitted}
-
--- the family f where both children belong to it or are Mixed, otherwise Mixed
-unfoldable pub familyOf : ℕ → ℕ → ℕ → ℕ
-familyOf f x y =
-    when ((eqb x f || eqb x mixedFamily) && (eqb y f || eqb y mixedFamily)) (λ _. f) (λ _. mixedFamily)
-
--- the family of a root of kind k over two children of these families
-unfoldable pub joinProvenance : ℕ → ℕ → ℕ → ℕ
-joinProvenance k x y =
-    when (eqb k 4) (λ _. familyOf andFamily x y)
-    (λ _. when (eqb k 5) (λ _. familyOf orFamily x y)
-    (λ _. when (eqb k 6) (λ _. familyOf xorFamily x y) (λ _. mixedFamily)))
-
--- And over And and Mixed is And, likewise Or and Xor; a Not is Not; all else is Mixed
-unfoldable pub detectProvenance : Tree → ℕ
-detectProvenance (Constant v) = mixedFamily
-detectProvenance (Variable i) = mixedFamily
-detectProvenance (Unary k a t) = when (eqb k 7) (λ _. notFamily) (λ _. mixedFamily)
-detectProvenance (Binary k l r) = joinProvenance k (detectProvenance l) (detectProvenance r)
 
 -- the same hash and the same variables
 unfoldable pub sameSlot : Tree → Tree → Bool
@@ -72,9 +52,7 @@ addRow w new (suc j) (x ∷ l) = x ∷ addRow w new j l
 
 -- one atom: added to the row that it shares, or a row more
 unfoldable pub registerAtom : ℕ → Emitted → List Row → List Row
-registerAtom w e rows =
-    addRow w (record { provenance = detectProvenance (e .tree); tree = e .tree; coeff = e .coeff })
-    (sharedRow w (e .tree) rows) rows
+registerAtom w e rows = addRow w (newRow (e .tree) (e .coeff)) (sharedRow w (e .tree) rows) rows
 
 -- all that was emitted, in order
 unfoldable pub registerAll : ℕ → List Emitted → List Row → List Row

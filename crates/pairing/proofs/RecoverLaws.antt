@@ -14,7 +14,7 @@ use Rattle.record.specs.Tree.{Tree}
 use Rattle.base.proofs.BoolLaws.{and-true}
 use Rattle.expr.specs.Hash.{structuralHash}
 use Rattle.group.specs.declared.Group.{Group}
-use Rattle.semilinear.specs.Form.{Row, Form, sumRows, formValue, rowsOk, treeRecords, fitsTable, validForm}
+use Rattle.semilinear.specs.Form.{Row, Form, newRows, sumRows, formValue, rowsOk, treeRecords, fitsTable, validForm}
 use Rattle.group.specs.Group.{at, emptyGroup, groupOf, settle}
 use Rattle.views.specs.Grouping.{anyBasis, basesOf, ungrouped}
 use Rattle.semilinear.proofs.FormLaws.{form-parts, parts-form}
@@ -104,6 +104,7 @@ module _ (w : ℕ) (hw : w ≤ 64) (vars : List ℕ) (before : List Row) (ok : r
     width : f .bitwidth ≡ w
     fits : f .constant < 2 ^ w
     rows-ok : rowsOk w (f .rows) ≡ true
+    new : newRows before ≡ true → newRows (f .rows) ≡ true
     sum : Eqm (2 ^ w) (f .constant + sumRows w vars (f .rows))
         (c + sumRows w vars rows + basesSum anyBasis w (termValue w vars) l before)
 
@@ -111,7 +112,7 @@ module _ (w : ℕ) (hw : w ≤ 64) (vars : List ℕ) (before : List Row) (ok : r
       → Extends w vars before rows → Ends l rows c (recoverAll w before l rows c)
   unfolding recoverAll basesSum
   recover-all [] n up rows c hc x =
-      record { width = refl; fits = hc; rows-ok = x .ok ok; sum = eqm-of-eq (omega arith) }
+      record { width = refl; fits = hc; rows-ok = x .ok ok; new = x .new; sum = eqm-of-eq (omega arith) }
   recover-all (b ∷ l) n up rows c hc x =
       let p = risen n b l up in
       let s = group-step b (p .atom) rows c hc x in
@@ -120,6 +121,7 @@ module _ (w : ℕ) (hw : w ≤ 64) (vars : List ℕ) (before : List Row) (ok : r
         width = below .width;
         fits = below .fits;
         rows-ok = below .rows-ok;
+        new = below .new;
         sum =
             eqm-trans (below .sum)
             (eqm-trans (eqm-add (s .sum) (eqm-refl (basesSum anyBasis w (termValue w vars) l before)))
@@ -172,6 +174,10 @@ valid-recover f e t =
       records-le = leb-true _ _ (u .1);
       rows-ok = subst (λ (n : ℕ). rowsOk n (r .rows) ≡ true) (sym (h .width)) (h .rows-ok);
     })
+
+-- with new heads
+pub new-recover : (f : Form) → validForm f ≡ true → newRows (f .rows) ≡ true → newRows (recoverForm f .rows) ≡ true
+new-recover f e = recover-ends [] f e .new
 
 pub width-recover : (f : Form) → validForm f ≡ true → recoverForm f .bitwidth ≡ f .bitwidth
 width-recover f e = recover-ends [] f e .width

@@ -14,8 +14,8 @@ use Rattle.base.specs.Loop.{forIn}
 use Rattle.record.specs.Tree.{Tree}
 use Rattle.base.proofs.BoolLaws.{false-true}
 use Rattle.base.proofs.LoopLaws.{when-both, for-none, for-more, for-keeps, for-split}
-use Rattle.semilinear.specs.Form.{mixedFamily, Row, fitsTable}
-use Rattle.atom_table.proofs.HoldsLaws.{past-more}
+use Rattle.semilinear.specs.Form.{Row, fitsTable}
+use Rattle.made.proofs.CoeffsLaws.{create-past}
 use Rattle.group.specs.declared.Group.{Group}
 use Rattle.group.specs.Group.{Entry, at}
 use Rattle.made.specs.Rows.{createRow}
@@ -37,20 +37,16 @@ below-more P i h p k l = go (ℕ-discrete k i)
 abbrev Past : Recovery → Type 0
 Past x = fitsTable (x .rows) ≡ false
 
-past-create : (p : ℕ) (t : Tree) (l : List Row) → fitsTable l ≡ false → fitsTable (createRow p t l) ≡ false
-unfolding createRow
-past-create p t l h = past-more l (record { provenance = p; tree = t; coeff = 0 } ∷ []) h
-
 pub past-bare : (w : ℕ) (t : Tree) (l : List Row) → fitsTable l ≡ false → fitsTable (withBare w t l) ≡ false
 unfolding withBare
 past-bare w t l h =
-    when-both (λ (m : List Row). fitsTable m ≡ false) (ltb (rowWith w t 0 l) (length l)) l (createRow mixedFamily t l)
-    (λ _. h) (λ _. past-create mixedFamily t l h)
+    when-both (λ (m : List Row). fitsTable m ≡ false) (ltb (rowWith w t 0 l) (length l)) l (createRow t l)
+    (λ _. h) (λ _. create-past t l h)
 
 module _ (w : ℕ) (t : Tree) where
   past-xor : (i j : ℕ) (x : Recovery) → Past x → Past (recoverXor w t i j x)
   unfolding recoverXor
-  past-xor i j x h = past-create _ _ (x .rows) h
+  past-xor i j x h = create-past _ (x .rows) h
 
   past-eliminate : (d i j : ℕ) (x : Recovery) → Past x → Past (eliminateMask w t d i j x)
   unfolding eliminateMask

@@ -16,7 +16,7 @@ use Rattle.record.proofs.EncodeLaws.{length-encode, size-encode, Encoded, encod
 use Rattle.base.proofs.PutLaws.{take-put-front, drop-put-front, part-put, put-then}
 use Rattle.expr.specs.Hash.{structuralHash}
 use Rattle.atom_table.specs.declared.table.Table.{Table}
-use Rattle.semilinear.specs.Form.{xorFamily}
+use Rattle.semilinear.specs.Form.{headByte}
 use Rattle.atom_table.specs.Table.{storeOf, atomSpan, createAtom}
 use Rattle.atom_table.proofs.TableLaws.{created}
 use Rattle.made.specs.Rows.{createRow}
@@ -89,7 +89,7 @@ module _ (w : ℕ) (b : List ℕ) (m : ℕ) (same : encode w (decode b) ≡ b) w
   -- the table with this atom more, with the numbers as the code has them
   pub created-xor : (tab : Table) (out : List ℕ) → tab .full ≡ false → tab .count < 256
       → {n : ℕ} → n ≡ size b → tab .records + (n + 2) ≤ 3072
-      → {wrote : List ℕ} → wrote ≡ put out (tab .at) (atomSpan w xorFamily (xorBytes w b m))
+      → {wrote : List ℕ} → wrote ≡ put out (tab .at) (atomSpan w (xorBytes w b m))
       → storeOf
       (record {
         at = tab .at + 48 + length b;
@@ -98,13 +98,13 @@ module _ (w : ℕ) (b : List ℕ) (m : ℕ) (same : encode w (decode b) ≡ b) w
         full = tab .full;
       })
       wrote
-      ≡ createAtom w xorFamily (xorBytes w b m) (storeOf tab out)
+      ≡ createAtom w (xorBytes w b m) (storeOf tab out)
   created-xor tab out e l {n} hn fit {wrote} hw =
       let at-same : tab .at + 48 + length b ≡ tab .at + 16 + length (xorBytes w b m) = omega (arith, xor-length) in
       let hn′ : n + 2 ≡ size (xorBytes w b m) = omega (arith, xor-size) in
       ap (λ (x : ℕ). storeOf (record { at = x; count = tab .count + 1; records = tab .records + (n + 2); full = tab .full }) wrote)
       at-same
-      ∙ created w xorFamily (xorBytes w b m) tab out e l hn′ fit hw
+      ∙ created w (xorBytes w b m) tab out e l hn′ fit hw
 
   -- what is read back behind the place of the head
   pub span-xored : (d : List ℕ) (at : ℕ) → at + 48 + length b ≤ length d → {o : List ℕ}
@@ -128,25 +128,25 @@ module _ (w : ℕ) (b : List ℕ) (m : ℕ) (same : encode w (decode b) ≡ b) w
 
     pub wrote-xored : (d : List ℕ) (at n : ℕ) → at + 48 + length b ≤ length d → n * 16 ≡ length b + 32
         → {o1 o2 t : List ℕ} {v : ℕ} → o1 ≡ put d (at + 16) (xorBytes w b m) → t ≡ xorBytes w b m
-        → v ≡ structuralHash (decode t) → o2 ≡ put o1 at (recordBytes 33 xorFamily n w v)
-        → o2 ≡ put d at (atomSpan w xorFamily (xorBytes w b m))
+        → v ≡ structuralHash (decode t) → o2 ≡ put o1 at (recordBytes 33 headByte n w v)
+        → o2 ≡ put d at (atomSpan w (xorBytes w b m))
     unfolding atomSpan
     wrote-xored d at n room hn {o1} {o2} {t} {v} e1 et ev e2 =
         let s : List ℕ = xorBytes w b m in
-        let head : List ℕ = recordBytes 33 xorFamily n w v in
-        let lh : length head ≡ 16 = length-record [] 33 xorFamily n w v in
+        let head : List ℕ = recordBytes 33 headByte n w v in
+        let lh : length head ≡ 16 = length-record [] 33 headByte n w v in
         let at-same : at + 16 ≡ at + length head = omega (arith, lh) in
         let size-same : n ≡ size s = omega (arith, xor-size, basis-fields, basis-size) in
         e2
         ∙ ap (λ (o : List ℕ). put o at head) (e1 ∙ ap (λ (i : ℕ). put d i s) at-same)
         ∙ put-before d at head s (omega (arith, lh, xor-length))
-        ∙ ap₂ (λ (k u : ℕ). put d at (recordBytes 33 xorFamily k w u ++ s)) size-same
+        ∙ ap₂ (λ (k u : ℕ). put d at (recordBytes 33 headByte k w u ++ s)) size-same
         (ev ∙ ap (λ (x : List ℕ). structuralHash (decode x)) et)
 
     pub grew-xored : (made out : List ℕ) → Room made out → {tab : Table} {wrote made′ : List ℕ}
-        → storeOf tab wrote ≡ createAtom w xorFamily (xorBytes w b m) (storeOf (tableOf made) out)
+        → storeOf tab wrote ≡ createAtom w (xorBytes w b m) (storeOf (tableOf made) out)
         → made′ ≡ wordsOf tab (getD made 4 0 + 1) (getD made 5 0)
-        → Grew w 1 (createRow xorFamily (xorTree m (decode b))) made out made′ wrote
+        → Grew w 1 (createRow (xorTree m (decode b))) made out made′ wrote
     grew-xored made out r e q =
-        grew-as (λ l. ap (λ (u : Tree). createRow xorFamily u l) (xor-encoded .back))
-        (grew-create w xorFamily (xorBytes w b m) xor-sized (ap (encode w) (xor-encoded .back)) made out r e q)
+        grew-as (λ l. ap (λ (u : Tree). createRow u l) (xor-encoded .back))
+        (grew-create w (xorBytes w b m) xor-sized (ap (encode w) (xor-encoded .back)) made out r e q)

@@ -7,7 +7,6 @@ ghost use lib.ListN.{length};
 ghost use Rattle.record.specs.Tree.{encode, Encodable};
 ghost use Rattle.base.specs.Put.{put};
 ghost use Rattle.record.specs.Decode.{decode};
-ghost use Rattle.semilinear.specs.Form.{xorFamily};
 ghost use Rattle.atom_table.specs.Table.{Placed, storeOf, atomSpan, createAtom};
 ghost use Rattle.made.specs.Rows.{createRow};
 ghost use Rattle.made.specs.Made.{Grew, AtomFits};
@@ -30,20 +29,20 @@ fn put_xored(out: &mut [u8], at: usize, b: &[u8], m: u64, size: u64, w: u8)
     requires { ⌜ AtomFits at size (now b) (now out) × (encode w (decode (now b)) ≡ now b)
         × Encodable (decode (now b)) ⌝ }
     ensures { λ _. ⌜ now (out .exit) ≡ put (now (out .entry)) at
-        (atomSpan w xorFamily (encode w (xorTree m (decode (now (b .entry)))))) ⌝ }
+        (atomSpan w (encode w (xorTree m (decode (now (b .entry)))))) ⌝ }
 {
     let start = at + limits::RECORD_LENGTH;
     let end = at + 48 + b.len();
     put_tree(out, start, b, m, size, w);
     let hash = expr::hash::structural_hash(&out[start..end]);
-    record::write::put_record(out, at, 33, table::XOR_FAMILY, size, w, hash);
+    record::write::put_record(out, at, 33, table::HEAD_BYTE, size, w, hash);
 }
 
 // Appends the Xor of the literal m and the tree b.
 fn join_xored(tab: Table, out: &mut [u8], b: &[u8], m: u64, w: u8) -> Table
     requires { ⌜ Placed tab (length (now out)) × (encode w (decode (now b)) ≡ now b)
         × Encodable (decode (now b)) ⌝ }
-    ensures { λ r. ⌜ storeOf r (now (out .exit)) ≡ createAtom w xorFamily
+    ensures { λ r. ⌜ storeOf r (now (out .exit)) ≡ createAtom w
         (encode w (xorTree m (decode (now (b .entry))))) (storeOf tab (now (out .entry))) ⌝ }
 {
     let mut more = tab;
@@ -72,7 +71,7 @@ fn join_xored(tab: Table, out: &mut [u8], b: &[u8], m: u64, w: u8) -> Table
 // The same among the words of a pass's table.
 pub fn create_xored(made: &mut [u64], out: &mut [u8], b: &[u8], m: u64, w: u8)
     requires { ⌜ XorMakes w (now b) (now made) (now out) ⌝ }
-    ensures { λ _. ⌜ Grew w 1 (createRow xorFamily (xorTree m (decode (now (b .entry)))))
+    ensures { λ _. ⌜ Grew w 1 (createRow (xorTree m (decode (now (b .entry)))))
         (now (made .entry)) (now (out .entry)) (now (made .exit)) (now (out .exit)) ⌝ }
 {
     let tab = made::load(made);

@@ -1,5 +1,5 @@
 -- What `computePartitions` gives, by the first test that decides, and what its words say for an accepted form.
-use mathlib.Core.Path.{_≡_, refl, sym, subst}
+use mathlib.Core.Path.{_≡_, refl, sym, subst, _∙_}
 use Prim.Native.Nat.{ℕ}
 use mathlib.Core.List.{List}
 use mathlib.Core.Bool.{true, false}
@@ -13,6 +13,7 @@ use Rattle.semilinear.proofs.AcceptLaws.{form-valid, length-accepted}
 use Rattle.partition_laws.specs.Partition.{partitionsOutcome, computePartitions}
 use Rattle.partition_laws.specs.Columns.{Columns}
 use Rattle.partition_laws.proofs.ColumnsLaws.{columns}
+use Rattle.partition_laws.proofs.RetiredLaws.{partitions-retired}
 
 module _ (s : List ℕ) (len : ℕ) where
   pub partitions-length : lengthRefused s ≡ true → computePartitions s len ≡ refused 1
@@ -31,7 +32,7 @@ module _ (s : List ℕ) (len : ℕ) where
   pub partitions-accepted : lengthRefused s ≡ false → len ≡ 16448 → isSemilinear s ≡ true
       → computePartitions s len ≡ partitionsOutcome (decodeForm s)
   unfolding computePartitions
-  partitions-accepted e n z = simp (e, eq-eqb len 16448 n, z)
+  partitions-accepted e n z = (simp (e, eq-eqb len 16448 n, z)) ∙ partitions-retired (decodeForm s)
 
 -- the whole result slice and the count returned have the columns of the form
 abbrev pub GivesColumns : List ℕ → Outcome → Type 0

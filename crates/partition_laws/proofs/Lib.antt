@@ -5,3 +5,4 @@ pub mod ComputeLaws
 pub mod OrderLaws
 pub mod PartitionLaws
 pub mod ProfileLaws
+pub mod RetiredLaws

@@ -22,8 +22,7 @@ use Rattle.expr.proofs.AcceptLaws.{accept-expr}
 use Rattle.semilinear.specs.Items.{atomLength, isAtom, treeSpan, afterAtom, atomCount}
 use Rattle.semilinear.specs.Valid.{atomsOk}
 use Rattle.semilinear.proofs.ItemsLaws.{atom-room, fold-atom, fold-done, atoms-ind}
-use Rattle.semilinear.proofs.ValidLaws.{atom-parts}
-use Rattle.semilinear_value.proofs.SumLaws.{first-atom-ok, later-atoms-ok, first-tree-sized}
+use Rattle.semilinear.proofs.ValidLaws.{atom-parts, first-atom-ok, later-atoms-ok, first-tree-sized}
 use Rattle.semilinear.proofs.AcceptLaws.{bytes-tree-span}
 use Rattle.profile.specs.Edges.{atomEdges}
 use Rattle.profile.specs.Index.{atomTrees, treeOf, AtomsValid, atomWords, EntryFor, AtomsIndexed}

@@ -10,7 +10,7 @@ use lib.ListN.{length, getD, set}
 use lib.Seq.{set-getD, getD-set-same, getD-set-other}
 use Rattle.arith.specs.Width.{modAdd, modMul}
 use Rattle.record.specs.Tree.{Tree}
-use Rattle.semilinear.specs.Form.{xorFamily, Row}
+use Rattle.semilinear.specs.Form.{Row}
 use Rattle.group.specs.declared.Group.{Group}
 use Rattle.group.specs.Group.{at, putEntry, consumed}
 use Rattle.made.specs.Rows.{createRow}
@@ -83,17 +83,17 @@ module _ (w : ℕ) (t : Tree) (src dst : ℕ) (apart : dst ≢ src) where
   xor-is : (g : Group) (l : List Row) (c : ℕ)
       → recoverXor w t src dst (recovery g l c)
       ≡ recovery (xorGroup g src dst (2 ^ w - 1) (length l))
-      (createRow xorFamily (xorTree (getD (g .masks) src 0) t) l)
+      (createRow (xorTree (getD (g .masks) src 0) t) l)
       (modAdd c (modMul (getD (g .coeffs) src 0) (getD (g .masks) src 0) w) w)
   unfolding recoverXor putEntry consumed at
   xor-is g l c =
-      ap (λ (r : Group). recovery r (createRow xorFamily (xorTree (getD (g .masks) src 0) t) l)
+      ap (λ (r : Group). recovery r (createRow (xorTree (getD (g .masks) src 0) t) l)
       (modAdd c (modMul (getD (g .coeffs) src 0) (getD (g .masks) src 0) w) w))
       (mk-eq (set-beside (g .coeffs) src dst (getD (g .coeffs) dst 0) apart)
       (set-beside (g .masks) src dst (2 ^ w - 1) apart) (set-beside (g .atoms) src dst (length l) apart) refl)
 
   pub xor-turned : {g r : Group} {made out made′ out′ made″ : List ℕ} {f : ℕ} → f ≡ 2 ^ w - 1
-      → Grew w 1 (createRow xorFamily (xorTree (getD (g .masks) src 0) t)) made out made′ out′
+      → Grew w 1 (createRow (xorTree (getD (g .masks) src 0) t)) made out made′ out′
       → {p : ℕ} → p ≡ modMul (getD (g .coeffs) src 0) (getD (g .masks) src 0) w
       → made″ ≡ set made′ 5 (modAdd (getD made′ 5 0) p w)
       → r ≡ xorGroup g src dst f (getD made 4 0)

@@ -11,7 +11,7 @@ use Rattle.record.specs.Tree.{Tree}
 use Rattle.expr.specs.Hash.{structuralHash}
 use Rattle.expr.specs.Value.{value}
 use Rattle.group.specs.declared.Group.{Group}
-use Rattle.semilinear.specs.Form.{Row, Form, isAtomTree, formValue, rowsOk, fitsTable, validForm}
+use Rattle.semilinear.specs.Form.{Row, Form, isAtomTree, formValue, rowsOk, fitsTable, validForm, newRows}
 use Rattle.group.specs.Group.{Work, work, at, isLive, emptyGroup, groupOf}
 use Rattle.views.specs.Grouping.{anyBasis, basesOf, ungrouped}
 use Rattle.group.specs.Group.{settle}
@@ -139,6 +139,11 @@ module _ (f : Form) (e : validForm f ≡ true) where
         h,
         made [] .extends .ok (ungrouped-extends anyBasis (f .bitwidth) [] (f .rows) .ok (v .rows-ok)),
       )
+
+  -- with new heads
+  pub new-refine : newRows (f .rows) ≡ true → newRows (refineForm f .rows) ≡ true
+  unfolding refineForm
+  new-refine h = made [] .extends .new (ungrouped-extends anyBasis (f .bitwidth) [] (f .rows) .new h)
 
   -- refining is fair to the rows of a valid form
   pub all-fair : AllFairWork (f .bitwidth) (f .rows) (basesOf anyBasis (f .bitwidth) (f .rows) [])

@@ -23,11 +23,11 @@ use Rattle.expr_refusal.proofs.RefusalLaws.{sized-accepted}
 use Rattle.truth.specs.Key.{keyOf}
 use Rattle.truth.proofs.KeyLaws.{length-key}
 use Rattle.atom_table.specs.declared.table.Table.{Table}
-use Rattle.semilinear.specs.Form.{Row}
+use Rattle.semilinear.specs.Form.{headByte, Row}
 use Rattle.atom_table.specs.Table.{Placed, storeOf, atomSpan, fitsMore, moreAtoms, fullTable, createAtom, Holds}
 use Rattle.atom_table.proofs.TableLaws.{length-atom-span, create-cases, fits-more-parts, room-atom, clean-create}
 use Rattle.atom_table.proofs.HoldsLaws.{holds-accepted, holds-bare}
-use Rattle.normalizer_laws.specs.Register.{detectProvenance, addRow}
+use Rattle.normalizer_laws.specs.Register.{addRow}
 use Rattle.ways.specs.Spans.{spanOf}
 use Rattle.register.specs.Index.{entryRow, indexRows, EntryOk, Indexed, RoomMore, Registers, emitted}
 use Rattle.register.specs.Index.{appendedRow}
@@ -38,25 +38,25 @@ use Rattle.register.proofs.RegisteredLaws.{bare-add-row}
 use Rattle.ways.proofs.PutSpanLaws.{span-put-piece}
 
 -- the tree in the bytes of its atom
-span-atom : (w p : ℕ) (t : List ℕ) → spanOf (atomSpan w p t) 16 (16 + length t) ≡ t
+span-atom : (w : ℕ) (t : List ℕ) → spanOf (atomSpan w t) 16 (16 + length t) ≡ t
 unfolding spanOf atomSpan
-span-atom w p t =
-    let head : List ℕ = recordBytes 33 p (size t) w (structuralHash (decode t)) in
+span-atom w t =
+    let head : List ℕ = recordBytes 33 headByte (size t) w (structuralHash (decode t)) in
     let n : 16 + length t - 16 ≡ length t = omega arith in
-    rw (n, drop-at head t 16 (length-record [] 33 p (size t) w (structuralHash (decode t)))) (take-length t)
+    rw (n, drop-at head t 16 (length-record [] 33 headByte (size t) w (structuralHash (decode t)))) (take-length t)
 
 -- the table and its bytes where the atom is appended
-record AtomMade (w p : ℕ) (t : List ℕ) (tab : Table) (out : List ℕ) (r : Table) (wrote : List ℕ) : Type 0 where
+record AtomMade (w : ℕ) (t : List ℕ) (tab : Table) (out : List ℕ) (r : Table) (wrote : List ℕ) : Type 0 where
   table-is : r ≡ moreAtoms tab t
-  bytes-are : wrote ≡ put out (tab .at) (atomSpan w p t)
+  bytes-are : wrote ≡ put out (tab .at) (atomSpan w t)
   within : fitsMore tab t ≡ true
 
-made-of : (w p : ℕ) (t : List ℕ) (tab : Table) (out : List ℕ) → Placed tab (length out) → sized t ≡ true
-    → tab .full ≡ false → {r : Table} {wrote : List ℕ} → storeOf r wrote ≡ createAtom w p t (storeOf tab out)
-    → r .full ≡ false → AtomMade w p t tab out r wrote
+made-of : (w : ℕ) (t : List ℕ) (tab : Table) (out : List ℕ) → Placed tab (length out) → sized t ≡ true
+    → tab .full ≡ false → {r : Table} {wrote : List ℕ} → storeOf r wrote ≡ createAtom w t (storeOf tab out)
+    → r .full ≡ false → AtomMade w t tab out r wrote
 unfolding fullTable
-made-of w p t tab out h ok f =
-    create-cases w p t tab out h ok (λ r wrote. r .full ≡ false → AtomMade w p t tab out r wrote)
+made-of w t tab out h ok f =
+    create-cases w t tab out h ok (λ r wrote. r .full ≡ false → AtomMade w t tab out r wrote)
     (λ g _. false-true (sym f ∙ g)) (λ _ _ g. false-true (sym g))
     (λ _ g _. record { table-is = refl; bytes-are = refl; within = g })
 
@@ -96,9 +96,8 @@ module _ (w : ℕ) (tab : Table) (index out : List ℕ) (h : Indexed w tab index
 
   -- ---- an atom more
 
-  module _ (space : RoomMore tab index) (c : ℕ) (t : List ℕ) (bytes : IsBytes t) (ok : treeRefusal w t ≡ 0) {p : ℕ}
-      (hp : p ≡ detectProvenance (decode t)) {r : Table} {wrote : List ℕ}
-      (made : storeOf r wrote ≡ createAtom w p t (storeOf tab out)) where
+  module _ (space : RoomMore tab index) (c : ℕ) (t : List ℕ) (bytes : IsBytes t) (ok : treeRefusal w t ≡ 0)
+      {r : Table} {wrote : List ℕ} (made : storeOf r wrote ≡ createAtom w t (storeOf tab out)) where
     abbrev rows : List Row
     rows = indexRows index out (tab .count)
 
@@ -106,7 +105,7 @@ module _ (w : ℕ) (tab : Table) (index out : List ℕ) (h : Indexed w tab index
     longer = rows ++ (appendedRow (emitted c t) ∷ [])
 
     appended-holds : Holds w r wrote longer
-    appended-holds = rw hp at (holds-accepted w p c t tab out rows (h .holds) bytes ok made)
+    appended-holds = holds-accepted w c t tab out rows (h .holds) bytes ok made
 
     pub registers-past : r .full ≡ true → {words : List ℕ} → Registers w longer words wrote r
     registers-past f =
@@ -117,8 +116,8 @@ module _ (w : ℕ) (tab : Table) (index out : List ℕ) (h : Indexed w tab index
         }
 
     -- where it is not full there is room for the words of an atom more
-    made-here : r .full ≡ false → AtomMade w p t tab out r wrote
-    made-here = made-of w p t tab out (h .holds .placed) (sized-accepted w t ok) (h .more) made
+    made-here : r .full ≡ false → AtomMade w t tab out r wrote
+    made-here = made-of w t tab out (h .holds .placed) (sized-accepted w t ok) (h .more) made
 
     pub room-more : r .full ≡ false → {key : List ℕ} → key ≡ keyOf (decode t)
         → 11 * tab .count + 4 + length key ≤ length index
@@ -135,7 +134,7 @@ module _ (w : ℕ) (tab : Table) (index out : List ℕ) (h : Indexed w tab index
       abbrev after : List ℕ
       after = put index (11 * n) (wordsOfEntry c hash (tab .at + 16) (r .at) key)
 
-      m : AtomMade w p t tab out r wrote
+      m : AtomMade w t tab out r wrote
       m = made-here left
 
       end-is : r .at ≡ tab .at + 16 + length t
@@ -152,17 +151,17 @@ module _ (w : ℕ) (tab : Table) (index out : List ℕ) (h : Indexed w tab index
       room-words : 11 * n + 11 ≤ length index
       room-words = omega (arith, room-more left hk, seven)
 
-      room-bytes : tab .at + length (atomSpan w p t) ≤ length out
-      room-bytes = room-atom w p t tab out (h .holds .placed) (sized-accepted w t ok) (m .within)
+      room-bytes : tab .at + length (atomSpan w t) ≤ length out
+      room-bytes = room-atom w t tab out (h .holds .placed) (sized-accepted w t ok) (m .within)
 
       -- the tree's bytes
       span-is : spanOf wrote (tab .at + 16) (r .at) ≡ t
       span-is =
           let top : r .at ≡ tab .at + (16 + length t) = omega (arith, end-is) in
-          let last : 16 + length t ≤ length (atomSpan w p t) = omega (arith, length-atom-span w p t) in
+          let last : 16 + length t ≤ length (atomSpan w t) = omega (arith, length-atom-span w t) in
           rw (m .bytes-are, top)
-          (span-put-piece out (tab .at) (atomSpan w p t) room-bytes 16 (16 + length t) (omega arith) last
-          ∙ span-atom w p t)
+          (span-put-piece out (tab .at) (atomSpan w t) room-bytes 16 (16 + length t) (omega arith) last
+          ∙ span-atom w t)
 
       entry-last : EntryOk w after wrote (r .at) n
       entry-last =
@@ -178,7 +177,7 @@ module _ (w : ℕ) (tab : Table) (index out : List ℕ) (h : Indexed w tab index
       words-before = take-entry index n c hash (tab .at + 16) (r .at) key seven room-words
 
       bytes-before : take (tab .at) wrote ≡ take (tab .at) out
-      bytes-before = ap (take (tab .at)) (m .bytes-are) ∙ take-put-front out (tab .at) (atomSpan w p t) room-bytes
+      bytes-before = ap (take (tab .at)) (m .bytes-are) ∙ take-put-front out (tab .at) (atomSpan w t) room-bytes
 
       rows-more : indexRows after wrote (r .count) ≡ longer
       rows-more =
@@ -217,7 +216,7 @@ module _ (w : ℕ) (tab : Table) (index out : List ℕ) (h : Indexed w tab index
                 record {
                   more = f;
                   holds = rw rows-more appended-holds;
-                  clean = clean-create w p t tab out (h .holds .placed) (sized-accepted w t ok) (h .clean) made;
+                  clean = clean-create w t tab out (h .holds .placed) (sized-accepted w t ok) (h .clean) made;
                   entries = entries-more;
                   room = room-after;
                 };

@@ -12,7 +12,7 @@ use Rattle.base.proofs.PutLaws.{getD-put-in, take-put-front}
 use Rattle.expr_refusal.specs.Refusal.{treeRefusal}
 use Rattle.expr.specs.Hash.{structuralHash}
 use Rattle.truth.specs.Key.{keyOf}
-use Rattle.normalizer_laws.specs.Register.{detectProvenance}
+use Rattle.semilinear.specs.Form.{newRow}
 use Rattle.ways.specs.Spans.{spanOf}
 use Rattle.register.specs.Index.{entrySpan, entryRow, EntryOk}
 use Rattle.ways.proofs.PutSpanLaws.{span-put-piece}
@@ -55,12 +55,7 @@ module _ (index : List ℕ) (n c hash start end : ℕ) (key : List ℕ) (seven :
     unfolding entrySpan wordsOfEntry
     entry-span-is = ap₂ (spanOf out) (getD-entry 2 (omega arith)) (getD-entry 3 (omega arith))
 
-    pub entry-row : entryRow more out n
-        ≡ record {
-          provenance = detectProvenance (decode (spanOf out start end));
-          tree = decode (spanOf out start end);
-          coeff = c;
-        }
+    pub entry-row : entryRow more out n ≡ newRow (decode (spanOf out start end)) c
     unfolding entryRow wordsOfEntry
     entry-row =
         let coeff : getD more (11 * n) 0 ≡ c =

@@ -1,61 +1,22 @@
--- Laws of registering (normalizer_laws/specs/Register.antt): families of trees, what a row more and a row's coefficient
--- change, and that rows past a limit stay past it.
+-- Laws of registering (normalizer_laws/specs/Register.antt): what a row more and a row's coefficient change, and that
+-- rows past a limit stay past it.
 use mathlib.Core.Path.{_≡_, refl, ap, sym, _∙_}
 use Prim.Native.Nat.{ℕ, zero, suc, _+_, _≤_, _<_}
 use native.Mathlib.Omega.{arith}
 use native.Mathlib.Numerals.{add-one}
 use native.Mathlib.Decide.{ℕ-discrete}
 use mathlib.Core.List.{List, [], _∷_, _++_}
-use mathlib.Core.Bool.{Bool, true, false, _||_}
+use mathlib.Core.Bool.{Bool, true, false}
 use lib.ListN.{length}
-use lib.Dec.{eqb, leb}
-use borrow.Author.Tests.{ne-eqb, le-leb, leb-true}
-use Rattle.record.specs.Tree.{Tree}
-use Rattle.record.specs.Tree.Tree.{Unary, Binary}
-use Rattle.record.specs.Decode.{leaf}
+use lib.Dec.{leb}
+use borrow.Author.Tests.{le-leb, leb-true}
 use Rattle.base.proofs.BoolLaws.{false-true, and-true}
-use Rattle.record.proofs.LeafLaws.{leaf-both}
 use Rattle.semilinear.specs.Form.{Row, treeRecords, fitsTable}
 use Rattle.atom_table.proofs.HoldsLaws.{bareRows}
 use Rattle.normalizer_laws.specs.Collect.{Emitted}
-use Rattle.normalizer_laws.specs.Register.{familyOf, joinProvenance, detectProvenance, sharedRow, addRow}
-use Rattle.normalizer_laws.specs.Register.{registerAtom, registerAll}
+use Rattle.normalizer_laws.specs.Register.{sharedRow, addRow, registerAtom, registerAll}
 use Rattle.descent.specs.Spots.{spotAt, spotsIn}
 use Rattle.register.specs.Index.{appendedRow}
-
--- ---- the family of a root
-
--- f where both children belong to it or are Mixed
-module _ (f x y : ℕ) where
-  pub family-out-l : (eqb x f || eqb x 4) ≡ false → familyOf f x y ≡ 4
-  unfolding familyOf
-  family-out-l p = rw p
-
-  pub family-out-r : (eqb x f || eqb x 4) ≡ true → (eqb y f || eqb y 4) ≡ false → familyOf f x y ≡ 4
-  unfolding familyOf
-  family-out-r p q = rw (p, q)
-
-  pub family-in : (eqb x f || eqb x 4) ≡ true → (eqb y f || eqb y 4) ≡ true → familyOf f x y ≡ f
-  unfolding familyOf
-  family-in p q = rw (p, q)
-
-pub provenance-leaf : (s : List ℕ) → detectProvenance (leaf s) ≡ 4
-unfolding detectProvenance
-provenance-leaf s = leaf-both (λ (t : Tree). detectProvenance t ≡ 4) s refl refl
-
-module _ (k a : ℕ) (t : Tree) where
-  pub provenance-not : k ≡ 7 → detectProvenance (Unary k a t) ≡ 3
-  unfolding detectProvenance
-  provenance-not e = simp e
-
-  pub provenance-other : (k ≡ 7 → ⊥) → detectProvenance (Unary k a t) ≡ 4
-  unfolding detectProvenance
-  provenance-other p = simp (ne-eqb k 7 p)
-
-pub provenance-two : (k : ℕ) (l r : Tree)
-    → joinProvenance k (detectProvenance l) (detectProvenance r) ≡ detectProvenance (Binary k l r)
-unfolding detectProvenance
-provenance-two k l r = refl
 
 -- ---- a coefficient that grows, or a row more
 

@@ -17,11 +17,10 @@ use Rattle.expr.specs.Vars.{sameVars}
 use Rattle.expr.specs.Hash.{structuralHash}
 use Rattle.truth.specs.Key.{notPure, keyOf}
 use Rattle.atom_table.specs.declared.table.Table.{Table}
-use Rattle.semilinear.specs.Form.{Row, fitsTable}
+use Rattle.semilinear.specs.Form.{Row, newRow, fitsTable}
 use Rattle.atom_table.specs.Table.{Holds, Clean}
 use Rattle.base.specs.Loop.{firstIn}
 use Rattle.normalizer_laws.specs.Collect.{Emitted}
-use Rattle.normalizer_laws.specs.Register.{detectProvenance}
 use Rattle.ways.specs.Spans.{spanOf, Accepted}
 use Rattle.descent.specs.Spots.{SpotsOk}
 use Rattle.base.specs.Limits.{atomLimit}
@@ -40,12 +39,7 @@ entryTree index out j = decode (entrySpan index out j)
 
 -- the row of atom j
 unfoldable pub entryRow : List ℕ → List ℕ → ℕ → Row
-entryRow index out j =
-    record {
-      provenance = detectProvenance (entryTree index out j);
-      tree = entryTree index out j;
-      coeff = getD index (entryWords * j) 0;
-    }
+entryRow index out j = newRow (entryTree index out j) (getD index (entryWords * j) 0)
 
 -- the rows of the first n atoms
 unfoldable pub indexRows : List ℕ → List ℕ → ℕ → List Row
@@ -90,7 +84,7 @@ emitted c t = record { coeff = c; tree = decode t }
 
 -- the row of an atom that shares none
 abbrev pub appendedRow : Emitted → Row
-appendedRow e = record { provenance = detectProvenance (e .tree); tree = e .tree; coeff = e .coeff }
+appendedRow e = newRow (e .tree) (e .coeff)
 
 -- what `put_tree` asks: an accepted tree, and room for it, the literal and the And
 pub record TreeRoom (w literal : ℕ) (t tree : List ℕ) : Type 0 where

@@ -2,89 +2,26 @@
 // appended.
 pub mod index;
 
-use atom_table::table;
 use atom_table::table::Table;
 use base::limits;
 use descent::collect;
 use truth::key;
 ghost use mathlib.Core.Path.{_≡_};
-ghost use mathlib.Core.Bool.{true, _||_};
 ghost use mathlib.Core.List.{[], _∷_, _++_};
 ghost use Prim.Native.Nat.{_+_, _*_, _<_, _≤_};
 ghost use lib.ListN.{length, getD, set};
-ghost use lib.Dec.{eqb};
 ghost use Rattle.arith.specs.Width.{modAdd};
-ghost use Rattle.record.specs.Span.{sized};
 ghost use Rattle.base.specs.Put.{put, padded};
 ghost use Rattle.record.specs.Decode.{decode};
 ghost use Rattle.expr.specs.Hash.{structuralHash};
 ghost use Rattle.truth.specs.Key.{keyOf};
-ghost use Rattle.semilinear.specs.Form.{mixedFamily};
-ghost use Rattle.normalizer_laws.specs.Register.{familyOf, joinProvenance};
-ghost use Rattle.normalizer_laws.specs.Register.{detectProvenance, registerAtom};
-ghost use Rattle.normalizer_laws.specs.Register.{registerAll};
+ghost use Rattle.normalizer_laws.specs.Register.{registerAtom, registerAll};
 ghost use Rattle.descent.specs.Spots.{spotTree, spotAt};
 ghost use Rattle.descent.specs.Spots.{spotsIn};
 ghost use Rattle.register.specs.Index.{entryWords, Registrable, Registers, Built};
 ghost use Rattle.register.specs.Index.{TreeRoom, SpotRoom, SpotsRoom};
 ghost use Rattle.register.specs.Index.{indexRows, emitted, appendedRow};
 ghost use Rattle.base.specs.Limits.{formBytes};
-
-// Whether a child of family x belongs to the family f or is Mixed.
-fn in_family(f: u8, x: u8) -> bool
-    ensures { λ r. ⌜ r ≡ (eqb x f || eqb x mixedFamily) ⌝ }
-{
-    if x == f {
-        return true;
-    }
-    x == table::MIXED_FAMILY
-}
-
-// And over And and Mixed is And, otherwise Mixed; likewise Or and Xor.
-fn family_of(f: u8, x: u8, y: u8) -> u8
-    ensures { λ r. ⌜ r ≡ familyOf f x y ⌝ }
-{
-    if !in_family(f, x) {
-        return table::MIXED_FAMILY;
-    }
-    if !in_family(f, y) {
-        return table::MIXED_FAMILY;
-    }
-    f
-}
-
-// The family of a root of kind k over two children.
-fn join_provenance(k: u8, x: u8, y: u8) -> u8
-    ensures { λ r. ⌜ r ≡ joinProvenance k x y ⌝ }
-{
-    match k {
-        4 => family_of(table::AND_FAMILY, x, y),
-        5 => family_of(table::OR_FAMILY, x, y),
-        6 => family_of(table::XOR_FAMILY, x, y),
-        _ => table::MIXED_FAMILY,
-    }
-}
-
-// The operator family of the tree of t.
-fn detect_provenance(t: &[u8]) -> u8
-    requires { ⌜ sized (now t) ≡ true ⌝ }
-    ensures { λ r. ⌜ r ≡ detectProvenance (decode (now (t .entry))) ⌝ }
-{
-    let children = record::root_arity(t);
-    if children == 0 {
-        return table::MIXED_FAMILY;
-    }
-    let k = record::kind(t);
-    if children == 1 {
-        if k == 7 {
-            return table::NOT_FAMILY;
-        }
-        return table::MIXED_FAMILY;
-    }
-    let x = detect_provenance(record::left(t));
-    let y = detect_provenance(record::right(t));
-    join_provenance(k, x, y)
-}
 
 // The tree t, or the And of it and the literal where it is masked, is put into `tree`; returns its
 // length.
@@ -162,7 +99,7 @@ fn append_atom(
 {
     let n = table.count as usize;
     let start = table.at as u64 + limits::RECORD_LENGTH_U64;
-    let more = table.create_atom(out, t, hash, detect_provenance(t), w);
+    let more = table.create_atom(out, t, hash, w);
     if more.full {
         return more;
     }

@@ -59,7 +59,7 @@ module _ (c : Call) {t slice : List ℕ} {used terms : ℕ} (h : Lies t used ter
   turn-refused nz = go given-made
     where
       go : Made (h .form) (passGives (c .pass) t (c .len)) → useOf t (passGives (c .pass) t (c .len)) ≡ t
-      go (made f flag k e) = absurd (nz (g .number ∙ ap refusalOf e))
+      go (made f flag k new e) = absurd (nz (g .number ∙ ap refusalOf e))
       go (not-made n pos e) = ap (useOf t) e
 
   -- what an accepted call gives lies in its own slice, which is a whole one
@@ -99,7 +99,7 @@ module _ (c : Call) {t slice : List ℕ} {used terms : ℕ} (h : Lies t used ter
           let number : r .refusal ≡ n = g .number ∙ ap refusalOf e in absurd (omega (arith, number, pos, z))
 
       by-made : c .len ≡ 57360 → Made (h .form) (passGives (c .pass) t (c .len)) → Accepted
-      by-made whole (made f flag k e) = accepted-form f flag (k .valid) whole e
+      by-made whole (made f flag k new e) = accepted-form f flag (k .valid) whole e
       by-made whole (not-made n pos e) = not-refused n pos e
 
       by-length : Dec (c .len ≡ 57360) → Accepted

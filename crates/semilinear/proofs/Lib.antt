@@ -8,4 +8,5 @@ pub mod AcceptLaws
 pub mod AtomLaws
 pub mod RowsLaws
 pub mod EncodeFormLaws
+pub mod RetiredLaws
 pub mod ScanLaws

@@ -13,17 +13,18 @@ use Rattle.record.specs.Span.{body, sized}
 use Rattle.record.specs.Decode.{decode}
 use Rattle.base.proofs.BoolLaws.{false-true, and-true}
 use Rattle.expr_refusal.specs.Refusal.{treeRefusal}
+use Rattle.expr_refusal.proofs.RefusalLaws.{sized-accepted}
 use Rattle.expr_utils.specs.Utils.{hasVarDep, hasArith}
 use Rattle.expr.specs.Hash.{structuralHash}
 use Rattle.bitwise.specs.declared.Checked.{Checked}
 use Rattle.bitwise.specs.Bitwise.{bitwiseOk, passing, checked}
 use Rattle.bitwise.proofs.BitwiseLaws.{checked-ok, passes}
 use Rattle.semilinear.specs.Items.{provenance, frontNumber, frontWidth, frontSpare, frontWord, treeSpan}
-use Rattle.semilinear.specs.Items.{atomCount, atomRecords, afterAtoms, isTerm}
+use Rattle.semilinear.specs.Items.{isAtom, afterAtom, atomCount, atomRecords, afterAtoms, isTerm}
 use Rattle.semilinear.specs.Valid.{atomTreeOk, treeOk, atomOk, atomsOk, termOk, termsOkF, termsOk, sumOk, frontOk}
 use Rattle.semilinear.specs.Valid.{isSemilinear}
 use Rattle.semilinear.specs.DecodeForm.{hasTerm}
-use Rattle.semilinear.proofs.ItemsLaws.{term-big}
+use Rattle.semilinear.proofs.ItemsLaws.{fold-atom, term-big}
 
 -- ---- the atom at the front
 
@@ -112,6 +113,17 @@ module _ (w : ℕ) (r : List ℕ) where
         a .bitwise,
         eq-eqb _ _ (a .hash),
       )
+
+-- an atom among good atoms is good, and those after it are
+module _ (w : ℕ) (r : List ℕ) (ok : atomsOk w r ≡ true) (e : isAtom r ≡ true) where
+  pub first-atom-ok : atomOk w r ≡ true
+  first-atom-ok = and-true (atomOk w r) (atomsOk w (afterAtom r)) (sym (fold-atom _ _ r e) ∙ ok) .0
+
+  pub later-atoms-ok : atomsOk w (afterAtom r) ≡ true
+  later-atoms-ok = and-true (atomOk w r) (atomsOk w (afterAtom r)) (sym (fold-atom _ _ r e) ∙ ok) .1
+
+  pub first-tree-sized : sized (treeSpan r) ≡ true
+  first-tree-sized = sized-accepted w (treeSpan r) (atom-parts w r first-atom-ok .accepted)
 
 -- ---- the term at the front
 

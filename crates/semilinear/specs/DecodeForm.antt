@@ -8,7 +8,7 @@ use Rattle.base.specs.Choice.{when}
 use Rattle.record.specs.Fields.{width, literal}
 use Rattle.record.specs.Span.{body}
 use Rattle.record.specs.Decode.{decode}
-use Rattle.semilinear.specs.Form.{Row, Form}
+use Rattle.semilinear.specs.Form.{Row, Form, newRow}
 use Rattle.semilinear.specs.Items.{provenance, frontNumber, frontWord, isAtom, treeSpan}
 use Rattle.semilinear.specs.Items.{afterAtom, afterAtoms, isTerm}
 use Rattle.base.specs.Limits.{recordLength}
@@ -41,6 +41,24 @@ unfoldable pub decodeForm : List ℕ → Form
 decodeForm s =
     record { bitwidth = width s; constant = literal s; rows = rowsOf 0 (body s) (afterAtoms (body s)) }
 
--- the form that is read by what takes a form's bytes
+-- ---- what is read by all that takes a form's bytes (ticket #107): the same form, each row as a new one
+
+abbrev pub retiredRow : Row → Row
+retiredRow x = newRow (x .tree) (x .coeff)
+
+unfoldable pub retiredRows : List Row → List Row
+retiredRows [] = []
+retiredRows (x ∷ l) = retiredRow x ∷ retiredRows l
+
+abbrev pub retired : Form → Form
+retired f = record { bitwidth = f .bitwidth; constant = f .constant; rows = retiredRows (f .rows) }
+
 abbrev pub readForm : List ℕ → Form
-readForm s = decodeForm s
+readForm s = retired (decodeForm s)
+
+-- its row of atom i, and its rows from number i on
+abbrev pub readRow : ℕ → List ℕ → List ℕ → Row
+readRow i r q = retiredRow (rowAt i r q)
+
+abbrev pub readRows : ℕ → List ℕ → List ℕ → List Row
+readRows i r q = retiredRows (rowsOf i r q)

@@ -15,27 +15,24 @@ use Rattle.expr.specs.Value.{value}
 use Rattle.expr.specs.Hash.{structuralHash}
 use Rattle.base.specs.Limits.{atomLimit, treeRecordLimit}
 
--- the provenances: what an atom was made of
-abbrev pub andFamily : ℕ
-andFamily = 0
+-- byte 1 of every new head (ticket #107): once it said what an atom was made of, by 0 to 4
+abbrev pub headByte : ℕ
+headByte = 4
 
-abbrev pub orFamily : ℕ
-orFamily = 1
-
-abbrev pub xorFamily : ℕ
-xorFamily = 2
-
-abbrev pub notFamily : ℕ
-notFamily = 3
-
-abbrev pub mixedFamily : ℕ
-mixedFamily = 4
-
--- an atom and its coefficient
+-- an atom, with byte 1 of its head as it is read, and its coefficient
 pub record Row : Type 0 where
   pub provenance : ℕ
   pub tree : Tree
   pub coeff : ℕ
+
+-- a new row
+abbrev pub newRow : Tree → ℕ → Row
+newRow t c = record { provenance = headByte; tree = t; coeff = c }
+
+-- byte 1 of every row's head is that of a new one
+unfoldable pub newRows : List Row → Bool
+newRows [] = true
+newRows (x ∷ l) = eqb (x .provenance) headByte && newRows l
 
 pub record Form : Type 0 where
   pub bitwidth : ℕ
@@ -94,6 +91,7 @@ eqTree w t u = eqList (encode w t) (encode w u)
 unfoldable pub isAtomTree : Tree → Bool
 isAtomTree t = isExpr t && (hasVarDep t && not (hasArith t))
 
+-- byte 1 of a head is 0 to 4, whatever the tree
 unfoldable pub rowOk : ℕ → Row → Bool
 rowOk w x = leb (x .provenance) 4 && (isAtomTree (x .tree) && ltb (x .coeff) (2 ^ w))
 

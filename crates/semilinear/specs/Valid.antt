@@ -11,6 +11,7 @@ use Rattle.record.specs.Decode.{decode}
 use Rattle.expr_refusal.specs.Refusal.{treeRefusal}
 use Rattle.expr_utils.specs.Utils.{hasVarDep, hasArith}
 use Rattle.expr.specs.Hash.{structuralHash}
+use Rattle.semilinear.specs.Form.{headByte}
 use Rattle.semilinear.specs.Items.{frontNumber, frontWidth, frontSpare, frontWord, provenance, treeSpan}
 use Rattle.semilinear.specs.Items.{foldAtoms, atomCount, atomRecords, afterAtoms, isTerm}
 use Rattle.base.specs.Limits.{atomLimit, formBytes, recordLength, treeRecordLimit}
@@ -32,6 +33,13 @@ atomOk w r =
 
 abbrev pub atomsOk : ℕ → List ℕ → Bool
 atomsOk w = foldAtoms (λ r. true) (λ r ok. atomOk w r && ok)
+
+-- byte 1 of every head is one of 0 to 4; and it is that of a new head (ticket #107)
+abbrev pub knownHeads : List ℕ → Bool
+knownHeads = foldAtoms (λ r. true) (λ r ok. leb (provenance r) 4 && ok)
+
+abbrev pub newHeads : List ℕ → Bool
+newHeads = foldAtoms (λ r. true) (λ r ok. eqb (provenance r) headByte && ok)
 
 -- the term at the front is as it must be: its atom is one of n, and not below `next`
 unfoldable pub termOk : ℕ → ℕ → ℕ → List ℕ → Bool

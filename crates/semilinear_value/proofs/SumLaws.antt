@@ -11,10 +11,7 @@ use lib.Seq.{drop-drop}
 use Rattle.arith.specs.Width.{modAdd, modMul}
 use Rattle.arith.proofs.WidthLaws.{mod-add, mod-mul}
 use Rattle.record.specs.Decode.{decode}
-use Rattle.record.specs.Span.{sized}
-use Rattle.base.proofs.BoolLaws.{and-true}
 use Rattle.expr.specs.Value.{value}
-use Rattle.expr_refusal.proofs.RefusalLaws.{sized-accepted}
 use Rattle.semilinear_value.specs.declared.Running.{Running}
 use Rattle.semilinear.specs.Form.{Row, sumRows}
 use Rattle.semilinear.specs.Items.{isAtom, frontNumber, frontWord, atomLength, treeSpan, afterAtom, afterAtoms}
@@ -24,18 +21,7 @@ use Rattle.semilinear.specs.Scan.{AtomsEnd}
 use Rattle.semilinear_value.specs.Running.{RowPassed, RowAdded}
 use Rattle.semilinear.proofs.ItemsLaws.{atom-room, fold-atom, rows-atom, rows-end, term-big, has-term-is}
 use Rattle.semilinear.proofs.ItemsLaws.{after-some, after-none}
-use Rattle.semilinear.proofs.ValidLaws.{atom-parts}
-
--- an atom among good atoms is good, and those after it are
-module _ (w : ℕ) (r : List ℕ) (ok : atomsOk w r ≡ true) (e : isAtom r ≡ true) where
-  pub first-atom-ok : atomOk w r ≡ true
-  first-atom-ok = and-true (atomOk w r) (atomsOk w (afterAtom r)) (sym (fold-atom _ _ r e) ∙ ok) .0
-
-  pub later-atoms-ok : atomsOk w (afterAtom r) ≡ true
-  later-atoms-ok = and-true (atomOk w r) (atomsOk w (afterAtom r)) (sym (fold-atom _ _ r e) ∙ ok) .1
-
-  pub first-tree-sized : sized (treeSpan r) ≡ true
-  first-tree-sized = sized-accepted w (treeSpan r) (atom-parts w r first-atom-ok .accepted)
+use Rattle.semilinear.proofs.ValidLaws.{later-atoms-ok}
 
 -- the rows of the atoms and terms that are left
 abbrev left : List ℕ → Running → List Row

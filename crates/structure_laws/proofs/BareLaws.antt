@@ -71,7 +71,7 @@ module _ (w : ℕ) (vars : List ℕ) (t : Tree) (ht : Atom t) where
   unfolding withBare
   bare-there l e = simp e
 
-  bare-new : (l : List Row) → ltb (rowWith w t 0 l) (length l) ≡ false → withBare w t l ≡ createRow 4 t l
+  bare-new : (l : List Row) → ltb (rowWith w t 0 l) (length l) ≡ false → withBare w t l ≡ createRow t l
   unfolding withBare
   bare-new l e = simp e
 
@@ -93,7 +93,7 @@ module _ (w : ℕ) (vars : List ℕ) (t : Tree) (ht : Atom t) where
           let at-end : rowWith w t 0 l ≡ length l = omega (arith, le, r .place, r .most) in
           subst (Bare l) (sym (bare-new l e))
           (record {
-            grown = grown-create w vars 4 t l (omega arith) (atom-tree t ht);
-            bare-lt = omega (arith, at-end, length-create w vars 4 t l);
-            bare-value = ap (rowValue w vars (createRow 4 t l)) at-end ∙ row-value-create w vars 4 t l;
+            grown = grown-create w vars t l (atom-tree t ht);
+            bare-lt = omega (arith, at-end, length-create w vars t l);
+            bare-value = ap (rowValue w vars (createRow t l)) at-end ∙ row-value-create w vars t l;
           })

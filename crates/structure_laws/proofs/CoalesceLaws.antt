@@ -14,7 +14,7 @@ use Rattle.record.specs.Tree.{Tree}
 use Rattle.expr.specs.Hash.{structuralHash}
 use Rattle.expr.specs.Value.{value}
 use Rattle.group.specs.declared.Group.{Group}
-use Rattle.semilinear.specs.Form.{Row, Form, sumRows, formValue, rowsOk, fitsTable, validForm}
+use Rattle.semilinear.specs.Form.{Row, Form, sumRows, formValue, rowsOk, fitsTable, validForm, newRows}
 use Rattle.group.specs.Group.{at, emptyGroup, groupOf, settle}
 use Rattle.views.specs.Grouping.{variableBasis, basesOf, ungrouped}
 use Rattle.semilinear.proofs.FormLaws.{form-parts}
@@ -112,3 +112,9 @@ valid-coalesce f e fits =
     let ok : rowsOk w (coalesceForm f .rows) ≡ true =
     coalesced [] f e .extends .ok (ungrouped-extends variableBasis w [] (f .rows) .ok (v .rows-ok)) in
     simp (le-leb 1 w (v .width-pos), le-leb w 64 (v .width-le), lt-ltb (f .constant) (2 ^ w) (v .fits), fits, ok)
+
+-- with new heads
+pub new-coalesce : (f : Form) → validForm f ≡ true → newRows (f .rows) ≡ true → newRows (coalesceForm f .rows) ≡ true
+unfolding coalesceForm
+new-coalesce f e h =
+    coalesced [] f e .extends .new (ungrouped-extends variableBasis (f .bitwidth) [] (f .rows) .new h)

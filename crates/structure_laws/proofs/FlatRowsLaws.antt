@@ -23,7 +23,7 @@ use Rattle.expr_utils.specs.Utils.{hasKind, hasShr, hasArith}
 use Rattle.expr.specs.Value.{value}
 use Rattle.expr.specs.Vars.{nextVar, support}
 use Rattle.expr.proofs.IsExprLaws.{occurs-lt, expr-of-variable}
-use Rattle.semilinear.specs.Form.{andFamily, Row, sumRows, rowsOk}
+use Rattle.semilinear.specs.Form.{Row, sumRows, rowsOk, newRow}
 use Rattle.made.specs.Rows.{maskedTree}
 use Rattle.semilinear.proofs.FormLaws.{Good, good-row, rows-cons}
 use Rattle.semilinear.proofs.AtomLaws.{Atom, atom-tree, tree-atom}
@@ -67,7 +67,7 @@ module _ (w v m c : ℕ) (l : List Row) (hm : m < 2 ^ w) where
           simp (eq-eqb m 0 e) (omega (arith, ap (λ (n : ℕ). c * n) none))
       go (no n) =
           simp (ne-eqb m 0 n)
-          (sum-append w vars l (record { provenance = andFamily; tree = maskedTree w (Variable v) m; coeff = c } ∷ [])
+          (sum-append w vars l (newRow (maskedTree w (Variable v) m) c ∷ [])
           ∙ omega (arith, ap (λ (y : ℕ). c * y) (masked-value w vars (Variable v) m hm)))
 
   pub flat-row-ok : w ≤ 64 → v < 256 → c < 2 ^ w → rowsOk w l ≡ true → rowsOk w (flatRow w v m c l) ≡ true
@@ -75,7 +75,7 @@ module _ (w v m c : ℕ) (l : List Row) (hm : m < 2 ^ w) where
   flat-row-ok hw hv hc ok = go (eqb m 0)
     where
       row : Row
-      row = record { provenance = andFamily; tree = maskedTree w (Variable v) m; coeff = c }
+      row = newRow (maskedTree w (Variable v) m) c
 
       good : Good w row
       good =

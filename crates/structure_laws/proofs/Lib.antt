@@ -6,6 +6,7 @@ pub mod CarriedLaws
 pub mod CoalesceLaws
 pub mod FlatRowsLaws
 pub mod FlattenLaws
+pub mod HeadsLaws
 pub mod FreshLaws
 pub mod HeldLaws
 pub mod OneVarLaws

@@ -134,14 +134,14 @@ module _ (w : ℕ) (hw : w ≤ 64) (vars : List ℕ) (b : Tree) (hb : Atom b) (g
     unfolding recoverXor
     xor-keeps z =
         let t : Tree = Binary 6 (Constant (e .mask)) b in
-        let l : List Row = createRow 2 t (x .rows) in
+        let l : List Row = createRow t (x .rows) in
         let more : Grown w vars (x .rows) l =
-        grown-create w vars 2 t (x .rows) (omega arith) (atom-tree t (xor-atom b (e .mask) (word mask-lt) hb)) in
+        grown-create w vars t (x .rows) (atom-tree t (xor-atom b (e .mask) (word mask-lt) hb)) in
         let c : ℕ = modMul (e .coeff) (e .mask) w in
         let new : Entry =
         record { coeff = f .coeff; mask = 2 ^ w - 1; atom = length (x .rows); mark = rewrittenMark } in
         let row : rowValue w vars l (length (x .rows)) ≡ bitXor (e .mask) v =
-        row-value-create w vars 2 t (x .rows) ∙ xor-value w vars b (e .mask) mask-lt in
+        row-value-create w vars t (x .rows) ∙ xor-value w vars b (e .mask) mask-lt in
         let after : owed w vars l new + owed w vars l (consumed f) ≡ f .coeff * bitXor (e .mask) v =
         omega (
           arith,
@@ -169,7 +169,7 @@ module _ (w : ℕ) (hw : w ≤ 64) (vars : List ℕ) (b : Tree) (hb : Atom b) (g
         (consumed f) (p .apart) (p .i-lt) (p .j-lt)
         (λ _. record {
           coeff-lt = held-j .coeff-lt;
-          atom-lt = omega (arith, length-create w vars 2 t (x .rows));
+          atom-lt = omega (arith, length-create w vars t (x .rows));
           masked = λ ne. absurd (ne refl);
         })
         (λ live. false-true (sym (live-consumed f) ∙ live))

@@ -13,7 +13,7 @@ use Rattle.record.specs.Tree.Tree.{Variable}
 use Rattle.expr_utils.specs.Utils.{hasShr}
 use Rattle.expr.specs.Vars.{nextVar, support}
 use Rattle.expr.specs.Value.{value}
-use Rattle.semilinear.specs.Form.{andFamily, Row, Form}
+use Rattle.semilinear.specs.Form.{Row, Form, newRow}
 use Rattle.decompose.specs.Decompose.{Decomposed, noBasis, masked, decomposeAtom}
 use Rattle.views.specs.Grouping.{variableBasis}
 use Rattle.made.specs.Rows.{maskedTree}
@@ -47,11 +47,11 @@ pub record Flat : Type 0 where
   pub constant : ℕ
   pub flag : Bool
 
--- a new row for the bits m of variable v, unless there are none; its provenance is And
+-- a new row for the bits m of variable v, unless there are none
 unfoldable pub flatRow : ℕ → ℕ → ℕ → ℕ → List Row → List Row
 flatRow w v m c l =
     when (eqb m 0) (λ _. l)
-    (λ _. l ++ (record { provenance = andFamily; tree = maskedTree w (Variable v) m; coeff = c } ∷ []))
+    (λ _. l ++ (newRow (maskedTree w (Variable v) m) c ∷ []))
 
 -- the bits passed before the bits inverted
 unfoldable pub flattenRow : ℕ → Row → Flat → Flat

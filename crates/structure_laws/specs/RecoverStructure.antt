@@ -11,7 +11,7 @@ use Rattle.base.specs.Choice.{when}
 use Rattle.record.specs.Tree.{Tree}
 use Rattle.record.specs.Tree.Tree.{Constant, Binary}
 use Rattle.group.specs.declared.Group.{Group}
-use Rattle.semilinear.specs.Form.{xorFamily, mixedFamily, Row, Form, eqTree}
+use Rattle.semilinear.specs.Form.{Row, Form, eqTree}
 use Rattle.base.specs.Loop.{forIn, firstIn}
 use Rattle.entries.specs.Marks.{liveMark, consumedMark, widenedMark, rewrittenMark}
 use Rattle.group.specs.Group.{Entry, at, putEntry, consumed, emptyGroup}
@@ -32,9 +32,9 @@ unfoldable pub rowWith : ℕ → Tree → ℕ → List Row → ℕ
 rowWith w t i [] = i
 rowWith w t i (x ∷ l) = when (eqTree w (x .tree) t) (λ _. i) (λ _. rowWith w t (i + 1) l)
 
--- `find_or_create_bare_atom` (90-114): the rows in which the tree t has the number `rowWith`; a new one is Mixed
+-- `find_or_create_bare_atom` (90-114): the rows in which the tree t has the number `rowWith`
 unfoldable pub withBare : ℕ → Tree → List Row → List Row
-withBare w t rows = when (ltb (rowWith w t 0 rows) (length rows)) (λ _. rows) (λ _. createRow mixedFamily t rows)
+withBare w t rows = when (ltb (rowWith w t 0 rows) (length rows)) (λ _. rows) (λ _. createRow t rows)
 
 -- ---- one pair
 
@@ -53,7 +53,7 @@ recoverXor w b src dst x =
             mark = rewrittenMark;
           }))
           dst (consumed (at (x .group) dst));
-      rows = createRow xorFamily (Binary 6 (Constant (at (x .group) src .mask)) b) (x .rows);
+      rows = createRow (Binary 6 (Constant (at (x .group) src .mask)) b) (x .rows);
       constant = modAdd (x .constant) (modMul (at (x .group) src .coeff) (at (x .group) src .mask) w) w;
     }
 

@@ -10,7 +10,7 @@ use Rattle.record.specs.Tree.{Tree}
 use Rattle.base.proofs.BoolLaws.{false-true}
 use Rattle.semilinear.specs.Form.{Row, Form, fitsTable}
 use Rattle.semilinear.specs.Items.{atomCount, afterAtoms}
-use Rattle.semilinear.specs.DecodeForm.{rowsOf}
+use Rattle.semilinear.specs.DecodeForm.{readRows}
 use Rattle.group.specs.declared.Group.{Group}
 use Rattle.group.specs.Group.{emptyGroup, groupOf}
 use Rattle.views.specs.Grouping.{anyBasis, basesOf, ungrouped}
@@ -115,20 +115,20 @@ module _ (w : ℕ) (before : List Row) where
 -- ---- the rows of a form
 
 module _ {w : ℕ} {f coeffs views coeffs′ : List ℕ} {n : ℕ}
-    (v : ViewsRead (onlyOf false) w f (rowsOf 0 f (afterAtoms f)) coeffs views coeffs′ n) where
-  pub read-any : Views anyBasis w f views (rowsOf 0 f (afterAtoms f))
+    (v : ViewsRead (onlyOf false) w f (readRows 0 f (afterAtoms f)) coeffs views coeffs′ n) where
+  pub read-any : Views anyBasis w f views (readRows 0 f (afterAtoms f))
   read-any = rw only-any at (v .views)
 
   -- all groups recovered, of the rows without their terms
   pub rows-recovered : coeffs ≡ padded 256 [] → atomCount f ≤ 256 → {made out made′ out′ coeffs″ : List ℕ}
-      → AllRecovered w (rowsOf 0 f (afterAtoms f)) (basesOf anyBasis w (rowsOf 0 f (afterAtoms f)) []) made out coeffs′
+      → AllRecovered w (readRows 0 f (afterAtoms f)) (basesOf anyBasis w (readRows 0 f (afterAtoms f)) []) made out coeffs′
       made′ out′ coeffs″
-      → RowsRecovered w (rowsOf 0 f (afterAtoms f)) made out made′ out′ coeffs″
+      → RowsRecovered w (readRows 0 f (afterAtoms f)) made out made′ out′ coeffs″
   rows-recovered e most r =
       record {
         room = r .room;
         long = r .long;
         wide = r .wide ∙ read-wide v e most;
         shown = λ fair held.
-            r .shown (ungrouped anyBasis w (rowsOf 0 f (afterAtoms f))) fair (rw only-any at (read-shown v e held));
+            r .shown (ungrouped anyBasis w (readRows 0 f (afterAtoms f))) fair (rw only-any at (read-shown v e held));
       }

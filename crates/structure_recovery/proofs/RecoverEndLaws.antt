@@ -13,11 +13,11 @@ use Rattle.atom_table.specs.declared.table.Table.{Table}
 use Rattle.semilinear.specs.Form.{Row, Form, fitsTable}
 use Rattle.semilinear.specs.Items.{afterAtoms}
 use Rattle.semilinear.specs.Valid.{isSemilinear}
-use Rattle.semilinear.specs.DecodeForm.{rowsOf, decodeForm, readForm}
+use Rattle.semilinear.specs.DecodeForm.{decodeForm, readForm, readRows}
 use Rattle.semilinear.specs.Answers.{GivesForm}
 use Rattle.semilinear.specs.PassOutcome.{limitOutcome}
 use Rattle.atom_table.specs.Terms.{Copied, FinishRoom, Finished}
-use Rattle.semilinear.proofs.AcceptLaws.{form-valid}
+use Rattle.semilinear.proofs.RetiredLaws.{read-valid}
 use Rattle.made.specs.Made.{tableOf}
 use Rattle.group.proofs.PassLaws.{held-form, pass-room}
 use Rattle.group.proofs.ShownLaws.{begun}
@@ -64,7 +64,7 @@ module _ (s : List ℕ) (bytes : IsBytes s) (ok : isSemilinear s ≡ true) where
   -- the end gives the recovered form, or 9
   pub recover-end : {w k : ℕ} {b : List ℕ} → w ≡ width s → k ≡ literal s → b ≡ body s → {tab : Table} {out : List ℕ}
       → Copied (readForm s) tab out → {made out′ coeffs : List ℕ}
-      → RowsRecovered w (rowsOf 0 b (afterAtoms b)) (begun tab k) out made out′ coeffs
+      → RowsRecovered w (readRows 0 b (afterAtoms b)) (begun tab k) out made out′ coeffs
       → {end : Table} {c : ℕ} → end ≡ tableOf made → c ≡ getD made 5 0 → (r : Answer) {out″ : List ℕ}
       → Finished w end 1 coeffs c false out′ r out″
       → GivesForm (limitOutcome (recoverForm (readForm s)) false) 57360 r out″
@@ -72,8 +72,8 @@ module _ (s : List ℕ) (bytes : IsBytes s) (ok : isSemilinear s ≡ true) where
   recover-end {w} {k} {b} ew ek eb {tab} {out} h {made} {out′} {coeffs} recovered et ec r finished =
       let own = rw (ew, eb, ek) at recovered in
       let end = rw ew at finished in
-      let rows : List Row = rowsOf 0 (body s) (afterAtoms (body s)) in
-      let shown = own .shown (all-fair (readForm s) (form-valid s bytes ok)) (held-form s bytes ok (literal s) h) in
+      let rows : List Row = readRows 0 (body s) (afterAtoms (body s)) in
+      let shown = own .shown (all-fair (readForm s) (read-valid s bytes ok)) (held-form s bytes ok (literal s) h) in
       shows-gives (rowsRecovered (width s) rows (literal s)) (all-width (width s) rows _ _ (literal s)) shown et ec r end
 
 -- the end has room for all terms

@@ -17,7 +17,7 @@ ghost use Rattle.base.specs.Put.{padded};
 ghost use Rattle.record.specs.Decode.{decode};
 ghost use Rattle.semilinear.specs.Items.{atomCount, afterAtoms};
 ghost use Rattle.semilinear.specs.Valid.{isSemilinear};
-ghost use Rattle.semilinear.specs.DecodeForm.{rowsOf, readForm};
+ghost use Rattle.semilinear.specs.DecodeForm.{readForm, readRows};
 ghost use Rattle.semilinear.specs.Answers.{GivesForm};
 ghost use Rattle.semilinear.specs.PassOutcome.{limitOutcome};
 ghost use Rattle.views.specs.Grouping.{anyBasis, basesOf};
@@ -104,8 +104,8 @@ fn recover_all(
     out: &mut [u8],
 )
     requires { ⌜ AllReady anyBasis w (now f) (now views) (now bases) n count (now made) (now out) ⌝ }
-    ensures { λ _. ⌜ AllRecovered w (rowsOf 0 (now (f .entry)) (afterAtoms (now (f .entry))))
-        (basesOf anyBasis w (rowsOf 0 (now (f .entry)) (afterAtoms (now (f .entry)))) [])
+    ensures { λ _. ⌜ AllRecovered w (readRows 0 (now (f .entry)) (afterAtoms (now (f .entry))))
+        (basesOf anyBasis w (readRows 0 (now (f .entry)) (afterAtoms (now (f .entry)))) [])
         (now (made .entry)) (now (out .entry)) (now (coeffs .entry))
         (now (made .exit)) (now (out .exit)) (now (coeffs .exit)) ⌝ }
 {
@@ -132,7 +132,7 @@ fn recover_rows(
     out: &mut [u8],
 )
     requires { ⌜ RowsReady w (now f) terms (now views) (now bases) (now coeffs) (now made) (now out) ⌝ }
-    ensures { λ _. ⌜ RowsRecovered w (rowsOf 0 (now (f .entry)) (afterAtoms (now (f .entry))))
+    ensures { λ _. ⌜ RowsRecovered w (readRows 0 (now (f .entry)) (afterAtoms (now (f .entry))))
         (now (made .entry)) (now (out .entry)) (now (made .exit)) (now (out .exit)) (now (coeffs .exit)) ⌝ }
 {
     let n = views::read_views(f, terms, w, false, views, coeffs);
@@ -150,7 +150,7 @@ fn recover_short(
     out: &mut [u8],
 )
     requires { ⌜ FormReady w shortAtoms (now f) terms (now coeffs) (now made) (now out) ⌝ }
-    ensures { λ _. ⌜ RowsRecovered w (rowsOf 0 (now (f .entry)) (afterAtoms (now (f .entry))))
+    ensures { λ _. ⌜ RowsRecovered w (readRows 0 (now (f .entry)) (afterAtoms (now (f .entry))))
         (now (made .entry)) (now (out .entry)) (now (made .exit)) (now (out .exit)) (now (coeffs .exit)) ⌝ }
 {
     let mut views = [0u64; views::SHORT_VIEWS];
@@ -161,7 +161,7 @@ fn recover_short(
 // The same for at most 256 atoms.
 fn recover_long(f: &[u8], terms: usize, w: u8, made: &mut [u64], coeffs: &mut [u64], out: &mut [u8])
     requires { ⌜ FormReady w atomLimit (now f) terms (now coeffs) (now made) (now out) ⌝ }
-    ensures { λ _. ⌜ RowsRecovered w (rowsOf 0 (now (f .entry)) (afterAtoms (now (f .entry))))
+    ensures { λ _. ⌜ RowsRecovered w (readRows 0 (now (f .entry)) (afterAtoms (now (f .entry))))
         (now (made .entry)) (now (out .entry)) (now (made .exit)) (now (out .exit)) (now (coeffs .exit)) ⌝ }
 {
     let mut views = [0u64; views::LONG_VIEWS];
@@ -181,7 +181,7 @@ fn recover_table(
 )
     requires { ⌜ (atomCount (now f) ≡ count)
         × FormReady w atomLimit (now f) terms (now coeffs) (now made) (now out) ⌝ }
-    ensures { λ _. ⌜ RowsRecovered w (rowsOf 0 (now (f .entry)) (afterAtoms (now (f .entry))))
+    ensures { λ _. ⌜ RowsRecovered w (readRows 0 (now (f .entry)) (afterAtoms (now (f .entry))))
         (now (made .entry)) (now (out .entry)) (now (made .exit)) (now (out .exit)) (now (coeffs .exit)) ⌝ }
 {
     if count <= limits::SHORT_ATOMS_U64 {

@@ -12,11 +12,11 @@ use Rattle.atom_table.specs.declared.table.Table.{Table}
 use Rattle.semilinear.specs.Form.{Row}
 use Rattle.semilinear.specs.Items.{afterAtoms}
 use Rattle.semilinear.specs.Valid.{isSemilinear}
-use Rattle.semilinear.specs.DecodeForm.{rowsOf, decodeForm, readForm}
+use Rattle.semilinear.specs.DecodeForm.{decodeForm, readForm, readRows}
 use Rattle.semilinear.specs.Answers.{GivesForm}
 use Rattle.semilinear.specs.PassOutcome.{limitOutcome}
 use Rattle.atom_table.specs.Terms.{Copied, FinishRoom, Finished}
-use Rattle.semilinear.proofs.AcceptLaws.{form-valid}
+use Rattle.semilinear.proofs.RetiredLaws.{read-valid}
 use Rattle.made.specs.Made.{tableOf}
 use Rattle.group.proofs.PassLaws.{held-form, pass-room}
 use Rattle.group.proofs.ShownLaws.{begun, shown-ends}
@@ -28,14 +28,14 @@ module _ (s : List ℕ) (bytes : IsBytes s) (ok : isSemilinear s ≡ true) where
   -- the end gives the refined form, or 9
   pub refine-end : {w c k : ℕ} {b : List ℕ} → w ≡ width s → c ≡ literal s → b ≡ body s → {tab : Table} {out : List ℕ}
       → Copied (readForm s) tab out → {made out′ coeffs : List ℕ}
-      → RowsRefined w (rowsOf 0 b (afterAtoms b)) (begun tab k) out made out′ coeffs
+      → RowsRefined w (readRows 0 b (afterAtoms b)) (begun tab k) out made out′ coeffs
       → {end : Table} → end ≡ tableOf made → (r : Answer) {out″ : List ℕ}
       → Finished w end 1 coeffs c false out′ r out″
       → GivesForm (limitOutcome (refineForm (readForm s)) false) 57360 r out″
   unfolding refineForm decodeForm
   refine-end {w} {c} {k} {b} ew ec eb {tab} {out} h {made} {out′} {coeffs} refined et r finished =
       let own = rw (ew, eb) at refined in
-      let shown = own .shown (all-fair (readForm s) (form-valid s bytes ok)) (held-form s bytes ok k h) in
+      let shown = own .shown (all-fair (readForm s) (read-valid s bytes ok)) (held-form s bytes ok k h) in
       let end = rw (ew, ec, et) at finished in
       end .gives _ (shown-ends (width s) made out′ coeffs _ shown)
 

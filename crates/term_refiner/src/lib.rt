@@ -14,7 +14,7 @@ ghost use Rattle.base.specs.Put.{padded};
 ghost use Rattle.record.specs.Decode.{decode};
 ghost use Rattle.semilinear.specs.Items.{atomCount, afterAtoms};
 ghost use Rattle.semilinear.specs.Valid.{isSemilinear};
-ghost use Rattle.semilinear.specs.DecodeForm.{rowsOf, readForm};
+ghost use Rattle.semilinear.specs.DecodeForm.{readForm, readRows};
 ghost use Rattle.semilinear.specs.Answers.{GivesForm};
 ghost use Rattle.semilinear.specs.PassOutcome.{limitOutcome};
 ghost use Rattle.views.specs.Grouping.{anyBasis, basesOf};
@@ -68,8 +68,8 @@ fn refine_all(
     out: &mut [u8],
 )
     requires { ⌜ AllReady anyBasis w (now f) (now views) (now bases) n count (now made) (now out) ⌝ }
-    ensures { λ _. ⌜ AllRefined w (rowsOf 0 (now (f .entry)) (afterAtoms (now (f .entry))))
-        (basesOf anyBasis w (rowsOf 0 (now (f .entry)) (afterAtoms (now (f .entry)))) [])
+    ensures { λ _. ⌜ AllRefined w (readRows 0 (now (f .entry)) (afterAtoms (now (f .entry))))
+        (basesOf anyBasis w (readRows 0 (now (f .entry)) (afterAtoms (now (f .entry)))) [])
         (now (made .entry)) (now (out .entry)) (now (coeffs .entry))
         (now (made .exit)) (now (out .exit)) (now (coeffs .exit)) ⌝ }
 {
@@ -93,7 +93,7 @@ fn refine_rows(
     out: &mut [u8],
 )
     requires { ⌜ RowsReady w (now f) terms (now views) (now bases) (now coeffs) (now made) (now out) ⌝ }
-    ensures { λ _. ⌜ RowsRefined w (rowsOf 0 (now (f .entry)) (afterAtoms (now (f .entry))))
+    ensures { λ _. ⌜ RowsRefined w (readRows 0 (now (f .entry)) (afterAtoms (now (f .entry))))
         (now (made .entry)) (now (out .entry)) (now (made .exit)) (now (out .exit)) (now (coeffs .exit)) ⌝ }
 {
     let n = views::read_views(f, terms, w, false, views, coeffs);
@@ -104,7 +104,7 @@ fn refine_rows(
 // The same for at most 16 atoms. Most forms are so short, and clearing long arrays costs.
 fn refine_short(f: &[u8], terms: usize, w: u8, made: &mut [u64], coeffs: &mut [u64], out: &mut [u8])
     requires { ⌜ FormReady w shortAtoms (now f) terms (now coeffs) (now made) (now out) ⌝ }
-    ensures { λ _. ⌜ RowsRefined w (rowsOf 0 (now (f .entry)) (afterAtoms (now (f .entry))))
+    ensures { λ _. ⌜ RowsRefined w (readRows 0 (now (f .entry)) (afterAtoms (now (f .entry))))
         (now (made .entry)) (now (out .entry)) (now (made .exit)) (now (out .exit)) (now (coeffs .exit)) ⌝ }
 {
     let mut views = [0u64; views::SHORT_VIEWS];
@@ -115,7 +115,7 @@ fn refine_short(f: &[u8], terms: usize, w: u8, made: &mut [u64], coeffs: &mut [u
 // The same for at most 256 atoms.
 fn refine_long(f: &[u8], terms: usize, w: u8, made: &mut [u64], coeffs: &mut [u64], out: &mut [u8])
     requires { ⌜ FormReady w atomLimit (now f) terms (now coeffs) (now made) (now out) ⌝ }
-    ensures { λ _. ⌜ RowsRefined w (rowsOf 0 (now (f .entry)) (afterAtoms (now (f .entry))))
+    ensures { λ _. ⌜ RowsRefined w (readRows 0 (now (f .entry)) (afterAtoms (now (f .entry))))
         (now (made .entry)) (now (out .entry)) (now (made .exit)) (now (out .exit)) (now (coeffs .exit)) ⌝ }
 {
     let mut views = [0u64; views::LONG_VIEWS];
@@ -135,7 +135,7 @@ fn refine_table(
 )
     requires { ⌜ (atomCount (now f) ≡ count)
         × FormReady w atomLimit (now f) terms (now coeffs) (now made) (now out) ⌝ }
-    ensures { λ _. ⌜ RowsRefined w (rowsOf 0 (now (f .entry)) (afterAtoms (now (f .entry))))
+    ensures { λ _. ⌜ RowsRefined w (readRows 0 (now (f .entry)) (afterAtoms (now (f .entry))))
         (now (made .entry)) (now (out .entry)) (now (made .exit)) (now (out .exit)) (now (coeffs .exit)) ⌝ }
 {
     if count <= limits::SHORT_ATOMS_U64 {

@@ -15,11 +15,11 @@ use Rattle.expr_refusal.specs.Refusal.{treeRefusal}
 use Rattle.semilinear.specs.Form.{Row}
 use Rattle.semilinear.specs.Items.{isAtom, frontNumber, atomLength, treeSpan, afterAtom, afterAtoms, atomCount}
 use Rattle.semilinear.specs.Valid.{atomsOk}
-use Rattle.semilinear.specs.DecodeForm.{hasTerm, coeffAt, afterTerm, rowAt, rowsOf}
+use Rattle.semilinear.specs.DecodeForm.{hasTerm, coeffAt, afterTerm, rowAt, readRows, readRow}
 use Rattle.semilinear.specs.Scan.{AtomsEnd}
-use Rattle.semilinear.proofs.ItemsLaws.{fold-atom, fold-done, atoms-ind, rows-atom, rows-end}
-use Rattle.semilinear_value.proofs.SumLaws.{first-atom-ok, later-atoms-ok}
-use Rattle.semilinear.proofs.ValidLaws.{atom-parts}
+use Rattle.semilinear.proofs.ItemsLaws.{fold-atom, fold-done, atoms-ind}
+use Rattle.semilinear.proofs.RetiredLaws.{read-rows-atom, read-rows-end}
+use Rattle.semilinear.proofs.ValidLaws.{atom-parts, first-atom-ok, later-atoms-ok}
 use Rattle.atom_table.specs.Terms.{coeffsOf}
 use Rattle.views.specs.declared.View.{View}
 use Rattle.views.specs.declared.Reading.{Reading}
@@ -28,12 +28,12 @@ use Rattle.views.specs.Views.{viewAt, viewWords, keptOf, Viewed, blankRo
 use Rattle.views.proofs.ViewsLaws.{view-put, view-put-other, set-put, kept-row, kept-here}
 
 -- as many rows as atoms
-pub length-rows : (r : List ℕ) (i : ℕ) (q : List ℕ) → length (rowsOf i r q) ≡ atomCount r
+pub length-rows : (r : List ℕ) (i : ℕ) (q : List ℕ) → length (readRows i r q) ≡ atomCount r
 length-rows =
-    atoms-ind (λ r. (i : ℕ) (q : List ℕ) → length (rowsOf i r q) ≡ atomCount r)
-    (λ r e i q. ap length (rows-end i r q e) ∙ sym (fold-done (λ r. 0) (λ r n. 1 + n) r e))
+    atoms-ind (λ r. (i : ℕ) (q : List ℕ) → length (readRows i r q) ≡ atomCount r)
+    (λ r e i q. ap length (read-rows-end i r q e) ∙ sym (fold-done (λ r. 0) (λ r n. 1 + n) r e))
     (λ r e below i q.
-    ap length (rows-atom i r q e)
+    ap length (read-rows-atom i r q e)
     ∙ omega (arith, below (i + 1) (afterTerm i q), fold-atom (λ r. 0) (λ r n. 1 + n) r e))
 
 -- the tree of the atom at `at`, by its places
@@ -48,17 +48,17 @@ module _ (w : ℕ) (f : List ℕ) (at : ℕ) {r : List ℕ} (er : r ≡ drop at 
       → treeRefusal w (take (at + n - (at + 16)) (drop (at + 16) f)) ≡ 0
   tree-accepted e ok = rw (← tree-place) (atom-parts w (drop at f) (first-atom-ok w (drop at f) ok e) .accepted)
 
-  pub row-tree : (i : ℕ) (q : List ℕ) → rowAt i (drop at f) q .tree ≡ decode
+  pub row-tree : (i : ℕ) (q : List ℕ) → readRow i (drop at f) q .tree ≡ decode
       (take (at + n - (at + 16)) (drop (at + 16) f))
   unfolding rowAt
   row-tree i q = ap decode tree-place
 
 -- the coefficient of a row without a term
-pub row-coeff-none : (i : ℕ) (r q : List ℕ) → hasTerm i q ≡ false → rowAt i r q .coeff ≡ 0
+pub row-coeff-none : (i : ℕ) (r q : List ℕ) → hasTerm i q ≡ false → readRow i r q .coeff ≡ 0
 unfolding rowAt coeffAt
 row-coeff-none i r q e = simp e
 
-pub row-coeff : (i : ℕ) (r q : List ℕ) → rowAt i r q .coeff ≡ coeffAt i q
+pub row-coeff : (i : ℕ) (r q : List ℕ) → readRow i r q .coeff ≡ coeffAt i q
 unfolding rowAt
 row-coeff i r q = refl
 
@@ -72,7 +72,7 @@ pub record Reads (only : Tree → Bool) (w : ℕ) (f : List ℕ) (rows : List Ro
   pub inside : x .at ≤ length f
   pub terms-inside : x .next ≤ length f
   pub atoms : atomsOk w (drop (x .at) f) ≡ true
-  pub left : drop (x .number) rows ≡ rowsOf (x .number) (drop (x .at) f) (drop (x .next) f)
+  pub left : drop (x .number) rows ≡ readRows (x .number) (drop (x .at) f) (drop (x .next) f)
   pub number-le : x .number ≤ length rows
   pub views-room : 5 * length rows ≤ length views
   pub coeffs-room : length rows ≤ length coeffs₀
@@ -107,7 +107,7 @@ kept-padded {only} {w} {f} {rows} h m e =
 module _ (only : Tree → Bool) (w : ℕ) (f views₀ coeffs₀ : List ℕ) where
   pub reads-start : (terms : ℕ) → atomsOk w f ≡ true → AtomsEnd f terms → 5 * atomCount f ≤ length views₀
       → atomCount f ≤ length coeffs₀
-      → Reads only w f (rowsOf 0 f (afterAtoms f)) views₀ coeffs₀ (record { at = 0; next = terms; number = 0 }) views₀
+      → Reads only w f (readRows 0 f (afterAtoms f)) views₀ coeffs₀ (record { at = 0; next = terms; number = 0 }) views₀
       coeffs₀
   unfolding put
   reads-start terms ok end hv hc =
@@ -116,7 +116,7 @@ module _ (only : Tree → Bool) (w : ℕ) (f views₀ coeffs₀ : List ℕ) wher
         inside = omega arith;
         terms-inside = end .inside;
         atoms = ok;
-        left = ap (rowsOf 0 f) (sym (end .rest));
+        left = ap (readRows 0 f) (sym (end .rest));
         number-le = omega arith;
         views-room = omega (arith, n);
         coeffs-room = omega (arith, n);
@@ -135,14 +135,14 @@ module _ (only : Tree → Bool) (w : ℕ) (f views₀ coeffs₀ : List ℕ) wher
         (omega (arith, h .counted, h .number-le, h .coeffs-room))
 
     abbrev row : Row
-    row = rowAt (x .number) (drop (x .at) f) (drop (x .next) f)
+    row = readRow (x .number) (drop (x .at) f) (drop (x .next) f)
 
     abbrev later : List Row
-    later = rowsOf (x .number + 1) (afterAtom (drop (x .at) f)) (afterTerm (x .number) (drop (x .next) f))
+    later = readRows (x .number + 1) (afterAtom (drop (x .at) f)) (afterTerm (x .number) (drop (x .next) f))
 
     module _ (e : isAtom (drop (x .at) f) ≡ true) where
       first : drop (x .number) rows ≡ row ∷ later
-      first = h .left ∙ rows-atom (x .number) (drop (x .at) f) (drop (x .next) f) e
+      first = h .left ∙ read-rows-atom (x .number) (drop (x .at) f) (drop (x .next) f) e
 
       pub number-lt : x .number < length rows
       number-lt = front-row rows (x .number) first .0
@@ -209,7 +209,7 @@ module _ (only : Tree → Bool) (w : ℕ) (f views₀ coeffs₀ : List ℕ) wher
     pub reads-end : isAtom (drop (x .at) f) ≡ false → ViewsRead only w f rows coeffs₀ views coeffs (x .number)
     unfolding ungrouped coeffsOf
     reads-end e =
-        let none : drop (x .number) rows ≡ [] = h .left ∙ rows-end (x .number) (drop (x .at) f) (drop (x .next) f)
+        let none : drop (x .number) rows ≡ [] = h .left ∙ read-rows-end (x .number) (drop (x .at) f) (drop (x .next) f)
         e in
         let same : x .number ≡ length rows = omega
         (arith, ap length none, length-drop (x .number) rows, h .number-le) in

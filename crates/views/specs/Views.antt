@@ -16,7 +16,7 @@ use Rattle.expr_refusal.specs.Refusal.{treeRefusal}
 use Rattle.semilinear.specs.Form.{Row}
 use Rattle.semilinear.specs.Items.{atomCount}
 use Rattle.semilinear.specs.Valid.{atomsOk}
-use Rattle.semilinear.specs.DecodeForm.{rowAt}
+use Rattle.semilinear.specs.DecodeForm.{readRow}
 use Rattle.semilinear.specs.Scan.{AtomsEnd}
 use Rattle.decompose.specs.Decompose.{Decomposed, noBasis, masked}
 use Rattle.semilinear_value.specs.Running.{AtRow, RowPassed}
@@ -115,10 +115,10 @@ pub record RowRead (only : Tree → Bool) (w : ℕ) (f : List ℕ) (x y : Readin
     : Type 0 where
   pub passed : RowPassed f (x .at) (x .next) (x .number) (y .at) (y .next) (y .number)
   pub view : View
-  pub viewed : Viewed only w f view (rowAt (x .number) (drop (x .at) f) (drop (x .next) f))
+  pub viewed : Viewed only w f view (readRow (x .number) (drop (x .at) f) (drop (x .next) f))
   pub words : views′ ≡ put views (5 * x .number) (viewWords view)
   pub kept : coeffs′
-      ≡ set coeffs (x .number) (keptOf view (rowAt (x .number) (drop (x .at) f) (drop (x .next) f) .coeff))
+      ≡ set coeffs (x .number) (keptOf view (readRow (x .number) (drop (x .at) f) (drop (x .next) f) .coeff))
 
 -- r rows were read: their views, and the coefficients of those that are in no group
 pub record ViewsRead (only : Tree → Bool) (w : ℕ) (f : List ℕ) (rows : List Row) (coeffs views′ coeffs′ : List ℕ)

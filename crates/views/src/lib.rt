@@ -11,7 +11,7 @@ ghost use lib.ListN.{length, take, drop};
 ghost use Rattle.base.specs.Put.{put};
 ghost use Rattle.record.specs.Decode.{decode};
 ghost use Rattle.semilinear.specs.Items.{afterAtoms};
-ghost use Rattle.semilinear.specs.DecodeForm.{rowsOf};
+ghost use Rattle.semilinear.specs.DecodeForm.{readRows};
 ghost use Rattle.views.specs.Views.{onlyOf, viewAt, viewWords, keptOf, ViewsTree, ViewReady, ReadReady};
 ghost use Rattle.views.specs.Views.{RowRead, ViewsReady, ViewsRead, Readable, hasBasis};
 
@@ -148,7 +148,7 @@ pub fn read_views(
 ) -> usize
     requires { ⌜ ViewsReady w (now f) terms (now views) (now coeffs) ⌝ }
     ensures { λ r. ⌜ ViewsRead (onlyOf only) w (now (f .entry))
-        (rowsOf 0 (now (f .entry)) (afterAtoms (now (f .entry))))
+        (readRows 0 (now (f .entry)) (afterAtoms (now (f .entry))))
         (now (coeffs .entry)) (now (views .exit)) (now (coeffs .exit)) r ⌝ }
 {
     let mut x = Reading {

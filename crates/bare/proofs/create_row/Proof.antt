@@ -30,9 +30,9 @@ returns c =
     let at-start = c .before .before .before .before .before .before .before .before .before .before .before .before .before in
     let a = at-start .args in
     let pre = at-start .pre in
-    grew-create (a .w) (a .p) (now (a .t)) (basis-sized _ _ _ (pre .1)) (pre .1 .same) (now (a .made)) (now (a .out)) (pre .0)
+    grew-create (a .w) (now (a .t)) (basis-sized _ _ _ (pre .1)) (pre .1 .same) (now (a .made)) (now (a .out)) (pre .0)
     (c .before .before .before .before .before .before .create-atom .ensures
-    ∙ ap (λ (tab : Table). createAtom (a .w) (a .p) (now (a .t)) (storeOf tab (now (a .out))))
+    ∙ ap (λ (tab : Table). createAtom (a .w) (now (a .t)) (storeOf tab (now (a .out))))
     (c .before .before .before .before .before .before .before .before .load .ensures))
     (c .before .before .store .ensures)
 

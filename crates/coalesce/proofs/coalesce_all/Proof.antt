@@ -5,7 +5,7 @@ use Prim.Native.Nat.{_-_, _≤_}
 use native.Mathlib.Omega.{arith}
 use denote.Ref.{now}
 use Rattle.semilinear.specs.Items.{afterAtoms}
-use Rattle.semilinear.specs.DecodeForm.{rowsOf}
+use Rattle.semilinear.specs.DecodeForm.{readRows}
 use Rattle.views.specs.Grouping.{variableBasis, basesOf}
 use Rattle.group.proofs.PassLaws.{count-few, count-room, next-at, end-at, group-at, all-at}
 use Rattle.coalesce.proofs.CoalesceTurnLaws.{Going, all-none, all-next, all-done}
@@ -15,7 +15,7 @@ use Rattle.coalesce.proofs.coalesce_all.Tie as tie
 abbrev Inv-loop : tie.InvT-loop
 Inv-loop count bases n views f w made₀ coeffs₀ out₀ k₀ made coeffs out k =
     (k ≤ count)
-    × Going w (rowsOf 0 f (afterAtoms f)) (basesOf variableBasis w (rowsOf 0 f (afterAtoms f)) []) n k made₀ out₀
+    × Going w (readRows 0 f (afterAtoms f)) (basesOf variableBasis w (readRows 0 f (afterAtoms f)) []) n k made₀ out₀
     coeffs₀ made out coeffs
 
 abbrev μ-loop : tie.MeasureT-loop
@@ -24,7 +24,7 @@ abbrev μ-loop : tie.MeasureT-loop
 loop-holds : tie.Need-loop-holds Inv-loop μ-loop
 loop-holds c =
     let at-start = c .before .before .before .before .before .before in
-    let rows = rowsOf 0 (now (at-start .args .f)) (afterAtoms (now (at-start .args .f))) in
+    let rows = readRows 0 (now (at-start .args .f)) (afterAtoms (now (at-start .args .f))) in
     (omega arith, all-none _ (at-start .pre .width) rows (basesOf variableBasis (at-start .args .w) rows []) _ (at-start .pre .room))
 
 mul-first : tie.Need-mul-first Inv-loop μ-loop

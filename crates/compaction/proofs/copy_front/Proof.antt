@@ -1,7 +1,7 @@
 -- `copy_front` meets its contract: the loop keeps that the atoms before `at` that have a term are put.
 use Rattle.compaction.proofs.CopyLaws.{Copied, copied-length, copied-start, copied-room, copied-row, terms-room}
 use Rattle.compaction.proofs.CopyLaws.{copied-front}
-use Rattle.semilinear.proofs.ValidLaws.{front-parts}
+use Rattle.semilinear.proofs.ValidLaws.{front-parts, first-atom-ok}
 use Rattle.semilinear.specs.Items.{isAtom}
 use borrow.Author.Tests.{not-true, not-false}
 use mathlib.Core.Path.{ap, sym, _∙_}
@@ -93,6 +93,7 @@ copy-row-requires c κs =
       next-le = going .terms-inside;
       number-le = going .number-le;
       atom = atom;
+      good = first-atom-ok (at-start .args .w) _ (going .atoms) atom;
       room =
           copied-room (at-start .args .w) (now (at-start .args .f)) (at-start .pre .1) (at-loop .loop .x) _ going atom;
     }

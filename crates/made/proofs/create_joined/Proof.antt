@@ -16,7 +16,7 @@ use Rattle.made.proofs.put_masked.Reads as put-masked-reads
 returns : tie.Need-returns
 returns c =
     let a = c .before .before .before .args in
-    sym (create-full (a .w) 0 (maskedBytes (a .w) (now (a .b)) (a .m)) (a .tab) (now (a .out)) (c .if1 .taken))
+    sym (create-full (a .w) (maskedBytes (a .w) (now (a .b)) (a .m)) (a .tab) (now (a .out)) (c .if1 .taken))
 
 size-requires : tie.Need-size-requires
 size-requires c κs = sized-big _ (basis-sized _ _ _ (c .before .before .before .pre .1))
@@ -30,7 +30,7 @@ returns-2 c =
     let a = c .before .before .before .before .before .args in
     let t = maskedBytes (a .w) (now (a .b)) (a .m) in
     sym
-    (create-past (a .w) 0 t (a .tab) (now (a .out)) (c .before .before .if1 .left)
+    (create-past (a .w) t (a .tab) (now (a .out)) (c .before .before .if1 .left)
     (fits-more-count (a .tab) t (c .if2 .taken)))
 
 add-if3 : tie.Need-add-if3
@@ -45,7 +45,7 @@ returns-3 c =
     let t = maskedBytes (a .w) (now (a .b)) (a .m) in
     let more = masked-size (a .w) (a .hash) (now (a .b)) (at-start .pre .1) (a .m) in
     sym
-    (create-past (a .w) 0 t (a .tab) (now (a .out)) (at-size .before .if1 .left)
+    (create-past (a .w) t (a .tab) (now (a .out)) (at-size .before .if1 .left)
     (fits-more-records (a .tab) t (omega (arith, c .before .if2 .left))
     (omega (arith, more, at-size .size .ensures .0, c .if3 .taken))))
 

@@ -49,9 +49,9 @@ returns c =
     let all = at-if1 .if1 .taken ∙ at-bitmask .bitmask .ensures ∙ bitmask-ones (a .w) (pre .width) in
     let created =
     at-create .create-atom .ensures
-    ∙ ap (λ (t : Table). createAtom (a .w) 0 (now (a .b)) (storeOf t (now (a .out)))) (at-load .load .ensures) in
+    ∙ ap (λ (t : Table). createAtom (a .w) (now (a .b)) (storeOf t (now (a .out)))) (at-load .load .ensures) in
     grew-as (λ l. masked-full (a .w) (a .mask) (decode (now (a .b))) l all)
-    (grew-create (a .w) 0 (now (a .b)) (basis-sized _ _ _ (pre .basis)) (pre .basis .same) (now (a .made)) (now (a .out))
+    (grew-create (a .w) (now (a .b)) (basis-sized _ _ _ (pre .basis)) (pre .basis .same) (now (a .made)) (now (a .out))
     (pre .room) created (c .before .before .store .ensures))
 
 create-joined-requires : tie.Need-create-joined-requires
@@ -81,7 +81,7 @@ returns-2 c =
     let created =
     at-create .create-joined .ensures
     ∙ ap
-    (λ (t : Table). createAtom (a .w) 0 (maskedBytes (a .w) (now (a .b)) (a .mask)) (storeOf t (now (a .out))))
+    (λ (t : Table). createAtom (a .w) (maskedBytes (a .w) (now (a .b)) (a .mask)) (storeOf t (now (a .out))))
     (at-load .load .ensures) in
     grew-masked (a .w) (a .hash) (now (a .b)) (pre .basis) (a .mask) (omega arith) (now (a .made)) (now (a .out)) (pre .room)
     (λ e. at-if1 .if1 .left (e ∙ sym mask-is)) created (c .before .before .store2 .ensures)

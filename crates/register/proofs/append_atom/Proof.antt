@@ -10,12 +10,9 @@ use Rattle.register.proofs.append_atom.Tie as tie
 add-start : tie.Need-add-start
 add-start c = search needs
 
-detect-provenance-requires : tie.Need-detect-provenance-requires
-detect-provenance-requires c κs = sized-accepted _ _ (c .before .before .before .before .before .pre .0 .accepted)
-
 create-atom-requires : tie.Need-create-atom-requires
 create-atom-requires c κs =
-    let at-start = c .before .before .before .before .before .before in
+    let at-start = c .before .before .before .before .before in
     (at-start .pre .0 .indexed .holds .placed, sized-accepted _ _ (at-start .pre .0 .accepted), at-start .pre .1)
 
 same-length : tie.Need-same-length
@@ -24,14 +21,13 @@ same-length c = search needs
 returns : tie.Need-returns
 returns c =
     let at-create-atom = c .before .before .before in
-    let at-detect-provenance = at-create-atom .before in
-    let at-shared-slice-known = at-detect-provenance .before .before .before .before .before in
+    let at-shared-slice-known = at-create-atom .before .before .before .before .before in
     let at-start = at-shared-slice-known .before in
     let a = at-start .args in
     let p = at-start .pre in
     registers-past (a .w) (a .table) (now (a .index)) (now (a .out)) (p .0 .indexed) (p .0 .room) (a .c) (now (a .t))
     (λ i. at-shared-slice-known .shared-slice-known .given i .fits) (p .0 .accepted)
-    (at-detect-provenance .detect-provenance .ensures) (at-create-atom .create-atom .ensures)
+    (at-create-atom .create-atom .ensures)
     (c .if1 .taken)
 
 slice-aggregate-put-entry : tie.Need-slice-aggregate-put-entry
@@ -41,14 +37,13 @@ put-entry-requires : tie.Need-put-entry-requires
 put-entry-requires c κs =
     let at-if1 = c .before .before in
     let at-create-atom = at-if1 .before .before .before in
-    let at-detect-provenance = at-create-atom .before in
-    let at-shared-slice-known = at-detect-provenance .before .before .before .before .before in
+    let at-shared-slice-known = at-create-atom .before .before .before .before .before in
     let at-start = at-shared-slice-known .before in
     let a = at-start .args in
     let p = at-start .pre in
     room-more (a .w) (a .table) (now (a .index)) (now (a .out)) (p .0 .indexed) (p .0 .room) (a .c) (now (a .t))
     (λ i. at-shared-slice-known .shared-slice-known .given i .fits) (p .0 .accepted)
-    (at-detect-provenance .detect-provenance .ensures) (at-create-atom .create-atom .ensures)
+    (at-create-atom .create-atom .ensures)
     (at-if1 .if1 .left) (p .2)
 
 same-length-2 : tie.Need-same-length-2
@@ -63,14 +58,13 @@ returns-2 c =
     let at-put-entry = c .before .before in
     let at-if1 = at-put-entry .before .before .before in
     let at-create-atom = at-if1 .before .before .before in
-    let at-detect-provenance = at-create-atom .before in
-    let at-shared-slice-known = at-detect-provenance .before .before .before .before .before in
+    let at-shared-slice-known = at-create-atom .before .before .before .before .before in
     let at-start = at-shared-slice-known .before in
     let a = at-start .args in
     let p = at-start .pre in
     registers-more (a .w) (a .table) (now (a .index)) (now (a .out)) (p .0 .indexed) (p .0 .room) (a .c) (now (a .t))
     (λ i. at-shared-slice-known .shared-slice-known .given i .fits) (p .0 .accepted)
-    (at-detect-provenance .detect-provenance .ensures) (at-create-atom .create-atom .ensures)
+    (at-create-atom .create-atom .ensures)
     (at-if1 .if1 .left) (p .1) (p .2) (at-put-entry .put-entry .ensures)
 
 pub append-atom-spec : {M : Type 1} → statement M
@@ -78,7 +72,6 @@ append-atom-spec =
     tie.close
     (tie.spec
     add-start
-    detect-provenance-requires
     create-atom-requires
     same-length
     returns

@@ -4,7 +4,7 @@ use mathlib.Core.List.{[]}
 use Prim.Native.Nat.{_-_, _≤_}
 use native.Mathlib.Omega.{arith}
 use Rattle.semilinear.specs.Items.{afterAtoms}
-use Rattle.semilinear.specs.DecodeForm.{rowsOf}
+use Rattle.semilinear.specs.DecodeForm.{readRows}
 use Rattle.views.specs.Grouping.{anyBasis, basesOf}
 use Rattle.term_refiner.proofs.AllRefinedLaws.{Going, going-start, going-next, going-done}
 use Rattle.group.proofs.PassLaws.{count-few, count-room, next-at, end-at, group-at, all-at}
@@ -14,7 +14,7 @@ use Rattle.term_refiner.proofs.refine_all.Tie as tie
 abbrev Inv-loop : tie.InvT-loop
 Inv-loop count bases n views f w made₀ coeffs₀ out₀ k₀ made coeffs out k =
     (k ≤ count)
-    × Going w (rowsOf 0 f (afterAtoms f)) (basesOf anyBasis w (rowsOf 0 f (afterAtoms f)) []) k made₀ out₀ coeffs₀
+    × Going w (readRows 0 f (afterAtoms f)) (basesOf anyBasis w (readRows 0 f (afterAtoms f)) []) k made₀ out₀ coeffs₀
     made out coeffs
 
 abbrev μ-loop : tie.MeasureT-loop

@@ -5,7 +5,7 @@ use native.Mathlib.Omega.{arith}
 use borrow.Author.Tests.{not-true, not-false}
 use lib.ListN.{length}
 use Rattle.semilinear.specs.Items.{isAtom, afterAtoms}
-use Rattle.semilinear.specs.DecodeForm.{rowsOf}
+use Rattle.semilinear.specs.DecodeForm.{readRows}
 use Rattle.views.specs.Views.{onlyOf}
 use Rattle.views.proofs.ReadLaws.{Reads, reads-start, reads-row, reads-end, number-lt, coeffs-long}
 use Rattle.views.proofs.read_views.Statement.{statement}
@@ -13,7 +13,7 @@ use Rattle.views.proofs.read_views.Tie as tie
 
 abbrev Inv-loop : tie.InvT-loop
 Inv-loop f terms w only views₀ coeffs₀ x₀ views coeffs x =
-    Reads (onlyOf only) w f (rowsOf 0 f (afterAtoms f)) views₀ coeffs₀ x views coeffs
+    Reads (onlyOf only) w f (readRows 0 f (afterAtoms f)) views₀ coeffs₀ x views coeffs
 
 abbrev μ-loop : tie.MeasureT-loop
 μ-loop f terms w only views₀ coeffs₀ x₀ views coeffs x = length f - x .at

@@ -1,12 +1,15 @@
--- `copy_atoms` meets its contract: what stands before the terms are the atoms of the form.
-use mathlib.Core.Path.{sym, ap, _∙_}
+-- `copy_atoms` meets its contract: the atoms that are put are those of the form that is read.
+use mathlib.Core.Path.{ap, _∙_}
 use native.Mathlib.Omega.{arith}
 use denote.Ref.{now}
 use lib.ListN.{length}
 use mathlib.Core.List.{[]}
 use Rattle.base.proofs.PutLaws.{length-padded}
-use lib.Seq.{length-take-le}
-use Rattle.atom_table.proofs.FinishLaws.{copy-room, copied}
+use Rattle.record.proofs.SpanLaws.{length-body}
+use Rattle.semilinear.proofs.AcceptLaws.{length-accepted}
+use Rattle.semilinear.proofs.ValidLaws.{semilinear-parts}
+use Rattle.atom_table.proofs.FinishLaws.{copied}
+use Rattle.atom_table.proofs.PassLaws.{length-le}
 use borrow.Author.Needs.{needs}
 use Rattle.atom_table.proofs.pass.copy_atoms.Statement.{statement}
 use Rattle.atom_table.proofs.pass.copy_atoms.Tie as tie
@@ -17,23 +20,26 @@ body-requires c κs = search needs
 atom-table-requires : tie.Need-atom-table-requires
 atom-table-requires c κs = search needs
 
-slice-aggregate-put-bytes : tie.Need-slice-aggregate-put-bytes
-slice-aggregate-put-bytes c = sym (length-take-le _ _ (c .before .before .atom-table .ensures .end .inside))
+width-requires : tie.Need-width-requires
+width-requires c κs = semilinear-parts _ (c .before .before .before .before .pre .0) .0 .big
 
-put-bytes-requires : tie.Need-put-bytes-requires
-put-bytes-requires c κs =
-    let found = c .before .before .atom-table in
+put-atoms-requires : tie.Need-put-atoms-requires
+put-atoms-requires c κs =
     let at-body = c .before .before .before in
     let at-known = at-body .before .before in
     let at-start = at-known .before in
-    let most =
-    copy-room (now (at-start .args .s)) (λ i. at-known .shared-slice-known .given i .fits) (at-start .pre .0)
-    (at-body .body .ensures) (found .result) (found .ensures) in
-    omega (
-      arith,
-      most,
-      length-take-le (found .result .at) (at-body .body .result .now) (found .ensures .end .inside),
-      ap length (at-start .pre .1) ∙ length-padded 57360 [] (omega arith),
+    let s = now (at-start .args .s) in
+    let short =
+    length-le s (length-accepted s (λ i. at-known .shared-slice-known .given i .fits) (at-start .pre .0)) in
+    (
+      rw (at-body .body .ensures, c .before .width .ensures) (semilinear-parts s (at-start .pre .0) .1 .atoms),
+      omega (
+        arith,
+        short,
+        ap length (at-body .body .ensures),
+        length-body s,
+        ap length (at-start .pre .1) ∙ length-padded 57360 [] (omega arith),
+      ),
     )
 
 same-length : tie.Need-same-length
@@ -41,12 +47,14 @@ same-length c = search needs
 
 returns : tie.Need-returns
 returns c =
-    let found = c .before .before .before .before .before .atom-table in
-    let at-body = c .before .before .before .before .before .before in
+    let at-width = c .before .before .before .before in
+    let found = at-width .before .atom-table in
+    let at-body = at-width .before .before in
     let at-known = at-body .before .before in
     let at-start = at-known .before in
     copied (now (at-start .args .s)) (λ i. at-known .shared-slice-known .given i .fits) (at-start .pre .0)
-    (at-body .body .ensures) (found .result) (found .ensures) (at-start .pre .1) (c .before .before .put-bytes .ensures)
+    (at-body .body .ensures) (found .result) (found .ensures) (at-start .pre .1)
+    (rw (at-width .width .ensures) at (c .before .before .put-atoms .ensures))
 
 pub copy-atoms-spec : {M : Type 1} → statement M
 copy-atoms-spec =
@@ -54,7 +62,7 @@ copy-atoms-spec =
     (tie.spec
     body-requires
     atom-table-requires
-    slice-aggregate-put-bytes
-    put-bytes-requires
+    width-requires
+    put-atoms-requires
     same-length
     returns)

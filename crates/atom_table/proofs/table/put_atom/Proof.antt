@@ -25,7 +25,7 @@ returns : tie.Need-returns
 returns c =
     let at-start = c .before .before .before .before .before .before .before .before .before .before .before in
     let a = at-start .args in
-    cc (put-atom-span (now (a .out)) (a .at) (a .w) (a .prov) (now (a .t)) (at-start .pre .0), at-start .pre .2)
+    cc (put-atom-span (now (a .out)) (a .at) (a .w) (now (a .t)) (at-start .pre .0), at-start .pre .2)
 
 pub put-atom-spec : {M : Type 1} → statement M
 put-atom-spec =

@@ -6,7 +6,7 @@ use denote.Ref.{now}
 use Rattle.record.proofs.BytesLaws.{bytes-drop}
 use Rattle.semilinear.specs.Items.{treeSpan}
 use Rattle.semilinear.proofs.ItemsLaws.{term-big, has-term-is}
-use Rattle.semilinear_value.proofs.SumLaws.{first-atom-ok, first-tree-sized}
+use Rattle.semilinear.proofs.ValidLaws.{first-atom-ok, first-tree-sized}
 use Rattle.flatten.proofs.FlatTurnLaws.{complex-index, turn-none, turn-put, turn-flat}
 use borrow.Author.Needs.{needs}
 use Rattle.flatten.proofs.Flattening.flatten_row.Statement.{statement}

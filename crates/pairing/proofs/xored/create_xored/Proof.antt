@@ -3,7 +3,6 @@ use mathlib.Core.Path.{ap, _∙_}
 use native.Mathlib.Omega.{arith}
 use denote.Ref.{now}
 use Rattle.atom_table.specs.declared.table.Table.{Table}
-use Rattle.semilinear.specs.Form.{xorFamily}
 use Rattle.atom_table.specs.Table.{storeOf, createAtom}
 use Rattle.pairing.proofs.XoredLaws.{xorBytes, grew-xored}
 use borrow.Author.Needs.{needs}
@@ -33,7 +32,7 @@ returns c =
     let pre = c .before .before .before .before .before .before .before .before .before .before .before .before .before .pre in
     grew-xored (a .w) (now (a .b)) (a .m) (pre .same) (pre .encodable) (omega arith) (now (a .made)) (now (a .out)) (pre .room)
     (c .before .before .before .before .before .before .join-xored .ensures
-    ∙ ap (λ (tab : Table). createAtom (a .w) xorFamily (xorBytes (a .w) (now (a .b)) (a .m)) (storeOf tab (now (a .out))))
+    ∙ ap (λ (tab : Table). createAtom (a .w) (xorBytes (a .w) (now (a .b)) (a .m)) (storeOf tab (now (a .out))))
     (c .before .before .before .before .before .before .before .before .load .ensures))
     (c .before .before .store .ensures)
 

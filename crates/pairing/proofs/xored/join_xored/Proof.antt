@@ -3,7 +3,6 @@ use mathlib.Core.Path.{sym}
 use native.Mathlib.Omega.{arith}
 use denote.Ref.{now}
 use Rattle.record.proofs.SizedLaws.{sized-big, sized-length}
-use Rattle.semilinear.specs.Form.{xorFamily}
 use Rattle.atom_table.specs.Table.{fullTable}
 use Rattle.atom_table.proofs.TableLaws.{create-full, create-past, fits-more-count, fits-more-records}
 use Rattle.pairing.proofs.XoredLaws.{tree-sized, xorBytes, xor-size, created-xor}
@@ -14,7 +13,7 @@ use Rattle.pairing.proofs.xored.join_xored.Tie as tie
 returns : tie.Need-returns
 returns c =
     let a = c .before .before .before .args in
-    sym (create-full (a .w) xorFamily (xorBytes (a .w) (now (a .b)) (a .m)) (a .tab) (now (a .out)) (c .if1 .taken))
+    sym (create-full (a .w) (xorBytes (a .w) (now (a .b)) (a .m)) (a .tab) (now (a .out)) (c .if1 .taken))
 
 size-requires : tie.Need-size-requires
 size-requires c κs = sized-big _ (tree-sized _ _ (c .before .before .before .pre .1) (c .before .before .before .pre .2))
@@ -28,7 +27,7 @@ returns-2 c =
     let a = c .before .before .before .before .before .args in
     let t = xorBytes (a .w) (now (a .b)) (a .m) in
     sym
-    (create-past (a .w) xorFamily t (a .tab) (now (a .out)) (c .before .before .if1 .left) (fits-more-count (a .tab) t (c .if2 .taken)))
+    (create-past (a .w) t (a .tab) (now (a .out)) (c .before .before .if1 .left) (fits-more-count (a .tab) t (c .if2 .taken)))
 
 add-if3 : tie.Need-add-if3
 add-if3 c = search needs
@@ -39,7 +38,7 @@ returns-3 c =
     let a = c .before .before .before .before .before .before .args in
     let t = xorBytes (a .w) (now (a .b)) (a .m) in
     sym
-    (create-past (a .w) xorFamily t (a .tab) (now (a .out)) (c .before .before .before .if1 .left)
+    (create-past (a .w) t (a .tab) (now (a .out)) (c .before .before .before .if1 .left)
     (fits-more-records (a .tab) t (omega (arith, c .before .if2 .left))
     (omega (
       arith,

@@ -1,5 +1,6 @@
 -- `Running::add_row` meets its contract: the coefficient times the atom is added where there is a term.
-use Rattle.semilinear_value.proofs.SumLaws.{first-tree-sized, passed-without, passed-with, sum-without}
+use Rattle.semilinear.proofs.ValidLaws.{first-tree-sized}
+use Rattle.semilinear_value.proofs.SumLaws.{passed-without, passed-with, sum-without}
 use Rattle.semilinear_value.proofs.SumLaws.{coeff-with}
 use Rattle.semilinear_value.proofs.SumLaws.{sum-step}
 use Rattle.semilinear.specs.Items.{treeSpan}

@@ -12,7 +12,7 @@ use Rattle.atom_table.proofs.table.Table.create_atom.Tie as tie
 returns : tie.Need-returns
 returns c =
     let a = c .before .before .before .args in
-    sym (create-full (a .w) (a .prov) (now (a .t)) (a .self) (now (a .out)) (c .if1 .taken))
+    sym (create-full (a .w) (now (a .t)) (a .self) (now (a .out)) (c .if1 .taken))
 
 size-requires : tie.Need-size-requires
 size-requires c κs = sized-big _ (c .before .before .before .pre .1)
@@ -23,7 +23,7 @@ returns-2 c =
     let at-start = c .before .before .before .before .before in
     let a = at-start .args in
     sym
-    (create-past (a .w) (a .prov) (now (a .t)) (a .self) (now (a .out)) (c .before .before .if1 .left)
+    (create-past (a .w) (now (a .t)) (a .self) (now (a .out)) (c .before .before .if1 .left)
     (fits-more-count (a .self) (now (a .t)) (c .if2 .taken)))
 
 add-if3 : tie.Need-add-if3
@@ -36,7 +36,7 @@ returns-3 c =
     let at-start = at-if1 .before .before .before in
     let a = at-start .args in
     sym
-    (create-past (a .w) (a .prov) (now (a .t)) (a .self) (now (a .out)) (at-if1 .if1 .left)
+    (create-past (a .w) (now (a .t)) (a .self) (now (a .out)) (at-if1 .if1 .left)
     (fits-more-records (a .self) (now (a .t)) (omega (arith, c .before .if2 .left))
     (omega (arith, c .before .before .size .ensures .0, c .if3 .taken))))
 
@@ -70,7 +70,7 @@ returns-4 c =
     let at-if1 = at-if3 .before .before .before in
     let at-start = at-if1 .before .before .before in
     let a = at-start .args in
-    created (a .w) (a .prov) (now (a .t)) (a .self) (now (a .out)) (at-if1 .if1 .left)
+    created (a .w) (now (a .t)) (a .self) (now (a .out)) (at-if1 .if1 .left)
     (omega (arith, at-if3 .before .if2 .left)) (at-if3 .before .before .size .ensures .0)
     (omega (arith, at-if3 .if3 .left)) (c .before .before .put-atom .ensures)
 
