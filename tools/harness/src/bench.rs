@@ -13,7 +13,6 @@ use crate::library_forms::normalize_into;
 use crate::measure::{medians, stack_used};
 use crate::pass::{self, PASSES};
 use crate::record::RECORD_BYTES;
-use crate::written::same_bytes;
 use crate::{bench_forms, bench_lists, bench_passes};
 
 /// The marks around the printed text in a document.
@@ -110,7 +109,7 @@ fn normalizing(file: &[u8], refusal: u64) -> Result<Measured, String> {
     out.fill(1);
     let mut answer = [0; 3];
     let stack = stack_used(&mut || answer = normalize_into(file, &mut out))?;
-    if answer != wanted || !same_bytes(&out, &bytes) || answer[0] != refusal {
+    if answer != wanted || out != bytes || answer[0] != refusal {
         return Err("the library's answer is not the Rust's".to_string());
     }
     let times = medians(|subject| match subject {

@@ -3,7 +3,7 @@
 
 use crate::bench_inputs::Class;
 use crate::cases::SEED;
-use crate::form::{Form, FROM_AND, MAX_ATOMS, MIXED, RESULT_BYTES};
+use crate::form::{Form, HEAD_BYTE, MAX_ATOMS, RESULT_BYTES};
 use crate::normal_model;
 use crate::prng::Prng;
 use crate::record::{binary, left_chain, literal, unary, variable, Records, AND, NOT, XOR};
@@ -46,7 +46,7 @@ pub fn one_group() -> Form {
     let mut form = Form::new(64, 1);
     for _ in 0..MAX_ATOMS {
         let tree = masked(variable(64, 0), rng.word() | 1);
-        form.push_term(FROM_AND, tree, rng.word() | 1);
+        form.push_term(HEAD_BYTE, tree, rng.word() | 1);
     }
     form
 }
@@ -58,7 +58,7 @@ fn joining_group() -> Form {
     for _ in 0..64 {
         let (mask, coeff) = (rng.word(), rng.word() | 1);
         for mask in [mask, !mask & rng.word()] {
-            form.push_term(FROM_AND, masked(variable(64, 0), mask), coeff);
+            form.push_term(HEAD_BYTE, masked(variable(64, 0), mask), coeff);
         }
     }
     form
@@ -70,7 +70,7 @@ fn groups() -> Form {
     let mut form = Form::new(64, 1);
     for number in 0..MAX_ATOMS {
         let tree = masked(variable(64, number as u8), rng.word());
-        form.push_term(FROM_AND, tree, rng.word() | 1);
+        form.push_term(HEAD_BYTE, tree, rng.word() | 1);
     }
     form
 }
@@ -82,7 +82,7 @@ pub fn places() -> Form {
     for number in 0..MAX_ATOMS {
         let leaf = |i: usize| variable(64, (number + i) as u8);
         let tree = masked(left_chain(XOR, 5, leaf), rng.word());
-        form.push_term(FROM_AND, tree, rng.word() | 1);
+        form.push_term(HEAD_BYTE, tree, rng.word() | 1);
     }
     form
 }
@@ -93,7 +93,7 @@ fn complex() -> Form {
     let mut form = Form::new(64, 1);
     for number in 0..MAX_ATOMS / 2 {
         let tree = masked(variable(64, number as u8), rng.word());
-        form.push_term(MIXED, unary(NOT, 0, tree), rng.word() | 1);
+        form.push_term(HEAD_BYTE, unary(NOT, 0, tree), rng.word() | 1);
     }
     form
 }

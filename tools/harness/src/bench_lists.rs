@@ -13,7 +13,6 @@ use crate::library_forms::run_into;
 use crate::list::{self, words, Case};
 use crate::measure::{medians, stack_used};
 use crate::pass::{Pass, PASSES};
-use crate::written::same_bytes;
 
 fn calls() -> impl Iterator<Item = Pass> {
     PASSES.into_iter().chain(PASSES)
@@ -36,7 +35,7 @@ pub fn running(file: &[u8], refusal: u64) -> Result<Measured, String> {
     let mut answer = [0; 3];
     let stack = stack_used(&mut || answer = run_into(file, &case.words, sheet, spare))?;
     let numbers = [wanted.refusal, wanted.used, wanted.terms];
-    if answer != numbers || !same_bytes(sheet, &wanted.out) || answer[0] != refusal {
+    if answer != numbers || *sheet != wanted.out || answer[0] != refusal {
         return Err("the library's answer is not the Rust's".to_string());
     }
     let times = medians(|subject| match subject {

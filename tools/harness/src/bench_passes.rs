@@ -7,13 +7,13 @@ use std::sync::Arc;
 
 use crate::bench_rust as rust;
 use crate::bench_table::{Measured, CORE, WHOLE};
-use crate::bridge::FAMILIES;
 use crate::columns::{self, RESULT_WORDS};
 use crate::core::expr::Expr;
 use crate::core::expr_utils::collect_vars;
 use crate::form::RESULT_BYTES;
 use crate::ir::semilinear::{
-    compact_atom_table, AtomInfo, AtomKey, PartitionClass, SemilinearIR, WeightedAtom,
+    compact_atom_table, AtomInfo, AtomKey, OperatorFamily, PartitionClass, SemilinearIR,
+    WeightedAtom,
 };
 use crate::ir::structure_recovery::{coalesce_terms, flatten_complex_atoms, recover_structure};
 use crate::ir::term_refiner::refine_terms;
@@ -23,7 +23,6 @@ use crate::pass::{self, Pass};
 use crate::passes::bit_partitioner::compute_partitions;
 use crate::record::Record;
 use crate::refusal::RESULT_LENGTH;
-use crate::written::same_bytes;
 
 /// A pass over one form. The library's answer, every byte of it, must be that of the Rust with the
 /// partings, and so must the timed Rust's where no order of maps is in it.
@@ -33,13 +32,13 @@ pub fn passing(pass: Pass, form: &[u8], refusal: u64) -> Result<Measured, String
     let mut out = vec![1; RESULT_BYTES];
     let ordered = !matches!(pass, Pass::Recover | Pass::Coalesce);
     let found = passed(pass, form, &mut out);
-    if ordered && (found != wanted.numbers() || !same_bytes(&out, &wanted.out)) {
+    if ordered && (found != wanted.numbers() || out != wanted.out) {
         return Err("the Rust's answer is not that with the partings".to_string());
     }
     out.fill(1);
     let mut answer = [0; 4];
     let stack = stack_used(&mut || answer = library::pass_into(pass, form, &mut out))?;
-    let same = answer == wanted.numbers() && same_bytes(&out, &wanted.out);
+    let same = answer == wanted.numbers() && out == wanted.out;
     if !same || answer[0] != refusal {
         return Err("the library's answer is not the Rust's".to_string());
     }
@@ -149,7 +148,7 @@ fn read(form: &[u8]) -> Result<SemilinearIR, u64> {
             },
             original_subtree: tree,
             structural_hash: head.literal,
-            provenance: FAMILIES[usize::from(head.arg)],
+            provenance: OperatorFamily::Mixed,
         }
     };
     let term = |(coeff, number): (u64, usize)| WeightedAtom {

@@ -9,7 +9,7 @@ use crate::core::arith::{bitmask, mod_add, mod_mul};
 use crate::core::compiled;
 use crate::core::expr::{Expr, Kind};
 use crate::core::result::Result as Published;
-use crate::form::{ATOM, MAX_ATOMS, MAX_TREE_RECORDS, RESULT_BYTES, SUM, TERM};
+use crate::form::{ATOM, HEAD_BYTE, MAX_ATOMS, MAX_TREE_RECORDS, RESULT_BYTES, SUM, TERM};
 use crate::ir::semilinear::{structural_hash, AtomInfo, SemilinearIR};
 use crate::ir::semilinear_normalizer::normalize_to_semilinear;
 use crate::model::{zeros_hold, Answer};
@@ -158,7 +158,7 @@ fn put(record: Record, out: &mut [u8], at: usize) -> usize {
 
 fn put_atom(info: &AtomInfo, size: usize, w: u8, out: &mut [u8], at: usize) -> usize {
     let hash = info.structural_hash;
-    let head = Record::new(ATOM, info.provenance as u8, size, w, hash);
+    let head = Record::new(ATOM, HEAD_BYTE, size, w, hash);
     let from = put(head, out, at);
     put_tree(&info.original_subtree, w, out, from)
 }

@@ -10,20 +10,11 @@ use super::ir::term_refiner::refine_terms;
 use super::passes::bit_partitioner::compute_partitions;
 use crate::columns::Class;
 use crate::core::result::CobraError;
-use crate::form::{Atom, Form, Term};
+use crate::form::{Atom, Form, Term, HEAD_BYTE};
 use crate::pass::{Pass, Passed};
 use crate::published::{byte, expr, records};
 use crate::record::Record;
 use crate::refusal::NONLINEAR;
-
-/// Provenances, by their numbers in document 01.
-pub const FAMILIES: [OperatorFamily; 5] = [
-    OperatorFamily::And,
-    OperatorFamily::Or,
-    OperatorFamily::Xor,
-    OperatorFamily::Not,
-    OperatorFamily::Mixed,
-];
 
 /// The Rust's form of a valid one, its atoms made by `create_atom`.
 fn ir(form: &Form) -> SemilinearIR {
@@ -33,8 +24,8 @@ fn ir(form: &Form) -> SemilinearIR {
         ..SemilinearIR::default()
     };
     for atom in &form.atoms {
-        let family = FAMILIES[usize::from(atom.provenance)];
-        create_atom(&mut ir, expr(&atom.tree), family);
+        // any family will do: the Rust writes it and decides nothing by it
+        create_atom(&mut ir, expr(&atom.tree), OperatorFamily::Mixed);
     }
     let term = |term: &Term| WeightedAtom {
         coeff: term.coeff,
@@ -44,14 +35,14 @@ fn ir(form: &Form) -> SemilinearIR {
     ir
 }
 
-/// Document 01's form of the Rust's, with the hashes and atom numbers that the Rust keeps.
+/// Document 01's form of the Rust's, with the hashes and atom numbers that the Rust keeps. Every head
+/// gets the byte of new ones: the Rust's family is compared nowhere.
 fn form(ir: &SemilinearIR) -> Form {
     let mut form = Form::new(byte(ir.bitwidth), ir.constant);
     for (number, info) in (0u32..).zip(&ir.atom_table) {
         assert_eq!(info.atom_id, number, "atoms stand in number order");
-        let family = FAMILIES.iter().position(|f| *f == info.provenance);
         form.atoms.push(Atom {
-            provenance: family.expect("one of five") as u8,
+            head_byte: HEAD_BYTE,
             hash: info.structural_hash,
             tree: records(&info.original_subtree, form.width),
         });

@@ -61,7 +61,7 @@ pub fn form_text(name: &str, bytes: &[u8]) -> String {
     text += &format!("    width {}, constant {:x}\n", form.width, form.constant);
     for (number, atom) in form.atoms.iter().enumerate() {
         let infix = published::text(&atom.tree);
-        text += &format!("    #{number}, provenance {}: {infix}\n", atom.provenance);
+        text += &format!("    #{number}: {infix}\n");
     }
     for term in &form.terms {
         text += &format!("    {:x} * #{}\n", term.coeff, term.atom);

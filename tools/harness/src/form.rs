@@ -13,25 +13,22 @@ pub const MAX_TREE_RECORDS: usize = 3072;
 /// The length of a result slice, and of the longest form.
 pub const RESULT_BYTES: usize = 57_360;
 
-/// Provenances, by number.
-pub const FROM_AND: u8 = 0;
-pub const FROM_OR: u8 = 1;
-pub const FROM_XOR: u8 = 2;
-pub const FROM_NOT: u8 = 3;
-pub const MIXED: u8 = 4;
+/// Byte 1 of every new head. A head that is read has 0 to 4 there, which nothing depends on.
+pub const HEAD_BYTE: u8 = 4;
 
 #[derive(Clone, Debug, PartialEq, Eq)]
 pub struct Atom {
-    pub provenance: u8,
+    /// Byte 1 of the head.
+    pub head_byte: u8,
     pub hash: u64,
     pub tree: Records,
 }
 
 impl Atom {
     /// An atom with the hash of its tree, which must be well formed.
-    pub fn new(provenance: u8, tree: Records) -> Self {
+    pub fn new(head_byte: u8, tree: Records) -> Self {
         Self {
-            provenance,
+            head_byte,
             hash: published::hash(&tree),
             tree,
         }
@@ -63,15 +60,23 @@ impl Form {
     }
 
     /// Adds an atom that has no term.
-    pub fn push(&mut self, provenance: u8, tree: Records) {
-        self.atoms.push(Atom::new(provenance, tree));
+    pub fn push(&mut self, head_byte: u8, tree: Records) {
+        self.atoms.push(Atom::new(head_byte, tree));
     }
 
     /// Adds an atom and its term.
-    pub fn push_term(&mut self, provenance: u8, tree: Records, coeff: u64) {
+    pub fn push_term(&mut self, head_byte: u8, tree: Records, coeff: u64) {
         let atom = self.atoms.len() as u16;
-        self.push(provenance, tree);
+        self.push(head_byte, tree);
         self.terms.push(Term { atom, coeff });
+    }
+
+    /// The same form with this byte 1 in every head.
+    pub fn with_heads(mut self, head_byte: u8) -> Self {
+        for atom in &mut self.atoms {
+            atom.head_byte = head_byte;
+        }
+        self
     }
 
     /// Document 01's order of terms (parting 4): by atom, those of one atom added modulo 2^w, and a
@@ -100,7 +105,7 @@ impl Form {
         let mut records = Vec::new();
         for atom in &self.atoms {
             let size = atom.tree.len();
-            records.push(Record::new(ATOM, atom.provenance, size, w, atom.hash));
+            records.push(Record::new(ATOM, atom.head_byte, size, w, atom.hash));
             records.extend(&atom.tree);
         }
         for term in &self.terms {

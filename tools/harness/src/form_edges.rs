@@ -2,7 +2,7 @@
 //! The model gives the expected answers; accepted forms are also compacted by the published Rust.
 
 use crate::entry::{self, Entry};
-use crate::form::{Atom, Form, Term, ATOM, FROM_AND, FROM_NOT, MIXED, RESULT_BYTES, SUM, TERM};
+use crate::form::{Atom, Form, Term, ATOM, HEAD_BYTE, RESULT_BYTES, SUM, TERM};
 use crate::form_random::{rehash, ZERO};
 use crate::published;
 use crate::record::{
@@ -55,13 +55,13 @@ pub fn most(w: u8) -> u64 {
     u64::MAX >> (64 - w)
 }
 
-/// `3·(v0 & 15) + 5·~(v1 >> 1) + 7`, numbers cut to w bits.
+/// `3·(v0 & 15) + 5·~(v1 >> 1) + 7`, numbers cut to w bits, with 0 and 3 in byte 1 of the heads.
 pub fn base(w: u8) -> Form {
     let mut form = Form::new(w, 7 & most(w));
     let masked = binary(AND, variable(w, 0), literal(w, 15));
-    form.push_term(FROM_AND, masked, 3 & most(w));
+    form.push_term(0, masked, 3 & most(w));
     let shifted = unary(NOT, 0, unary(SHR, 1, variable(w, 1)));
-    form.push_term(FROM_NOT, shifted, 5 & most(w));
+    form.push_term(3, shifted, 5 & most(w));
     form
 }
 
@@ -108,8 +108,8 @@ fn single_bytes() -> Vec<Entry> {
 fn heads() -> Vec<Entry> {
     let mut all = Vec::new();
     for at in HEADS {
-        for provenance in [0, 1, 2, 3, 4, 5, 6, 128, 255] {
-            all.extend(both_of(&changed(|r| r[at].arg = provenance)));
+        for byte in [0, 1, 2, 3, 4, 5, 6, 128, 255] {
+            all.extend(both_of(&changed(|r| r[at].arg = byte)));
         }
         for size in [0, 1, 2, 4, 5, 6, 7, 10, 256, 259, 3072, 3073, 65_535] {
             let records = changed(|r| r[at].size = size);
@@ -198,7 +198,7 @@ fn single_trees() -> Vec<Entry> {
 /// `1·tree`.
 pub fn of_tree(w: u8, tree: Records) -> Form {
     let mut form = Form::new(w, 0);
-    form.push_term(MIXED, tree, 1);
+    form.push_term(HEAD_BYTE, tree, 1);
     form
 }
 
@@ -206,7 +206,7 @@ pub fn of_tree(w: u8, tree: Records) -> Form {
 fn with_tree(tree: Records, hash: u64) -> Vec<u8> {
     let mut form = Form::new(8, 0);
     form.atoms.push(Atom {
-        provenance: MIXED,
+        head_byte: HEAD_BYTE,
         hash,
         tree,
     });

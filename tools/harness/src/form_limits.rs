@@ -2,9 +2,7 @@
 //! atoms, the limits of the table, and lengths of forms and of result slices.
 
 use crate::entry::{self, Entry};
-use crate::form::{
-    Form, FROM_AND, FROM_NOT, FROM_OR, FROM_XOR, MAX_ATOMS, MAX_TREE_RECORDS, MIXED, RESULT_BYTES,
-};
+use crate::form::{Form, HEAD_BYTE, MAX_ATOMS, MAX_TREE_RECORDS, RESULT_BYTES};
 use crate::form_edges::{base, both, changed, compact, cut, most, of_tree, value};
 use crate::form_random;
 use crate::prng::Prng;
@@ -57,9 +55,9 @@ fn assignments() -> Vec<Entry> {
     for w in [1, 8, 63, 64] {
         let mut form = Form::new(w, most(w));
         for number in [0, 1, 254, 255] {
-            form.push_term(MIXED, variable(w, number), most(w) >> (number % 2));
+            form.push_term(HEAD_BYTE, variable(w, number), most(w) >> (number % 2));
         }
-        form.push_term(FROM_OR, binary(OR, variable(w, 0), variable(w, 2)), 1);
+        form.push_term(1, binary(OR, variable(w, 0), variable(w, 2)), 1);
         let top = most(w).wrapping_add(1);
         let words = [
             vec![],
@@ -77,23 +75,23 @@ fn assignments() -> Vec<Entry> {
     all
 }
 
-/// Five atoms with terms for each choice of them; equal atoms; forms without terms or atoms.
+/// Five atoms with 0 to 4 in byte 1 of their heads and with terms for each choice of them; equal atoms; forms without terms or atoms.
 fn unused() -> Vec<Entry> {
     let mut all = Vec::new();
     let trees = [
-        (FROM_AND, binary(AND, variable(8, 0), literal(8, 271))),
-        (FROM_OR, binary(OR, variable(8, 0), variable(8, 1))),
-        (FROM_XOR, binary(XOR, literal(8, 15), variable(8, 1))),
-        (FROM_NOT, unary(NOT, 0, variable(8, 0))),
-        (MIXED, variable(8, 255)),
+        (0, binary(AND, variable(8, 0), literal(8, 271))),
+        (1, binary(OR, variable(8, 0), variable(8, 1))),
+        (2, binary(XOR, literal(8, 15), variable(8, 1))),
+        (3, unary(NOT, 0, variable(8, 0))),
+        (4, variable(8, 255)),
     ];
     for choice in 0..32 {
         let mut form = Form::new(8, choice);
-        for (bit, (provenance, tree)) in trees.iter().enumerate() {
+        for (bit, (byte, tree)) in trees.iter().enumerate() {
             if choice >> bit & 1 == 1 {
-                form.push_term(*provenance, tree.clone(), 200 + bit as u64);
+                form.push_term(*byte, tree.clone(), 200 + bit as u64);
             } else {
-                form.push(*provenance, tree.clone());
+                form.push(*byte, tree.clone());
             }
         }
         all.extend(both(form.bytes()));
@@ -103,9 +101,9 @@ fn unused() -> Vec<Entry> {
         for (number, used) in used.into_iter().enumerate() {
             let coeff = u64::MAX - number as u64;
             if used {
-                twice.push_term(MIXED, variable(64, 3), coeff);
+                twice.push_term(HEAD_BYTE, variable(64, 3), coeff);
             } else {
-                twice.push(MIXED, variable(64, 3));
+                twice.push(HEAD_BYTE, variable(64, 3));
             }
         }
         all.extend(both(twice.bytes()));
@@ -136,9 +134,9 @@ fn variables(w: u8, count: usize, first: usize, step: usize) -> Form {
     for number in 0..count {
         let tree = variable(w, number as u8);
         if number >= first && (number - first).is_multiple_of(step) {
-            form.push_term(MIXED, tree, 1 + number as u64 % most(w));
+            form.push_term(HEAD_BYTE, tree, 1 + number as u64 % most(w));
         } else {
-            form.push(MIXED, tree);
+            form.push(HEAD_BYTE, tree);
         }
     }
     form
@@ -166,9 +164,9 @@ fn record_limit() -> Vec<Entry> {
     let most = MAX_TREE_RECORDS;
     let mut unused = of_tree(w, nots(most - 1));
     unused.terms.clear();
-    unused.push_term(MIXED, variable(w, 1), 3);
+    unused.push_term(HEAD_BYTE, variable(w, 1), 3);
     let mut two = of_tree(w, nots(most - 2));
-    two.push_term(FROM_OR, binary(OR, variable(w, 0), variable(w, 1)), 2);
+    two.push_term(1, binary(OR, variable(w, 0), variable(w, 1)), 2);
     vec![
         compact(of_tree(w, nots(most)).bytes()),
         compact(unused.bytes()),

@@ -2,7 +2,9 @@
 //! written from the document alone. It reads the records forward, from the first atom to the sum
 //! record. The hash of a tree, which the document takes from the Rust, is the published one.
 
-use crate::form::{Atom, Form, Term, ATOM, MAX_ATOMS, MAX_TREE_RECORDS, RESULT_BYTES, SUM, TERM};
+use crate::form::{
+    Atom, Form, Term, ATOM, HEAD_BYTE, MAX_ATOMS, MAX_TREE_RECORDS, RESULT_BYTES, SUM, TERM,
+};
 use crate::model::{self, Answer};
 use crate::published;
 use crate::record::{split, Record, AND, CONSTANT, NOT, OR, RECORD_BYTES, SHR, VARIABLE, XOR};
@@ -92,7 +94,7 @@ fn atom(head: &Record, tree: &[Record]) -> Option<Atom> {
         && tree.iter().any(|r| r.kind == VARIABLE)
         && head.literal == published::hash(tree);
     valid.then(|| Atom {
-        provenance: head.arg,
+        head_byte: head.arg,
         hash: head.literal,
         tree: tree.to_vec(),
     })
@@ -138,14 +140,16 @@ pub fn value(form: &Form, vars: &[u64]) -> u64 {
     sum as u64
 }
 
-/// The form without the atoms that have no term. Terms rise, so each one's atom comes next.
+/// The form without the atoms that have no term, the others with new heads. Terms rise, so each one's
+/// atom comes next.
 pub fn compacted(form: &Form) -> Form {
     let mut result = Form::new(form.width, form.constant);
     for term in &form.terms {
         let atom = result.atoms.len() as u16;
-        result
-            .atoms
-            .push(form.atoms[usize::from(term.atom)].clone());
+        result.atoms.push(Atom {
+            head_byte: HEAD_BYTE,
+            ..form.atoms[usize::from(term.atom)].clone()
+        });
         result.terms.push(Term { atom, ..*term });
     }
     result

@@ -10,7 +10,6 @@ use crate::record::{
     balanced, binary, bytes, literal, nested, variable, Records, ADD, AND, MAX_RECORDS, NOT, XOR,
 };
 use crate::stack::show_stack;
-use crate::written::same_bytes;
 
 const FUNCTION: &str = "hogzelt_run_passes";
 
@@ -47,7 +46,7 @@ fn stack(shape: &str, case: &Case, most: &mut usize) -> Result<usize, String> {
     let used = stack_used(&mut || answer = run_into(&case.file, &case.words, sheet, spare))?;
     let wanted = list::answer(case).written;
     let numbers = [wanted.refusal, wanted.used, wanted.terms];
-    if answer != numbers || !same_bytes(sheet, &wanted.out) || spare.iter().any(|b| *b != 0) {
+    if answer != numbers || *sheet != wanted.out || spare.iter().any(|b| *b != 0) {
         return Err(format!("{FUNCTION} differs from the Rust: {shape}"));
     }
     let shape = format!("{shape}, {} calls", case.words.len() / 2);

@@ -36,6 +36,8 @@ mod form_edges;
 mod form_limits;
 mod form_model;
 mod form_random;
+#[cfg(test)]
+mod head_tests;
 #[cfg(feature = "library")]
 mod library;
 #[cfg(feature = "library")]

@@ -14,7 +14,6 @@ use crate::record::{
     unary, variable, Records, ADD, AND, MAX_RECORDS, MUL, NEG, NOT, OR, SHR, XOR,
 };
 use crate::stack::{show_stack, show_time};
-use crate::written::same_bytes;
 
 const FUNCTION: &str = "hogzelt_normalize_to_semilinear";
 
@@ -33,7 +32,7 @@ pub fn stacks() -> Result<usize, String> {
         let used = stack_used(&mut || answer = Some(library::normalize_into(&file, &mut out)))?;
         let wanted = normal_model::answer(&file, RESULT_BYTES);
         let numbers = [wanted.refusal, wanted.used, wanted.terms];
-        if answer != Some(numbers) || !same_bytes(&out, &wanted.out) {
+        if answer != Some(numbers) || out != wanted.out {
             return Err(format!("{FUNCTION} differs from the model: {shape}"));
         }
         most = show_stack(FUNCTION, shape, &file, used, most);

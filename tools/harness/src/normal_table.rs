@@ -1,9 +1,9 @@
 //! The atom table of normalising (document 01, "The sheet"), without its limits: which atom an atom
-//! shares, truth tables and provenances. The hash of a tree is the published one.
+//! shares, and truth tables. The hash of a tree is the published one.
 
-use crate::form::{Atom, Form, Term, FROM_AND, FROM_NOT, FROM_OR, FROM_XOR, MIXED};
+use crate::form::{Atom, Form, Term, HEAD_BYTE};
 use crate::normal_model::{Collected, Weighted, Width};
-use crate::record::{arity, Record, Records, AND, CONSTANT, NOT, OR, SHR, VARIABLE, XOR};
+use crate::record::{arity, Record, Records, AND, CONSTANT, OR, SHR, VARIABLE, XOR};
 
 /// The most variables of an atom that is shared by its truth table.
 const MAX_TABLE_VARIABLES: usize = 5;
@@ -61,7 +61,7 @@ fn entry(coeff: u64, tree: Records) -> Entry {
     Entry {
         table: truth_table(&tree, &variables),
         variables,
-        atom: Atom::new(provenance(&tree), tree),
+        atom: Atom::new(HEAD_BYTE, tree),
         coeff,
     }
 }
@@ -79,7 +79,7 @@ fn truth_table(tree: &[Record], variables: &[u8]) -> Option<u32> {
         let place = place.expect("a variable of the tree");
         (0..rows).fold(0, |bits, row| bits | (row >> place & 1) << row)
     };
-    let table = folded(tree, |record, left: u32, right: u32| match record.kind {
+    let table = folded(tree, |record, left, right| match record.kind {
         VARIABLE => column(record.arg),
         AND => left & right,
         OR => left | right,
@@ -89,33 +89,15 @@ fn truth_table(tree: &[Record], variables: &[u8]) -> Option<u32> {
     Some(table & (u64::MAX >> (64 - rows)) as u32)
 }
 
-/// And over And and Mixed is And, else Mixed; likewise Or and Xor; a Not is Not, all else Mixed.
-fn provenance(tree: &[Record]) -> u8 {
-    let family = |own: u8, left: u8, right: u8| {
-        let allowed = |child: u8| child == own || child == MIXED;
-        match allowed(left) && allowed(right) {
-            true => own,
-            false => MIXED,
-        }
-    };
-    folded(tree, |record, left: u8, right: u8| match record.kind {
-        AND => family(FROM_AND, left, right),
-        OR => family(FROM_OR, left, right),
-        XOR => family(FROM_XOR, left, right),
-        NOT => FROM_NOT,
-        _ => MIXED,
-    })
-}
-
 /// What `step` makes of the records one after the other, from what it made of the children; the
 /// only child is the right one.
-fn folded<T: Copy + Default>(tree: &[Record], step: impl Fn(&Record, T, T) -> T) -> T {
-    let mut made: Vec<T> = Vec::new();
+fn folded(tree: &[Record], step: impl Fn(&Record, u32, u32) -> u32) -> u32 {
+    let mut made: Vec<u32> = Vec::new();
     for record in tree {
         let children = arity(record.kind);
         let mut child = |wanted: bool| match wanted {
             true => made.pop().expect("a child"),
-            false => T::default(),
+            false => 0,
         };
         let right = child(children > 0);
         let left = child(children > 1);

@@ -1,7 +1,7 @@
 //! Forms written directly, of atoms over several variables with literals and shifts, and forms whose
 //! table is near one of its limits.
 
-use crate::form::{Form, MAX_ATOMS, MAX_TREE_RECORDS, MIXED};
+use crate::form::{Form, HEAD_BYTE, MAX_ATOMS, MAX_TREE_RECORDS};
 use crate::normal_random::either;
 use crate::pass_cases::{case, Case};
 use crate::pass_groups::{bare, coefficient, form_of, one, several, Entry};
@@ -137,14 +137,14 @@ pub fn edges() -> Vec<Case> {
     for (terms, new) in changed {
         let with_terms = |mut form: Form| {
             for (tree, coeff) in &terms {
-                form.push_term(MIXED, tree.clone(), *coeff);
+                form.push_term(HEAD_BYTE, tree.clone(), *coeff);
             }
             case(&form)
         };
         for atoms in [MAX_ATOMS - new.len(), MAX_ATOMS - new.len() + 1] {
             let mut form = Form::new(w, 1);
             for number in terms.len()..atoms {
-                form.push(MIXED, variable(w, 1 + (number - terms.len()) as u8));
+                form.push(HEAD_BYTE, variable(w, 1 + (number - terms.len()) as u8));
             }
             all.push(with_terms(form));
         }
@@ -153,7 +153,7 @@ pub fn edges() -> Vec<Case> {
         for short in [made, made - 1] {
             let mut form = Form::new(w, 1);
             let depth = MAX_TREE_RECORDS - short - own - 1;
-            form.push(MIXED, nested(&[NOT], depth, a()));
+            form.push(HEAD_BYTE, nested(&[NOT], depth, a()));
             all.push(with_terms(form));
         }
     }

@@ -37,8 +37,9 @@ impl Case {
 }
 
 /// All families.
-pub const FAMILIES: [Family<Case>; 14] = [
+pub const FAMILIES: [Family<Case>; 15] = [
     family("worked examples", 0, 0, |_, _| pass_examples::cases()),
+    family("byte 1 of heads", 0, 0, |_, _| pass_examples::heads()),
     family("as normalising makes them", 20_000, 40, normalised),
     family("along lists of passes", 20_000, 40, along_lists),
     family("one group", 25_000, 50, |rng, n| {

@@ -2,7 +2,7 @@
 //! some of them to answers written by hand (pass_tests.rs).
 
 use crate::collide;
-use crate::form::{Form, FROM_AND, MIXED};
+use crate::form::Form;
 use crate::pass_cases::{case, Case};
 use crate::published;
 use crate::record::{binary, literal, nested, unary, variable, Records, AND, NOT, OR, SHR, XOR};
@@ -27,17 +27,14 @@ pub fn not(x: Records) -> Records {
     unary(NOT, 0, x)
 }
 
-/// A form at 8 bits; a coefficient of 0 is an atom without a term.
+/// A form at 8 bits; a coefficient of 0 is an atom without a term. Byte 1 of a head is any of 0 to 4.
 pub fn form(constant: u64, terms: &[(u64, Records)]) -> Form {
     let mut form = Form::new(8, constant);
     for (coeff, tree) in terms {
-        let provenance = match tree[tree.len() - 1].kind {
-            AND => FROM_AND,
-            _ => MIXED,
-        };
+        let byte = (tree.len() % 5) as u8;
         match coeff {
-            0 => form.push(provenance, tree.clone()),
-            _ => form.push_term(provenance, tree.clone(), *coeff),
+            0 => form.push(byte, tree.clone()),
+            _ => form.push_term(byte, tree.clone(), *coeff),
         }
     }
     form
@@ -51,6 +48,39 @@ pub fn like_b() -> Records {
 /// A tree of the hash of `a & 60`: `b & L`.
 pub fn like_masked() -> Records {
     collide::with_hash(and(b(), 0), published::hash(&and(a(), 60)))
+}
+
+/// A form that every pass changes, with each byte that a head may have in all its heads, and with
+/// each of some others in the first and in the last.
+pub fn heads() -> Vec<Case> {
+    let mut all = each_head().to_vec();
+    for byte in [5, 6, 128, 255] {
+        for at in [0, 5] {
+            let mut form = changing();
+            form.atoms[at].head_byte = byte;
+            all.push(form);
+        }
+    }
+    all.iter().map(case).collect()
+}
+
+/// The form with 0, 1, 2, 3 and 4 in byte 1 of its heads.
+pub fn each_head() -> [Form; 5] {
+    [0, 1, 2, 3, 4].map(|byte| changing().with_heads(byte))
+}
+
+fn changing() -> Form {
+    form(
+        9,
+        &[
+            (1, and(a(), 15)),
+            (1, and(a(), 240)),
+            (1, and(b(), 15)),
+            (2, and(b(), 240)),
+            (3, not(a())),
+            (0, b()),
+        ],
+    )
 }
 
 pub fn cases() -> Vec<Case> {

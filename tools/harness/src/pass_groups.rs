@@ -30,10 +30,10 @@ pub fn form_of(rng: &mut Prng, mut entries: Vec<Entry>, w: u8) -> Form {
         if records > MAX_TREE_RECORDS {
             break;
         }
-        let provenance = rng.byte() % 5;
+        let byte = rng.byte() % 5;
         match entry.coeff {
-            0 => form.push(provenance, entry.tree),
-            coeff => form.push_term(provenance, entry.tree, coeff),
+            0 => form.push(byte, entry.tree),
+            coeff => form.push_term(byte, entry.tree, coeff),
         }
     }
     form

@@ -5,13 +5,12 @@ use std::hint::black_box;
 
 use crate::bench_forms;
 use crate::columns::{self, RESULT_WORDS};
-use crate::form::{Form, MAX_TREE_RECORDS, MIXED, RESULT_BYTES};
+use crate::form::{Form, HEAD_BYTE, MAX_TREE_RECORDS, RESULT_BYTES};
 use crate::library_forms as library;
 use crate::measure::stack_used;
 use crate::pass::{self, Pass, PASSES};
 use crate::record::{binary, literal, nested, variable, AND, NOT};
 use crate::stack::{forms, show_stack, show_time};
-use crate::written::same_bytes;
 
 const COLUMNS: &str = "hogzelt_compute_partitions";
 
@@ -31,7 +30,7 @@ fn shapes() -> Vec<(&'static str, Vec<u8>)> {
         ("nested Not of a masked variable", deep_mask),
     ] {
         let mut form = Form::new(64, 1);
-        form.push_term(MIXED, tree, 16);
+        form.push_term(HEAD_BYTE, tree, 16);
         shapes.push((shape, form.bytes()));
     }
     shapes.push(("256 entries of a group", bench_forms::one_group().bytes()));
@@ -53,7 +52,7 @@ pub fn stacks() -> Result<usize, String> {
             let mut answer = [0; 4];
             let used = stack_used(&mut || answer = library::pass_into(pass, &form, &mut out))?;
             let wanted = pass::answer(pass, &form, RESULT_BYTES);
-            if answer != wanted.numbers() || !same_bytes(&out, &wanted.out) {
+            if answer != wanted.numbers() || out != wanted.out {
                 return Err(format!("{function} differs from the Rust: {shape}"));
             }
             most = show_stack(&function, shape, &form, used, most);

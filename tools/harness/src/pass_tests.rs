@@ -3,7 +3,7 @@
 
 use crate::cases::SEED;
 use crate::columns;
-use crate::form::{Form, Term, FROM_AND, FROM_XOR, MIXED, RESULT_BYTES};
+use crate::form::{Form, Term, HEAD_BYTE, RESULT_BYTES};
 use crate::form_model;
 use crate::pass::{self, Pass, ALL, PASSES};
 use crate::pass_cases::FAMILIES;
@@ -11,13 +11,13 @@ use crate::pass_checks;
 use crate::pass_examples::{a, and, b, form, like_b, like_masked, not};
 use crate::prng::Prng;
 use crate::record::{binary, literal, unary, Records, AND, SHR, XOR};
-use crate::written::{same_bytes, written};
+use crate::written::{written, Written};
 
 /// The form with an atom more and its term; a coefficient of 0 is an atom without one.
-fn with(mut form: Form, provenance: u8, tree: Records, coeff: u64) -> Form {
+fn with(mut form: Form, tree: Records, coeff: u64) -> Form {
     match coeff {
-        0 => form.push(provenance, tree),
-        _ => form.push_term(provenance, tree, coeff),
+        0 => form.push(HEAD_BYTE, tree),
+        _ => form.push_term(HEAD_BYTE, tree, coeff),
     }
     form
 }
@@ -32,31 +32,33 @@ fn of(mut form: Form, constant: u64, terms: &[(u16, u64)]) -> Form {
     form
 }
 
-/// The pass makes `after` of `before`, and returns the flag.
+/// The pass makes `after`, with new heads, of `before`, and returns the flag.
 pub fn check(pass: Pass, before: &Form, after: &Form, flag: u64) {
+    let wanted = Written {
+        flag,
+        ..written(&after.clone().with_heads(HEAD_BYTE))
+    };
     let answer = pass::answer(pass, &before.bytes(), RESULT_BYTES);
-    assert_eq!([answer.refusal, answer.flag], [0, flag], "{before:?}");
-    let wanted = written(after);
-    assert!(same_bytes(&answer.out, &wanted.out), "{before:?}");
-    assert_eq!([answer.used, answer.terms], [wanted.used, wanted.terms]);
+    assert_eq!(answer.numbers(), wanted.numbers(), "{before:?}");
+    assert!(answer.out == wanted.out, "{before:?}");
 }
 
 #[test]
 fn refined_by_hand() {
     let refined = |before: &Form, after: Form| check(Pass::Refine, before, &after, 0);
     let one = form(0, &[(16, and(a(), 255))]);
-    let cut = with(of(one.clone(), 0, &[]), FROM_AND, and(a(), 15), 16);
+    let cut = with(of(one.clone(), 0, &[]), and(a(), 15), 16);
     refined(&one, cut);
     let two = form(0, &[(1, and(a(), 15)), (1, and(a(), 240))]);
-    let whole = with(of(two.clone(), 0, &[]), FROM_AND, a(), 1);
+    let whole = with(of(two.clone(), 0, &[]), a(), 1);
     refined(&two, whole);
     // a bare variable is a group of one
     let bare = form(0, &[(16, a())]);
-    let cut = with(of(bare.clone(), 0, &[]), FROM_AND, and(a(), 15), 16);
+    let cut = with(of(bare.clone(), 0, &[]), and(a(), 15), 16);
     refined(&bare, cut);
     // an atom that is cut to nothing stays in the table
     let high = form(0, &[(16, and(a(), 240))]);
-    let none = with(of(high.clone(), 0, &[]), FROM_AND, and(a(), 0), 0);
+    let none = with(of(high.clone(), 0, &[]), and(a(), 0), 0);
     refined(&high, none);
     // a coefficient becomes 2^w - 1 without a new atom
     let top = form(0, &[(1, and(a(), 128))]);
@@ -67,13 +69,13 @@ fn refined_by_hand() {
     // parting 3: the mask is 126 and not 254
     let shifted = unary(SHR, 1, not(literal(8, 3)));
     let mask = form(0, &[(1, binary(AND, a(), shifted)), (1, and(a(), 1))]);
-    let merged = with(of(mask.clone(), 0, &[]), FROM_AND, and(a(), 127), 1);
+    let merged = with(of(mask.clone(), 0, &[]), and(a(), 127), 1);
     refined(&mask, merged);
     // the collapse: 2·A + 3·B + 5·C is 2·(A | C) + 3·(B | C)
     let three = [(2, and(a(), 3)), (3, and(a(), 12)), (5, and(a(), 48))];
     let three = form(0, &three);
-    let left = with(of(three.clone(), 0, &[]), FROM_AND, and(a(), 51), 2);
-    refined(&three, with(left, FROM_AND, and(a(), 60), 3));
+    let left = with(of(three.clone(), 0, &[]), and(a(), 51), 2);
+    refined(&three, with(left, and(a(), 60), 3));
 }
 
 #[test]
@@ -83,10 +85,10 @@ fn recovered_by_hand() {
     let three = [(1, and(a(), 252)), (255, and(a(), 3)), (255, and(a(), 0))];
     let three = form(0, &three);
     let pair = of(three.clone(), 253, &[(2, 255)]);
-    recovered(&three, with(pair, FROM_XOR, xor(3), 1));
+    recovered(&three, with(pair, xor(3), 1));
     // 128 is its own negative; of two masks with as many ones the first is taken
     let half = form(0, &[(128, and(a(), 15)), (128, and(a(), 240))]);
-    let pair = with(of(half.clone(), 128, &[]), FROM_XOR, xor(15), 128);
+    let pair = with(of(half.clone(), 128, &[]), xor(15), 128);
     recovered(&half, pair);
     // an unused bare atom is found; a used one is added to, and may vanish
     let unused = form(0, &[(1, and(a(), 15)), (2, and(a(), 240)), (0, a())]);
@@ -97,33 +99,30 @@ fn recovered_by_hand() {
     let masked = |mask: u64| and(and(a(), 60), mask);
     let unlike = form(0, &[(1, like_masked()), (1, masked(15)), (2, masked(240))]);
     let found = of(unlike.clone(), 0, &[(0, 1), (1, 255)]);
-    recovered(&unlike, with(found, MIXED, and(a(), 60), 2));
+    recovered(&unlike, with(found, and(a(), 60), 2));
 }
 
 #[test]
 fn coalesced_by_hand() {
     let coalesced = |before: &Form, after: Form| check(Pass::Coalesce, before, &after, 0);
     let three = form(0, &[(1, and(a(), 1)), (1, and(a(), 2)), (2, and(a(), 4))]);
-    let first = with(of(three.clone(), 0, &[]), FROM_AND, and(a(), 3), 1);
-    coalesced(&three, with(first, FROM_AND, and(a(), 4), 2));
+    let first = with(of(three.clone(), 0, &[]), and(a(), 3), 1);
+    coalesced(&three, with(first, and(a(), 4), 2));
     // a group of one is left alone, also at mask 0; beside another, mask 0 counts
     let alone = form(0, &[(1, and(a(), 0))]);
     coalesced(&alone, alone.clone());
     let two = form(0, &[(1, and(a(), 3)), (2, and(a(), 0))]);
-    coalesced(
-        &two,
-        with(of(two.clone(), 0, &[]), FROM_AND, and(a(), 3), 1),
-    );
+    coalesced(&two, with(of(two.clone(), 0, &[]), and(a(), 3), 1));
 }
 
 #[test]
 fn flattened_by_hand() {
     let inverted = form(0, &[(1, not(a()))]);
-    let flat = with(of(inverted.clone(), 255, &[]), FROM_AND, a(), 255);
+    let flat = with(of(inverted.clone(), 255, &[]), a(), 255);
     check(Pass::Flatten, &inverted, &flat, 1);
     let xor = form(7, &[(3, binary(XOR, a(), literal(8, 15)))]);
-    let pass = with(of(xor.clone(), 52, &[]), FROM_AND, and(a(), 240), 3);
-    let both = with(pass, FROM_AND, and(a(), 15), 253);
+    let pass = with(of(xor.clone(), 52, &[]), and(a(), 240), 3);
+    let both = with(pass, and(a(), 15), 253);
     check(Pass::Flatten, &xor, &both, 1);
     let nothing = form(0, &[(1, binary(AND, a(), not(a())))]);
     check(Pass::Flatten, &nothing, &of(nothing.clone(), 0, &[]), 1);

@@ -3,7 +3,7 @@
 //! on the definitions (crates/claims/specs: Slips.antt, Wide.antt, OnBytes.antt).
 
 use crate::columns;
-use crate::form::{Form, FROM_AND, FROM_NOT, FROM_XOR, MIXED, RESULT_BYTES};
+use crate::form::{Form, HEAD_BYTE, RESULT_BYTES};
 use crate::list::{self, Case};
 use crate::normal_model;
 use crate::parted::bridge;
@@ -13,31 +13,31 @@ use crate::pass_tests::check;
 use crate::record::{
     binary, bytes, left_chain, literal, unary, variable, Records, ADD, AND, MUL, NEG, SHR, XOR,
 };
-use crate::written::{same_bytes, written};
+use crate::written::written;
 
-/// An atom: provenance, tree, and the coefficient of its term, 0 where it has none.
-type Row = (u8, Records, u64);
+/// An atom: its tree, and the coefficient of its term, 0 where it has none.
+type Row = (Records, u64);
 
 fn rows(width: u8, constant: u64, rows: &[Row]) -> Form {
     let mut form = Form::new(width, constant);
-    for (provenance, tree, coeff) in rows {
+    for (tree, coeff) in rows {
         match coeff {
-            0 => form.push(*provenance, tree.clone()),
-            _ => form.push_term(*provenance, tree.clone(), *coeff),
+            0 => form.push(HEAD_BYTE, tree.clone()),
+            _ => form.push_term(HEAD_BYTE, tree.clone(), *coeff),
         }
     }
     form
 }
 
-/// A masked variable a, made by And, at 8 bits.
+/// A masked variable a at 8 bits.
 fn low(mask: u64, coeff: u64) -> Row {
-    (FROM_AND, and(a(), mask), coeff)
+    (and(a(), mask), coeff)
 }
 
 /// The same at w bits.
 fn masked(w: u8, mask: u64, coeff: u64) -> Row {
     let tree = binary(AND, variable(w, 0), literal(w, mask));
-    (FROM_AND, tree, coeff)
+    (tree, coeff)
 }
 
 fn becomes(pass: Pass, before: &[Row], after: &[Row]) {
@@ -46,13 +46,13 @@ fn becomes(pass: Pass, before: &[Row], after: &[Row]) {
 
 #[test]
 fn flattened() {
-    let nested = |coeff| (FROM_AND, and(and(a(), 60), 15), coeff);
+    let nested = |coeff| (and(and(a(), 60), 15), coeff);
     let after = rows(8, 0, &[nested(0), low(12, 1)]);
     check(Pass::Flatten, &rows(8, 0, &[nested(1)]), &after, 1);
-    let xor = |coeff| (FROM_XOR, binary(XOR, a(), literal(8, 15)), coeff);
+    let xor = |coeff| (binary(XOR, a(), literal(8, 15)), coeff);
     let after = rows(8, 15, &[xor(0), low(240, 1), low(15, 255)]);
     check(Pass::Flatten, &rows(8, 0, &[xor(1)]), &after, 1);
-    for same in [(MIXED, a(), 1), (FROM_NOT, not(a()), 0)] {
+    for same in [(a(), 1), (not(a()), 0)] {
         let form = rows(8, 0, &[same]);
         check(Pass::Flatten, &form, &form, 0);
     }
@@ -63,7 +63,7 @@ fn recovered() {
     becomes(
         Pass::Recover,
         &[low(15, 3), low(0, 2), low(240, 1)],
-        &[low(15, 2), low(0, 2), low(240, 0), (MIXED, a(), 1)],
+        &[low(15, 2), low(0, 2), low(240, 0), (a(), 1)],
     );
 }
 
@@ -88,7 +88,7 @@ fn coalesced() {
     );
     let two = [low(3, 1), low(2, 1)];
     becomes(Pass::Coalesce, &two, &two);
-    let both = |mask: u64| (FROM_AND, and(binary(XOR, a(), b()), mask), 1);
+    let both = |mask: u64| (and(binary(XOR, a(), b()), mask), 1);
     let two = [both(15), both(240)];
     becomes(Pass::Coalesce, &two, &two);
 }
@@ -148,17 +148,9 @@ fn told(form: &Form, words: &[u64], classes: u64) {
 fn columns() {
     const OPAQUE: u64 = 0xDEAD << 48;
     let chain = |count| left_chain(AND, count, |i| variable(8, i as u8));
-    told(
-        &rows(8, 0, &[(FROM_AND, chain(5), 1)]),
-        &[255, 1 << 31, 0],
-        1,
-    );
-    told(
-        &rows(8, 0, &[(FROM_AND, chain(6), 1)]),
-        &[255, OPAQUE, 0],
-        1,
-    );
-    let shifted = |count| (MIXED, unary(SHR, count, a()), 1);
+    told(&rows(8, 0, &[(chain(5), 1)]), &[255, 1 << 31, 0], 1);
+    told(&rows(8, 0, &[(chain(6), 1)]), &[255, OPAQUE, 0], 1);
+    let shifted = |count| (unary(SHR, count, a()), 1);
     told(&rows(8, 0, &[shifted(1)]), &[255, OPAQUE, 0], 1);
     told(&rows(8, 0, &[shifted(0)]), &[255, 2, 0], 1);
     let second = rows(8, 0, &[low(15, 1), shifted(1)]);
@@ -180,23 +172,20 @@ fn normalised_wide() {
             rows(
                 63,
                 HALF - 1,
-                &[(MIXED, var(63), 1), masked(63, HALF - 1, HALF - 2)],
+                &[(var(63), 1), masked(63, HALF - 1, HALF - 2)],
             ),
         ),
         (
             minus_one(64),
-            rows(64, TOP, &[(MIXED, var(64), 1), masked(64, TOP, TOP - 1)]),
+            rows(64, TOP, &[(var(64), 1), masked(64, TOP, TOP - 1)]),
         ),
         (product(63), rows(63, 0, &[])),
-        (product(64), rows(64, 0, &[(MIXED, var(64), HALF)])),
+        (product(64), rows(64, 0, &[(var(64), HALF)])),
         (
             binary(ADD, product(64), product(64)),
-            rows(64, 0, &[(MIXED, var(64), 0)]),
+            rows(64, 0, &[(var(64), 0)]),
         ),
-        (
-            unary(NEG, 0, var(63)),
-            rows(63, 0, &[(MIXED, var(63), HALF - 1)]),
-        ),
+        (unary(NEG, 0, var(63)), rows(63, 0, &[(var(63), HALF - 1)])),
     ] {
         let answer = normal_model::answer(&bytes(&tree), RESULT_BYTES);
         assert_eq!(answer, written(&wanted));
@@ -209,7 +198,7 @@ fn passed_wide() {
     let wide = |w, before: &[Row], after: &[Row], pass| {
         check(pass, &rows(w, 0, before), &rows(w, 0, after), 0);
     };
-    let bare = |w, provenance, coeff| (provenance, variable(w, 0), coeff);
+    let bare = |w, coeff| (variable(w, 0), coeff);
     for (w, top, high) in [(63, HALF - 1, QUARTER), (64, TOP, HALF)] {
         let mask = |mask, coeff| masked(w, mask, coeff);
         // refining
@@ -236,9 +225,9 @@ fn passed_wide() {
         let halves = [mask(high - 1, 1), mask(high, 1)];
         let none = [mask(high - 1, 0), mask(high, 0)];
         let with = |row: Row| [none[0].clone(), none[1].clone(), row];
-        wide(w, &halves, &with(bare(w, FROM_AND, 1)), Pass::Refine);
+        wide(w, &halves, &with(bare(w, 1)), Pass::Refine);
         // coalescing: all places, and coefficients that add to 0
-        wide(w, &halves, &with(bare(w, MIXED, 1)), Pass::Coalesce);
+        wide(w, &halves, &with(bare(w, 1)), Pass::Coalesce);
         wide(
             w,
             &[mask(1, high), mask(1, high)],
@@ -249,19 +238,19 @@ fn passed_wide() {
         wide(
             w,
             &[mask(15, 3), mask(top - 15, 1)],
-            &[mask(15, 2), mask(top - 15, 0), bare(w, MIXED, 1)],
+            &[mask(15, 2), mask(top - 15, 0), bare(w, 1)],
             Pass::Recover,
         );
         let xor = binary(XOR, literal(w, 15), variable(w, 0));
-        let after = [mask(top - 15, 0), mask(15, 0), (FROM_XOR, xor, 1)];
+        let after = [mask(top - 15, 0), mask(15, 0), (xor, 1)];
         let before = rows(w, 0, &[mask(top - 15, 1), mask(15, top)]);
         check(Pass::Recover, &before, &rows(w, top - 14, &after), 0);
         // flattening: all bits inverted, by a literal that is cut at 63 bits
         let xor = |coeff| {
             let tree = binary(XOR, variable(w, 0), literal(w, TOP));
-            (FROM_XOR, tree, coeff)
+            (tree, coeff)
         };
-        let after = rows(w, top - 2, &[xor(0), bare(w, FROM_AND, top - 2)]);
+        let after = rows(w, top - 2, &[xor(0), bare(w, top - 2)]);
         check(Pass::Flatten, &rows(w, 0, &[xor(3)]), &after, 1);
         // columns: the highest place, by a literal with bit 63
         let form = rows(w, 0, &[masked(w, HALF | high, 1)]);
@@ -277,7 +266,7 @@ fn order_matters() {
     let before = rows(8, 0, &[low(15, 128), low(240, 128)]);
     let answer = normal_model::answer(&file, RESULT_BYTES);
     assert_eq!(answer, written(&before));
-    let xor = (FROM_XOR, binary(XOR, literal(8, 15), a()), 128);
+    let xor = (binary(XOR, literal(8, 15), a()), 128);
     let refined = [low(15, 0), low(240, 0), low(1, 128), low(0, 0)];
     let recovered = [low(15, 0), low(240, 0), xor];
     for (first, last, wanted) in [
@@ -299,6 +288,6 @@ fn order_matters() {
             sheet: RESULT_BYTES,
             spare: RESULT_BYTES,
         });
-        assert!(same_bytes(&ran.written.out, &written(&wanted).out));
+        assert!(ran.written.out == written(&wanted).out);
     }
 }

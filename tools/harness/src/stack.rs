@@ -4,7 +4,7 @@
 use std::hint::black_box;
 
 use crate::cases::SEED;
-use crate::form::{Form, MAX_ATOMS, MAX_TREE_RECORDS, MIXED, RESULT_BYTES};
+use crate::form::{Form, HEAD_BYTE, MAX_ATOMS, MAX_TREE_RECORDS, RESULT_BYTES};
 use crate::form_model;
 use crate::form_random;
 use crate::library;
@@ -21,7 +21,6 @@ use crate::record::{
     balanced, bytes, left_chain, left_turns, nested, right_chain, right_turns, unary, variable,
     Records, ADD, AND, MAX_RECORDS, NEG, NOT, RECORD_BYTES, SHR,
 };
-use crate::written::same_bytes;
 
 const VARS: [u64; 3] = [1, 2, 3];
 
@@ -117,7 +116,7 @@ fn form_stacks() -> Result<usize, String> {
         let compact = &mut || answer = pass_into(Pass::Compact, &form, &mut out);
         let used = stack_used(compact)?;
         let wanted = form_model::compact(&form, RESULT_BYTES);
-        if answer != wanted.numbers() || !same_bytes(&out, &wanted.out) {
+        if answer != wanted.numbers() || out != wanted.out {
             return Err(format!(
                 "hogzelt_compact_atom_table differs from the model: {shape}"
             ));
@@ -155,7 +154,7 @@ pub fn forms() -> Vec<(&'static str, Vec<u8>)> {
     let mut forms = Vec::new();
     for (shape, tree) in trees {
         let mut form = Form::new(64, 1);
-        form.push_term(MIXED, tree, 3);
+        form.push_term(HEAD_BYTE, tree, 3);
         forms.push((shape, form.bytes()));
     }
     forms.push((
@@ -217,11 +216,11 @@ fn timed_forms() -> Vec<(&'static str, Vec<u8>)> {
     half.terms.retain(|term| term.atom % 2 == 1);
     let mut small = Form::new(64, 1);
     for number in 0..MAX_ATOMS {
-        small.push_term(MIXED, variable(64, number as u8), 3);
+        small.push_term(HEAD_BYTE, variable(64, number as u8), 3);
     }
     let mut deep = Form::new(64, 1);
     deep.push_term(
-        MIXED,
+        HEAD_BYTE,
         nested(&[NOT], MAX_TREE_RECORDS - 1, variable(64, 0)),
         3,
     );

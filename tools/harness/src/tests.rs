@@ -6,7 +6,7 @@ use crate::cases::{self, SEED};
 use crate::collide;
 use crate::core::expr_utils::collect_vars;
 use crate::entry;
-use crate::form::{Form, FROM_AND, MAX_ATOMS, MAX_TREE_RECORDS, MIXED, RESULT_BYTES};
+use crate::form::{Form, HEAD_BYTE, MAX_ATOMS, MAX_TREE_RECORDS, RESULT_BYTES};
 use crate::form_model;
 use crate::form_random;
 use crate::ir::semilinear::compute_atom_truth_table;
@@ -117,7 +117,7 @@ fn form_refusals_of_the_document() {
     assert_eq!(form_model::compact(&[0; 15], RESULT_BYTES).refusal, 1);
     assert_eq!(form_model::compact(&form.bytes(), 57_359).refusal, 2);
     assert_eq!(form_model::read(&form.bytes()), Ok(form.clone()));
-    form.push_term(MIXED, variable(8, 0), 0);
+    form.push_term(HEAD_BYTE, variable(8, 0), 0);
     assert_eq!(form_model::read(&form.bytes()), Err(10));
     let mut whole = Form::new(8, 5).bytes();
     whole.resize(RESULT_BYTES, 0);
@@ -135,13 +135,13 @@ fn normalised_forms_of_the_document() {
     let (a, b) = (variable(8, 0), variable(8, 1));
     let xor = published::normalized(&binary(XOR, a.clone(), literal(8, 15)));
     let mut wanted = Form::new(8, 15);
-    wanted.push_term(MIXED, a.clone(), 1);
-    wanted.push_term(FROM_AND, binary(AND, a.clone(), literal(8, 15)), 254);
+    wanted.push_term(HEAD_BYTE, a.clone(), 1);
+    wanted.push_term(HEAD_BYTE, binary(AND, a.clone(), literal(8, 15)), 254);
     assert_eq!(xor, Ok(wanted));
     let both = |l: &Records, r: &Records| binary(AND, l.clone(), r.clone());
     let sum = published::normalized(&binary(ADD, both(&a, &b), both(&b, &a)));
     let mut wanted = Form::new(8, 0);
-    wanted.push_term(FROM_AND, both(&a, &b), 2);
+    wanted.push_term(HEAD_BYTE, both(&a, &b), 2);
     assert_eq!(sum, Ok(wanted));
     assert_eq!(published::normalized(&binary(MUL, a, b)), Err(8));
 }

@@ -1,12 +1,11 @@
-//! What a function that writes a form hands over, and how two such answers are compared.
+//! What a function that writes a form hands over.
 
-use crate::form::{Form, ATOM, RESULT_BYTES};
-use crate::record::RECORD_BYTES;
+use crate::form::{Form, RESULT_BYTES};
 
 /// The refusal; the used length, the count of terms and the flag, all 0 beside a refusal; and every
 /// byte of the result slice. The flag is that of flattening, 1 where an atom was flattened, and 0 in
 /// all other functions.
-#[derive(Clone, Debug)]
+#[derive(Clone, Debug, PartialEq, Eq)]
 pub struct Written {
     pub refusal: u64,
     pub used: u64,
@@ -24,29 +23,6 @@ impl Written {
     /// The used bytes, those of the form.
     pub fn form(&self) -> &[u8] {
         &self.out[..self.used as usize]
-    }
-}
-
-impl PartialEq for Written {
-    fn eq(&self, other: &Self) -> bool {
-        self.numbers() == other.numbers() && same_bytes(&self.out, &other.out)
-    }
-}
-
-/// Whether two result slices are the same: heads as `head` reads them, every other byte as it is.
-pub fn same_bytes(found: &[u8], wanted: &[u8]) -> bool {
-    found.len() == wanted.len()
-        && found
-            .chunks(RECORD_BYTES)
-            .zip(wanted.chunks(RECORD_BYTES))
-            .all(|(a, b)| a == b || (head(a).is_some() && head(a) == head(b)))
-}
-
-/// The bytes of an atom's head that are compared: all of them. Only heads have its kind.
-fn head(record: &[u8]) -> Option<[u8; RECORD_BYTES]> {
-    match record.first() {
-        Some(&ATOM) => record.try_into().ok(),
-        _ => None,
     }
 }
 
