@@ -41,7 +41,10 @@ extern "C" {
 #define HOGZELT_MOST_ATOMS 256
 #define HOGZELT_MOST_TREE_RECORDS 3072
 
-/* Byte 0 of the records of an expression, and of a form. */
+/*
+ * Byte 0 of the records of an expression, and of a form. Byte 1 of a head is 4 in every form that is
+ * written; in one that is read it is 0 to 4, and nothing depends on it.
+ */
 enum hogzelt_kind {
     HOGZELT_CONSTANT = 0,
     HOGZELT_VARIABLE = 1,

@@ -19,8 +19,6 @@ ROOT = os.path.dirname(os.path.dirname(HERE))
 PACKAGE = os.path.join(ROOT, "bindings", "python")
 COMMAND = os.path.join(ROOT, "tools", "hogzelt")
 
-AND_ATOM, OR_ATOM, XOR_ATOM, NOT_ATOM, MIXED_ATOM = range(5)
-
 
 def find_package() -> None:
     """Makes the package of this checkout the one that is imported."""
@@ -54,12 +52,15 @@ def bytes_of(text: str, width: int = 8) -> bytes:
     return parse(text, width).data
 
 
-def form_bytes(width: int, constant: int, atoms: list, terms: list) -> bytes:
-    """A form from (provenance, text) of each atom and (atom number, coefficient) of each term."""
+def form_bytes(
+    width: int, constant: int, atoms: list[str], terms: list[tuple[int, int]], head_byte: int = 4
+) -> bytes:
+    """A form from the text of each atom and (atom number, coefficient) of each term; head_byte is
+    byte 1 of the heads."""
     data = b""
-    for provenance, text in atoms:
+    for text in atoms:
         records = parse(text, width).expression.records
-        head = record_bytes(HEAD, provenance, len(records), width, structural_hash(records))
+        head = record_bytes(HEAD, head_byte, len(records), width, structural_hash(records))
         data += head + bytes_of(text, width)
     for number, coefficient in terms:
         data += record_bytes(TERM, 0, number, width, coefficient)
@@ -100,26 +101,23 @@ class Evaluator:
         return BINARY_OPERATORS[type(node.op)](left, right) & self.mask
 
 
-A = (MIXED_ATOM, "a")
-A15 = (AND_ATOM, "a & 15")
-
 # (width, text): the form, or the refusal's number
 WORKED = {
     (8, "5"): form_bytes(8, 5, [], []),
-    (8, "a ^ 15"): form_bytes(8, 15, [A, A15], [(0, 1), (1, 254)]),
-    (8, "a | 15"): form_bytes(8, 15, [A, A15], [(0, 1), (1, 255)]),
-    (8, "~a & 15"): form_bytes(8, 15, [A15], [(0, 255)]),
+    (8, "a ^ 15"): form_bytes(8, 15, ["a", "a & 15"], [(0, 1), (1, 254)]),
+    (8, "a | 15"): form_bytes(8, 15, ["a", "a & 15"], [(0, 1), (1, 255)]),
+    (8, "~a & 15"): form_bytes(8, 15, ["a & 15"], [(0, 255)]),
     (8, "0*(a*b)"): form_bytes(8, 0, [], []),
     (8, "a*b"): 8,
     (8, "a ^ (-1)"): 8,
     (8, "3 & (1 + 2)"): 7,
-    (8, "(a & b) + (b & a)"): form_bytes(8, 0, [(AND_ATOM, "a & b")], [(0, 2)]),
-    (1, "a ^ 1"): form_bytes(1, 1, [A], [(0, 1)]),
-    (8, "a - a"): form_bytes(8, 0, [A], []),
+    (8, "(a & b) + (b & a)"): form_bytes(8, 0, ["a & b"], [(0, 2)]),
+    (1, "a ^ 1"): form_bytes(1, 1, ["a"], [(0, 1)]),
+    (8, "a - a"): form_bytes(8, 0, ["a"], []),
     (8, "16*(a & 255) + (b ^ 15)"): form_bytes(
         8,
         15,
-        [(AND_ATOM, "a & 255"), (MIXED_ATOM, "b"), (AND_ATOM, "b & 15")],
+        ["a & 255", "b", "b & 15"],
         [(0, 16), (1, 1), (2, 254)],
     ),
 }

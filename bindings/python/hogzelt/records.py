@@ -20,7 +20,7 @@ ATOM_KINDS = frozenset((CONSTANT, VARIABLE, AND, OR, XOR, NOT, SHR))
 ARITY = [2 if kind in BINARY else 1 if kind in UNARY else 0 for kind in range(14)]
 
 SUM, HEAD, TERM = 32, 33, 34
-PROVENANCES = "And Or Xor Not Mixed".split()
+MOST_HEAD_BYTE = 4  # byte 1 of a head; new ones have this, and it says nothing
 
 RECORD = 16
 RECORD_POWER = 4  # 16 is this power of 2: records are counted without a division
@@ -52,7 +52,6 @@ class Expression(NamedTuple):
 
 
 class Atom(NamedTuple):
-    provenance: int
     records: list[Record]
 
 
@@ -226,7 +225,7 @@ def read_atoms(data: bytes, count: int, width: int) -> tuple[list[Atom], int]:
         check_head(head, len(atoms), count, width)
         records = read_tree(data, number + 1, head.size, width)
         check_atom(head, records)
-        atoms.append(Atom(head.argument, records))
+        atoms.append(Atom(records))
         total += head.size
         number += 1 + head.size
     if len(atoms) > MOST_ATOMS:
@@ -239,8 +238,9 @@ def read_atoms(data: bytes, count: int, width: int) -> tuple[list[Atom], int]:
 def check_head(head: Raw, index: int, count: int, width: int) -> None:
     head.check_width(width)
     head.check_spare()
-    if head.argument >= len(PROVENANCES):
-        head.fault(f"provenance {head.argument} of atom {index}; a provenance is 0 to 4")
+    if head.argument > MOST_HEAD_BYTE:
+        head.fault(f"byte 1 of the head of atom {index} is {head.argument};"
+                   f" a head has 0 to {MOST_HEAD_BYTE} there")
     if head.size == 0:
         head.fault(f"atom {index} has no tree")
     if head.number + head.size >= count:

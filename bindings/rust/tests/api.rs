@@ -1,8 +1,8 @@
 //! The types: refusals as errors, allocated and lent results, the parts of a sheet.
 
 use hogzelt::{
-    columns, normalize, normalize_into, run_calls_into, run_pass, run_pass_into, run_passes, Call,
-    Expr, Pass, Refusal, EXPR_BYTES, FORM_BYTES, OPAQUE, RECORD_BYTES,
+    columns, normalize, normalize_into, run_calls_into, run_pass, run_pass_into, run_passes,
+    sheet_value, Call, Expr, Pass, Refusal, EXPR_BYTES, FORM_BYTES, OPAQUE, RECORD_BYTES,
 };
 use std::error::Error;
 
@@ -62,6 +62,38 @@ fn parts_of_a_sheet() {
     let constant = normalize(number(5)).expect("a number is linear");
     assert_eq!((constant.constant(), constant.par()), (5, 0));
     assert_eq!(constant.columns().expect("a sheet").classes().len(), 0);
+}
+
+/// Byte 1 of heads: 4 is written, 0 to 4 are read alike, and other bytes are refused.
+#[test]
+fn heads_of_a_sheet() {
+    let sheet = normalize(a() ^ number(15)).expect("it is linear");
+    let heads = [1, 2 * RECORD_BYTES + 1];
+    assert_eq!(heads.map(|at| sheet.as_bytes()[at]), [4, 4]);
+    let with = |byte: u8| {
+        let mut bytes = sheet.as_bytes().to_vec();
+        for at in heads {
+            bytes[at] = byte;
+        }
+        bytes
+    };
+    for byte in 0..4 {
+        let old = with(byte);
+        assert_eq!(sheet_value(&old, &[5]), Ok(10));
+        assert_eq!(columns(&old), sheet.columns());
+        for pass in Pass::ALL {
+            assert_eq!(run_pass(pass, &old), sheet.pass(pass));
+        }
+        assert_eq!(run_pass(Pass::Compact, &old).as_ref(), Ok(&sheet));
+    }
+    for byte in [5, 6, 128, 255] {
+        let bad = with(byte);
+        assert_eq!(sheet_value(&bad, &[5]), Err(Refusal::NoForm));
+        assert_eq!(columns(&bad).err(), Some(Refusal::NoForm));
+        for pass in Pass::ALL {
+            assert_eq!(run_pass(pass, &bad), Err(Refusal::NoForm));
+        }
+    }
 }
 
 #[test]

@@ -39,7 +39,6 @@ impl Case {
 /// All families.
 pub const FAMILIES: [Family<Case>; 15] = [
     family("worked examples", 0, 0, |_, _| pass_examples::cases()),
-    family("byte 1 of heads", 0, 0, |_, _| pass_examples::heads()),
     family("as normalising makes them", 20_000, 40, normalised),
     family("along lists of passes", 20_000, 40, along_lists),
     family("one group", 25_000, 50, |rng, n| {
@@ -67,6 +66,7 @@ pub const FAMILIES: [Family<Case>; 15] = [
     family("any form", 4_000, 20, any),
     family("damaged", 12_000, 80, damaged),
     family("lengths", 2_000, 40, lengths),
+    family("byte 1 of heads", 0, 0, |_, _| pass_examples::heads()),
 ];
 
 /// A call with a result slice of the right length.

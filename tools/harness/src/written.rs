@@ -16,6 +16,7 @@ pub struct Written {
 
 impl Written {
     /// The refusal and the numbers.
+    #[cfg(any(feature = "library", test))]
     pub fn numbers(&self) -> [u64; 4] {
         [self.refusal, self.used, self.terms, self.flag]
     }

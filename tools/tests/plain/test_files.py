@@ -57,7 +57,8 @@ class Damaged(unittest.TestCase):
             (FORM[:-3], "not a multiple"),
             (FORM + bytes(160), "ends at byte 144", "160 zero bytes"),
             (FORM + FORM, "record 9 (byte 144)", "behind the sum record"),
-            (with_byte(FORM, 1, 5), "record 0", "provenance 5 of atom 0"),
+            (with_byte(FORM, 1, 5), "record 0", "byte 1 of the head of atom 0 is 5", "0 to 4"),
+            (with_byte(FORM, 33, 255), "record 2", "byte 1 of the head of atom 1 is 255"),
             (with_byte(FORM, 2, 0), "record 0", "no tree"),
             (with_byte(FORM, 34, 200), "record 2", "atom 1", "past the end"),
             (with_byte(FORM, 8, 0), "record 0", "hash"),
@@ -75,6 +76,12 @@ class Damaged(unittest.TestCase):
         ):
             with self.subTest(parts=parts):
                 self.refused(read_form, data, *parts)
+
+    def test_heads(self):
+        """Byte 1 of a head is 0 to 4, over any tree, and nothing depends on it."""
+        for byte in range(5):
+            self.assertEqual(read_form(with_byte(FORM, 1, byte)), read_form(FORM))
+            self.assertEqual(read_form(with_byte(FORM, 33, byte)), read_form(FORM))
 
     def test_answers(self):
         for data, *parts in (

@@ -8,7 +8,7 @@ from hogzelt.refusals import REFUSALS
 from hogzelt.render import bits_text, sum_text
 from hogzelt.show import show_answer, show_expression, show_form
 
-from samples import A, AND_ATOM, NOT_ATOM, WORKED, XOR_ATOM, bytes_of, form_bytes
+from samples import WORKED, bytes_of, form_bytes
 
 
 def form_lines(data):
@@ -36,7 +36,7 @@ class Forms(unittest.TestCase):
             "term 0    0x1 (1) * a"])
 
     def test_recovered(self):
-        atoms = [(AND_ATOM, f"a & {mask}") for mask in (252, 3, 0)] + [(XOR_ATOM, "3 ^ a")]
+        atoms = ["a & 252", "a & 3", "a & 0", "3 ^ a"]
         self.assertEqual(form_lines(form_bytes(8, 253, atoms, [(2, 255), (3, 1)])), [
             "sheet: width 8, 4 atoms, par 2",
             "sum       -3 - 1*(a & 0) + 1*(3 ^ a)",
@@ -52,13 +52,13 @@ class Forms(unittest.TestCase):
         ])
 
     def test_half_has_no_negative(self):
-        lines = form_lines(form_bytes(8, 128, [A, (NOT_ATOM, "~b")], [(0, 128), (1, 129)]))
+        lines = form_lines(form_bytes(8, 128, ["a", "~b"], [(0, 128), (1, 129)]))
         self.assertEqual(lines[1:], [
             "sum       128 + 128*a - 127*~b", "constant  0x80 (128)", "term 0    0x80 (128) * a",
             "term 1    0x81 (-127) * ~b"])
 
     def test_uncut_mask_and_several(self):
-        lines = form_lines(form_bytes(12, 0, [(AND_ATOM, "(a & 0xf00f) & 7")], [(0, 1)]))
+        lines = form_lines(form_bytes(12, 0, ["(a & 0xf00f) & 7"], [(0, 1)]))
         self.assertEqual(lines[1:], [
             "sum       1*(a & 61455 & 7)",
             "constant  0x000 (0)",
