@@ -1,6 +1,6 @@
 //! The passes and the columns in the benchmark: the published Rust on a form that is there, the Rust
 //! with reading and writing the same bytes, and the library. An atom that was read has its variables
-//! but no truth table, for no pass looks at one.
+//! but no truth table, and the family Mixed, for no pass looks at either.
 
 use std::hint::black_box;
 use std::sync::Arc;

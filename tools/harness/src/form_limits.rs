@@ -75,7 +75,8 @@ fn assignments() -> Vec<Entry> {
     all
 }
 
-/// Five atoms with 0 to 4 in byte 1 of their heads and with terms for each choice of them; equal atoms; forms without terms or atoms.
+/// Five atoms, with 0 to 4 in byte 1 of their heads and terms for each choice of them; equal atoms;
+/// forms without terms or atoms.
 fn unused() -> Vec<Entry> {
     let mut all = Vec::new();
     let trees = [

@@ -1,16 +1,18 @@
 //! Byte 1 of heads: 0 to 4 are read alike, 4 is written, and other bytes are refused by 10.
 
 use crate::cases::SEED;
-use crate::columns::{self, RESULT_WORDS};
+use crate::columns::{self, Columns, RESULT_WORDS};
 use crate::entry;
 use crate::form::{Form, ATOM, HEAD_BYTE, RESULT_BYTES};
 use crate::form_model;
+use crate::model::Answer;
 use crate::parted::bridge;
 use crate::pass::{self, Pass, PASSES};
 use crate::pass_cases::FAMILIES;
 use crate::pass_examples::{a, and, b, each_head, form, not};
 use crate::prng::Prng;
-use crate::record::{binary, bytes, literal, split, ADD, OR, RECORD_BYTES, SHR, XOR};
+use crate::record::{binary, bytes, literal, split, unary, ADD, OR, RECORD_BYTES, SHR, XOR};
+use crate::written::Written;
 
 /// The bytes at the places of byte 1 of the heads in the bytes of a form.
 fn head_bytes(form: &[u8]) -> Vec<u8> {
@@ -28,41 +30,39 @@ fn refusals(bytes: &[u8]) -> [u64; 6] {
     all
 }
 
+/// The value, the columns, and what each pass gives.
+fn answers(bytes: &[u8], vars: &[u64]) -> (Answer, Columns, [Written; 5]) {
+    let passed = PASSES.map(|pass| pass::answer(pass, bytes, RESULT_BYTES));
+    let columns = columns::answer(bytes, RESULT_WORDS);
+    (form_model::answer(bytes, vars), columns, passed)
+}
+
 /// Bytes 0 to 4 of one form: the same value, columns and result of every pass, with new heads.
 #[test]
 fn bytes_are_read_alike() {
     let rng = &mut Prng::new(SEED);
     let vars: Vec<u64> = (0..256).map(|_| rng.word()).collect();
-    let (mut atoms, mut refused) = (0, 0);
+    let (mut heads, mut refused) = (0, 0);
     for family in &FAMILIES {
         for case in (family.make)(rng, family.compared / 500) {
             let Ok(form) = form_model::read(&case.file) else {
                 continue;
             };
-            let new = form.clone().with_heads(HEAD_BYTE).bytes();
-            for byte in 0..=4 {
-                let old = form.clone().with_heads(byte).bytes();
-                assert_eq!(
-                    form_model::answer(&old, &vars),
-                    form_model::answer(&new, &vars)
-                );
-                assert!(columns::answer(&old, RESULT_WORDS) == columns::answer(&new, RESULT_WORDS));
-                for pass in PASSES {
-                    let answer = pass::answer(pass, &old, RESULT_BYTES);
-                    assert!(answer == pass::answer(pass, &new, RESULT_BYTES), "{form:?}");
-                    let heads = head_bytes(answer.form());
-                    assert!(heads.iter().all(|head| *head == 4), "{pass:?}, {form:?}");
-                    atoms += heads.len();
-                    refused += usize::from(answer.refusal != 0);
-                }
-                assert!(
-                    entry::compact_answer(&old, RESULT_BYTES)
-                        == form_model::compact(&new, RESULT_BYTES)
-                );
+            let of = |byte| form.clone().with_heads(byte).bytes();
+            let wanted = answers(&of(HEAD_BYTE), &vars);
+            for old in (0..=4).map(of) {
+                assert!(answers(&old, &vars) == wanted, "{form:?}");
+                assert!(entry::compact_answer(&old, RESULT_BYTES) == wanted.2[4]);
+            }
+            for answer in wanted.2 {
+                let bytes = head_bytes(answer.form());
+                assert!(bytes.iter().all(|byte| *byte == 4), "{form:?}");
+                heads += bytes.len();
+                refused += usize::from(answer.refusal != 0);
             }
         }
     }
-    assert!(atoms > 0 && refused > 0);
+    assert!(heads > 0 && refused > 0);
 }
 
 /// Every pass changes the worked example with each byte in more than its heads.
@@ -105,7 +105,7 @@ fn bytes_that_are_refused() {
         and(a(), 15),
         binary(OR, a(), b()),
         binary(XOR, a(), b()),
-        crate::record::unary(SHR, 1, a()),
+        unary(SHR, 1, a()),
     ];
     for tree in trees {
         let form = form(0, &[(1, tree.clone()), (2, b())]);

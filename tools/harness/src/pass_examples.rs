@@ -27,7 +27,7 @@ pub fn not(x: Records) -> Records {
     unary(NOT, 0, x)
 }
 
-/// A form at 8 bits; a coefficient of 0 is an atom without a term. Byte 1 of a head is any of 0 to 4.
+/// A form at 8 bits; a coefficient of 0 is an atom without a term. Heads have any of 0 to 4 in byte 1.
 pub fn form(constant: u64, terms: &[(u64, Records)]) -> Form {
     let mut form = Form::new(8, constant);
     for (coeff, tree) in terms {
