@@ -16,7 +16,6 @@ use Rattle.base.proofs.BoolLaws.{false-true}
 use Rattle.base.proofs.PutLaws.{length-put, length-padded, put-padded-at, take-padded}
 use Rattle.atom_table.specs.declared.table.Written.{Written}
 use Rattle.semilinear.specs.declared.outcome.Answer.{Answer}
-use Rattle.semilinear.specs.declared.scan.AtomTable.{AtomTable}
 use Rattle.atom_table.specs.declared.table.Table.{Table}
 use Rattle.semilinear.specs.Form.{Row, Form, termCount, atomsBytes, termsBytes, sumBytes, encodeForm, treeRecords}
 use Rattle.semilinear.specs.Form.{fitsTable}
@@ -27,8 +26,7 @@ use Rattle.base.specs.Outcome.{refused}
 use Rattle.semilinear.specs.Outcome.{formOutcome}
 use Rattle.semilinear.specs.Answers.{GivesForm}
 use Rattle.semilinear.specs.PassOutcome.{limitOutcome}
-use Rattle.semilinear.specs.Scan.{IsAtomTable}
-use Rattle.atom_table.specs.Table.{atomSpans, Placed, Kept, Holds, Clean}
+use Rattle.atom_table.specs.Table.{atomSpans, AtomsPut, Placed, Kept, Holds, Clean}
 use Rattle.atom_table.specs.Terms.{coeffsOf, coeffsIn, coeffTerms, coeffCount, TermsPut, Copied, Finished, Ends}
 use Rattle.record.proofs.BytesLaws.{bytes-body}
 use Rattle.semilinear.proofs.AcceptLaws.{written}
@@ -43,12 +41,8 @@ use Rattle.semilinear.proofs.ValidLaws.{semilinear-parts}
 
 -- ---- the atoms of a form
 
--- the table of the atoms that were copied
-abbrev pub copiedTable : AtomTable → Table
-copiedTable r = record { at = r .at; count = r .count; records = r .records; full = false }
-
-module _ (s : List ℕ) (h : IsBytes s) (ok : isSemilinear s ≡ true) {f : List ℕ} (ef : f ≡ body s) (r : AtomTable)
-    (found : IsAtomTable f r) where
+module _ (s : List ℕ) (h : IsBytes s) (ok : isSemilinear s ≡ true) {f : List ℕ} (ef : f ≡ body s) {w : ℕ}
+    (ew : w ≡ width s) {before after : List ℕ} (r : Table) (p : AtomsPut w f before after r) where
   abbrev rows : List Row
   rows = readRows 0 (body s) (afterAtoms (body s))
 
@@ -62,39 +56,38 @@ module _ (s : List ℕ) (h : IsBytes s) (ok : isSemilinear s ≡ true) {f : List
   sizes-are = records-retired (rowsOf 0 (body s) (afterAtoms (body s))) ∙ written s h ok .records
 
   count-is : r .count ≡ length rows
-  count-is = rw ef at (found .number) ∙ sym length-is
+  count-is = rw ef at (p .found .number) ∙ sym length-is
 
   records-is : r .records ≡ treeRecords rows
-  records-is = rw ef at (found .trees) ∙ sym sizes-are
+  records-is = rw ef at (p .found .trees) ∙ sym sizes-are
 
   at-is : r .at ≡ length atoms
-  at-is = omega (arith, found .place, count-is, records-is, length-atoms (width s) rows)
+  at-is = omega (arith, p .found .place, count-is, records-is, length-atoms (width s) rows)
 
   -- they stand at the start of a slice that was all zeros
-  pub copied : {out out′ : List ℕ} → out ≡ padded 57360 [] → out′ ≡ put out 0 (atomSpans (width s) f)
-      → Copied (readForm s) (copiedTable r) out′
+  pub copied : before ≡ padded 57360 [] → Copied (readForm s) r after
   unfolding decodeForm fitsTable
-  copied {out} {out′} z p =
+  copied z =
       let parts = semilinear-parts s ok .1 in
-      let spans : atomSpans (width s) f ≡ atoms =
-      ap (atomSpans (width s)) ef
+      let spans : atomSpans w f ≡ atoms =
+      ap₂ atomSpans ew ef
       ∙ spans-read (width s) (body s) (bytes-body s h) (parts .atoms) 0 (afterAtoms (body s)) in
-      let all : out′ ≡ padded 57360 atoms =
-      p
+      let all : after ≡ padded 57360 atoms =
+      p .written
       ∙ ap₂ (λ (d x : List ℕ). put d 0 x) z spans
       ∙ put-padded-at 57360 [] atoms 0 refl in
       let most : length rows ≤ 256 = omega (arith, length-is, parts .atoms-le) in
       let few : treeRecords rows ≤ 3072 = omega (arith, sizes-are, parts .records-le) in
       let size : length atoms ≡ 16 * (length rows + treeRecords rows) = length-atoms (width s) rows in
-      let long : length out′ ≡ 57360 = ap length all ∙ length-padded 57360 atoms (omega (arith, size)) in
-      let taken : take (r .at) out′ ≡ atoms =
+      let long : length after ≡ 57360 = ap length all ∙ length-padded 57360 atoms (omega (arith, size)) in
+      let taken : take (r .at) after ≡ atoms =
       ap₂ (λ (n : ℕ) (d : List ℕ). take n d) at-is all ∙ take-padded 57360 atoms in
       record {
         holds =
             record {
               placed =
                   record {
-                    place = found .place;
+                    place = p .found .place;
                     atoms-le = omega (arith, count-is, most);
                     records-le = omega (arith, records-is, few);
                     room = omega (arith, long);
@@ -106,10 +99,10 @@ module _ (s : List ℕ) (h : IsBytes s) (ok : isSemilinear s ≡ true) {f : List
                     records = records-is;
                     fits = simp (le-leb (length rows) 256 most, le-leb (treeRecords rows) 3072 few);
                   };
-              past = λ b. false-true b;
+              past = λ b. false-true (sym (p .more) ∙ b);
             };
         clean = all ∙ ap₂ padded (sym long) (sym taken);
-        more = refl;
+        more = p .more;
         long = long;
       }
 

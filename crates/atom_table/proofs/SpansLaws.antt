@@ -5,7 +5,7 @@ use Prim.Native.Nat.{ℕ, _+_, _*_, _≤_}
 use native.Mathlib.Omega.{arith}
 use mathlib.Core.List.{List, [], _++_}
 use mathlib.Core.Bool.{true, false}
-use lib.ListN.{length, drop, length-drop}
+use lib.ListN.{length, drop}
 use lib.Seq.{drop-drop}
 use Rattle.base.specs.Put.{put}
 use Rattle.base.proofs.PutLaws.{length-put, put-then}
@@ -15,15 +15,16 @@ use Rattle.expr.proofs.AcceptLaws.{accept-encode}
 use Rattle.semilinear.specs.Form.{headByte, atomBytes, atomsBytes}
 use Rattle.expr.specs.Hash.{structuralHash}
 use Rattle.record.specs.Span.{sized}
-use Rattle.semilinear.specs.Items.{frontWord, atomLength, isAtom, treeSpan, afterAtom}
+use Rattle.semilinear.specs.Items.{frontNumber, frontWord, atomLength, isAtom, treeSpan, afterAtom}
 use Rattle.semilinear.specs.Valid.{atomOk, atomsOk}
 use Rattle.semilinear.specs.DecodeForm.{afterTerm, rowAt, readRows}
-use Rattle.semilinear.proofs.ItemsLaws.{atom-room, length-tree-span, fold-atom, fold-done, atoms-ind}
+use Rattle.semilinear.proofs.ItemsLaws.{length-tree-span, fold-atom, fold-done, atoms-ind}
+use Rattle.semilinear.proofs.ScanLaws.{Scanned, passed-none, passed-table, passed-atom, atom-inside}
 use Rattle.semilinear.proofs.ValidLaws.{atom-parts, first-atom-ok, later-atoms-ok}
 use Rattle.semilinear.proofs.AcceptLaws.{bytes-tree-span, bytes-after-atom}
 use Rattle.semilinear.proofs.RetiredLaws.{read-rows-atom, read-rows-end}
 use Rattle.expr_refusal.proofs.RefusalLaws.{sized-accepted}
-use Rattle.atom_table.specs.Table.{atomSpan, atomSpans}
+use Rattle.atom_table.specs.Table.{atomSpan, atomSpans, AtomsPut}
 use Rattle.atom_table.proofs.TableLaws.{length-atom-span}
 use Rattle.atom_table.proofs.HoldsLaws.{span-same}
 use Rattle.atom_table.proofs.TermLengthLaws.{put-none}
@@ -70,22 +71,29 @@ module _ (w : ℕ) where
 
 -- ---- one after the other
 
--- the atoms before the place `at` are put: with those from it on, all are
-pub record SpansPut (w : ℕ) (f before : List ℕ) (at : ℕ) (after : List ℕ) : Type 0 where
-  pub inside : at ≤ length f
+-- the atoms before the place `at`, so many with so many tree records, are put: with those from it on, all are
+pub record SpansPut (w : ℕ) (f before : List ℕ) (at count records : ℕ) (after : List ℕ) : Type 0 where
+  pub scanned : Scanned f at count records
   pub left-ok : atomsOk w (drop at f) ≡ true
   pub long : length after ≡ length before
   pub all : put after at (atomSpans w (drop at f)) ≡ put before 0 (atomSpans w f)
 
 module _ (w : ℕ) (f before : List ℕ) (ok : atomsOk w f ≡ true) (room : length f ≤ length before) where
-  pub spans-none : SpansPut w f before 0 before
-  spans-none = record { inside = omega arith; left-ok = ok; long = refl; all = refl }
+  pub spans-none : SpansPut w f before 0 0 0 before
+  spans-none = record { scanned = passed-none f; left-ok = ok; long = refl; all = refl }
 
-  module _ (at : ℕ) (after : List ℕ) (h : SpansPut w f before at after) {r : List ℕ} (er : r ≡ drop at f) where
-    pub spans-all : isAtom r ≡ false → after ≡ put before 0 (atomSpans w f)
+  module _ (at count records : ℕ) (after : List ℕ) (h : SpansPut w f before at count records after) {r : List ℕ}
+      (er : r ≡ drop at f) where
+    pub spans-all : isAtom r ≡ false
+        → AtomsPut w f before after (record { at = at; count = count; records = records; full = false })
     spans-all e =
-        let none : atomSpans w (drop at f) ≡ [] = fold-done _ _ (drop at f) (rw er at e) in
-        put-none after at ∙ ap (put after at) (sym none) ∙ h .all
+        let end : isAtom (drop at f) ≡ false = rw er at e in
+        let none : atomSpans w (drop at f) ≡ [] = fold-done _ _ (drop at f) end in
+        record {
+          found = passed-table f at count records (h .scanned) end;
+          more = refl;
+          written = put-none after at ∙ ap (put after at) (sym none) ∙ h .all;
+        }
 
     module _ (e : isAtom r ≡ true) where
       rest-ok : atomsOk w r ≡ true
@@ -96,8 +104,7 @@ module _ (w : ℕ) (f before : List ℕ) (ok : atomsOk w f ≡ true) (room : len
 
       -- the end of the atom stands within both
       pub span-inside : at + atomLength r ≤ length f
-      unfolding atomLength
-      span-inside = omega (arith, atom-room r e .fits, ap length er, length-drop at f, h .inside)
+      span-inside = atom-inside f at r er e (h .scanned .inside)
 
       pub span-room : at + 16 + length (treeSpan r) ≤ length after
       unfolding atomLength
@@ -108,7 +115,7 @@ module _ (w : ℕ) (f before : List ℕ) (ok : atomsOk w f ≡ true) (room : len
       next = ap (drop (atomLength r)) er ∙ drop-drop (atomLength r) at f
 
       pub spans-more : {out : List ℕ} → out ≡ put after at (atomSpan w (treeSpan r))
-          → SpansPut w f before (at + atomLength r) out
+          → SpansPut w f before (at + atomLength r) (count + 1) (records + frontNumber r) out
       spans-more {out} p =
           let x : List ℕ = atomSpan w (treeSpan r) in
           let n : length x ≡ atomLength r = length-span w r e in
@@ -117,7 +124,7 @@ module _ (w : ℕ) (f before : List ℕ) (ok : atomsOk w f ≡ true) (room : len
           let step : atomSpans w (drop at f) ≡ x ++ rest =
           ap (atomSpans w) (sym er) ∙ fold-atom _ _ r e ∙ ap (λ (l : List ℕ). x ++ atomSpans w l) next in
           record {
-            inside = span-inside;
+            scanned = passed-atom f at r er e count records (h .scanned);
             left-ok = rw (← next) (later-atoms-ok w r rest-ok e);
             long = ap length p ∙ length-put after at x fits ∙ h .long;
             all =

@@ -16,6 +16,7 @@ use Rattle.expr.specs.Hash.{structuralHash}
 use Rattle.atom_table.specs.declared.table.Table.{Table}
 use Rattle.semilinear.specs.Form.{headByte, Row, atomsBytes, treeRecords, fitsTable}
 use Rattle.semilinear.specs.Items.{foldAtoms, treeSpan}
+use Rattle.semilinear.specs.Scan.{IsAtomTable}
 use Rattle.base.specs.Limits.{atomLimit, recordLength, treeRecordLimit}
 
 -- the table's numbers agree, keep the limits, and len bytes have room for every table within them
@@ -44,6 +45,12 @@ atomSpan w t = recordBytes 33 headByte (size t) w (structuralHash (decode t)) ++
 -- the atoms at the front of f, each as a new one
 abbrev pub atomSpans : ℕ → List ℕ → List ℕ
 atomSpans w = foldAtoms (λ r. []) (λ r x. atomSpan w (treeSpan r) ++ x)
+
+-- they are put into the bytes from the start on, and r is their table
+pub record AtomsPut (w : ℕ) (f before after : List ℕ) (r : Table) : Type 0 where
+  pub found : IsAtomTable f (record { at = r .at; count = r .count; records = r .records })
+  pub more : r .full ≡ false
+  pub written : after ≡ put before 0 (atomSpans w f)
 
 -- with this atom more the table keeps its limits
 unfoldable pub fitsMore : Table → List ℕ → Bool

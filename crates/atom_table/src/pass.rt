@@ -7,31 +7,39 @@ use base::limits;
 use semilinear::items;
 use semilinear::outcome;
 use semilinear::outcome::Answer;
-use semilinear::scan;
 ghost use mathlib.Core.Path.{_≡_};
 ghost use mathlib.Core.Bool.{true};
 ghost use mathlib.Core.List.{[]};
 ghost use Prim.Native.Nat.{_+_, _<_, _≤_};
 ghost use lib.ListN.{length};
-ghost use Rattle.base.specs.Put.{put, padded};
+ghost use Rattle.base.specs.Put.{padded};
 ghost use Rattle.semilinear.specs.Valid.{atomsOk, isSemilinear};
 ghost use Rattle.semilinear.specs.DecodeForm.{readForm};
-ghost use Rattle.atom_table.specs.Table.{atomSpans};
+ghost use Rattle.atom_table.specs.Table.{AtomsPut};
 ghost use Rattle.atom_table.specs.Terms.{coeffsIn, TermPut, TermsRoom, TermsPut, Copied, FinishRoom, Finished};
 ghost use Rattle.base.specs.Limits.{formBytes, recordLength};
 
 // Puts the atoms at the front of f into out from its start on, each with a new head.
-fn put_atoms(f: &[u8], w: u8, out: &mut [u8])
+fn put_atoms(f: &[u8], w: u8, out: &mut [u8]) -> Table
     requires { ⌜ (atomsOk w (now f) ≡ true) × (length (now f) ≤ length (now out)) ⌝ }
-    ensures { λ _. ⌜ now (out .exit) ≡ put (now (out .entry)) 0 (atomSpans w (now (f .entry))) ⌝ }
+    ensures { λ r. ⌜ AtomsPut w (now (f .entry)) (now (out .entry)) (now (out .exit)) r ⌝ }
 {
     let mut at = 0;
+    let mut count: u64 = 0;
+    let mut records: u64 = 0;
     loop {
         let r = items::rest_from(f, at);
         if !items::is_atom(r) {
-            return;
+            return Table {
+                at: at,
+                count: count,
+                records: records,
+                full: false,
+            };
         }
         table::put_atom(out, at, items::tree_span(r), items::front_word(r), w);
+        count += 1;
+        records += items::front_number(r);
         at += items::atom_length(r);
     }
 }
@@ -41,15 +49,7 @@ pub fn copy_atoms(s: &[u8], out: &mut [u8]) -> Table
     requires { ⌜ (isSemilinear (now s) ≡ true) × (now out ≡ padded formBytes []) ⌝ }
     ensures { λ r. ⌜ Copied (readForm (now (s .entry))) r (now (out .exit)) ⌝ }
 {
-    let f = record::body(s);
-    let found = scan::atom_table(f);
-    put_atoms(f, record::width(s), out);
-    Table {
-        at: found.at,
-        count: found.count,
-        records: found.records,
-        full: false,
-    }
+    put_atoms(record::body(s), record::width(s), out)
 }
 
 // The term of atom i with the coefficient c is put behind those before it; none where c is 0.

@@ -1,13 +1,13 @@
 -- Laws of the form that is read with new heads (specs/DecodeForm.antt, ticket #107): it has the width, the constant, the
--- trees, the terms and so the value of the form in the bytes, and is valid where that is.
-use mathlib.Core.Path.{_≡_, refl, ap, ap₂, sym, _∙_}
+-- trees, the terms and so the value of the form in the bytes, and is valid where that is. What new heads are, in rows and
+-- in bytes.
+use mathlib.Core.Path.{_≡_, refl, ap, sym, _∙_}
 use Prim.Native.Nat.{ℕ, _+_, _%_, _^_}
 use native.Mathlib.Omega.{arith}
 use mathlib.Core.List.{List, [], _∷_, _++_}
 use mathlib.Core.Bool.{Bool, true, false, _&&_}
 use lib.ListN.{length}
 use lib.Dec.{eqb}
-use borrow.Author.Tests.{eqb-true}
 use Rattle.base.proofs.BoolLaws.{and-true}
 use Rattle.record.specs.Span.{body}
 use Rattle.record.specs.Tree.{IsBytes}
@@ -58,27 +58,12 @@ rows-ok-retired w (x ∷ l) ok =
     let good = good-row w (retiredRow x) (record { known = omega arith; atom = p .0 .atom; fits = p .0 .fits }) in
     simp (good, rows-ok-retired w l (p .1))
 
-rows-retired-twice : (l : List Row) → retiredRows (retiredRows l) ≡ retiredRows l
-unfolding retiredRows
-rows-retired-twice [] = refl
-rows-retired-twice (x ∷ l) = rw (rows-retired-twice l)
-
 -- ---- new heads
 
 pub new-retired : (l : List Row) → newRows (retiredRows l) ≡ true
 unfolding retiredRows newRows
 new-retired [] = refl
 new-retired (x ∷ l) = new-retired l
-
--- rows with new heads are read as they are
-pub retired-new : (l : List Row) → newRows l ≡ true → retiredRows l ≡ l
-unfolding retiredRows newRows
-retired-new [] e = refl
-retired-new (x ∷ l) e =
-    let p = and-true (eqb (x .provenance) 4) (newRows l) e in
-    let here : x .provenance ≡ 4 = eqb-true (x .provenance) 4 (p .0) in
-    ap₂ (λ (n : ℕ) (m : List Row). record { provenance = n; tree = x .tree; coeff = x .coeff } ∷ m) (sym here)
-    (retired-new l (p .1))
 
 pub new-append : (l m : List Row) → newRows l ≡ true → newRows m ≡ true → newRows (l ++ m) ≡ true
 unfolding newRows
@@ -124,11 +109,6 @@ valid-retired f ok =
       records-le = rw (records-retired (f .rows)) (v .records-le);
       rows-ok = rows-ok-retired (f .bitwidth) (f .rows) (v .rows-ok);
     }
-
-pub retired-twice : (f : Form) → retired (retired f) ≡ retired f
-retired-twice f =
-    ap (λ (l : List Row). record { bitwidth = f .bitwidth; constant = f .constant; rows = l })
-    (rows-retired-twice (f .rows))
 
 -- ---- what is read of bytes
 

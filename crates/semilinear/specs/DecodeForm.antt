@@ -41,7 +41,7 @@ unfoldable pub decodeForm : List ℕ → Form
 decodeForm s =
     record { bitwidth = width s; constant = literal s; rows = rowsOf 0 (body s) (afterAtoms (body s)) }
 
--- ---- what is read by all that takes a form's bytes (ticket #107): the same form, each row as a new one
+-- ---- what the passes and the columns read (ticket #107): the same form, with each row as a new one
 
 abbrev pub retiredRow : Row → Row
 retiredRow x = newRow (x .tree) (x .coeff)

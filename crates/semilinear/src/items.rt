@@ -24,7 +24,8 @@ pub fn rest_from(f: &[u8], at: usize) -> &[u8]
     &f[at..]
 }
 
-// The provenance of the atom at the front; a term has 0 there.
+// Byte 1 of the record at the front: 0 to 4 in a head, once the provenance of its atom, and 0 in a
+// term.
 pub fn provenance(r: &[u8]) -> u8
     requires { ⌜ recordLength ≤ length (now r) ⌝ }
     ensures { λ n. ⌜ n ≡ provenance (now (r .entry)) ⌝ }

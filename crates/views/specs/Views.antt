@@ -13,7 +13,7 @@ use Rattle.record.specs.Tree.{Tree}
 use Rattle.record.specs.Tree.Tree.{Constant}
 use Rattle.record.specs.Decode.{decode}
 use Rattle.expr_refusal.specs.Refusal.{treeRefusal}
-use Rattle.semilinear.specs.Form.{Row}
+use Rattle.semilinear.specs.Form.{Row, newRow}
 use Rattle.semilinear.specs.Items.{atomCount}
 use Rattle.semilinear.specs.Valid.{atomsOk}
 use Rattle.semilinear.specs.DecodeForm.{readRow}
@@ -76,7 +76,7 @@ pub record Viewed (only : Tree → Bool) (w : ℕ) (f : List ℕ) (v : View) (x 
 
 -- the row of no number
 unfoldable pub blankRow : Row
-blankRow = record { provenance = 0; tree = Constant 0; coeff = 0 }
+blankRow = newRow (Constant 0) 0
 
 -- v is the view of every row with the tree t and the coefficient c
 abbrev pub ViewsTree : (Tree → Bool) → ℕ → List ℕ → Tree → ℕ → View → Type 0

@@ -17,15 +17,12 @@ use Rattle.atom_table.proofs.pass.copy_atoms.Tie as tie
 body-requires : tie.Need-body-requires
 body-requires c κs = search needs
 
-atom-table-requires : tie.Need-atom-table-requires
-atom-table-requires c κs = search needs
-
 width-requires : tie.Need-width-requires
-width-requires c κs = semilinear-parts _ (c .before .before .before .before .pre .0) .0 .big
+width-requires c κs = semilinear-parts _ (c .before .before .before .pre .0) .0 .big
 
 put-atoms-requires : tie.Need-put-atoms-requires
 put-atoms-requires c κs =
-    let at-body = c .before .before .before in
+    let at-body = c .before .before in
     let at-known = at-body .before .before in
     let at-start = at-known .before in
     let s = now (at-start .args .s) in
@@ -47,22 +44,14 @@ same-length c = search needs
 
 returns : tie.Need-returns
 returns c =
+    let put = c .before .before .put-atoms in
     let at-width = c .before .before .before .before in
-    let found = at-width .before .atom-table in
-    let at-body = at-width .before .before in
+    let at-body = at-width .before in
     let at-known = at-body .before .before in
     let at-start = at-known .before in
     copied (now (at-start .args .s)) (λ i. at-known .shared-slice-known .given i .fits) (at-start .pre .0)
-    (at-body .body .ensures) (found .result) (found .ensures) (at-start .pre .1)
-    (rw (at-width .width .ensures) at (c .before .before .put-atoms .ensures))
+    (at-body .body .ensures) (at-width .width .ensures) (put .result) (put .ensures) (at-start .pre .1)
 
 pub copy-atoms-spec : {M : Type 1} → statement M
 copy-atoms-spec =
-    tie.close
-    (tie.spec
-    body-requires
-    atom-table-requires
-    width-requires
-    put-atoms-requires
-    same-length
-    returns)
+    tie.close (tie.spec body-requires width-requires put-atoms-requires same-length returns)
