@@ -1,7 +1,7 @@
 -- Laws of the atoms that are copied with new heads (specs/Table.antt, `atomSpans`): an accepted atom as a new one, that
 -- all of them are the bytes of the rows that are read, and what holds while they are put one after the other.
 use mathlib.Core.Path.{_≡_, refl, ap, ap₂, sym, _∙_}
-use Prim.Native.Nat.{ℕ, _+_, _*_, _≤_}
+use Prim.Native.Nat.{ℕ, _+_, _≤_}
 use native.Mathlib.Omega.{arith}
 use mathlib.Core.List.{List, [], _++_}
 use mathlib.Core.Bool.{true, false}

@@ -5,18 +5,17 @@ use mathlib.Core.Path.{_≡_, refl, ap, sym, subst, _∙_}
 use Prim.Native.Nat.{ℕ}
 use native.Mathlib.Omega.{arith}
 use mathlib.Core.List.{List, [], _∷_}
-use mathlib.Core.Bool.{Bool, true, false, _&&_}
-use lib.ListN.{length}
+use mathlib.Core.Bool.{true}
 use lib.Dec.{leb}
 use borrow.Author.Tests.{le-leb, leb-true}
 use Rattle.record.specs.Fields.{width}
 use Rattle.record.specs.Span.{body}
 use Rattle.record.specs.Tree.{IsBytes}
-use Rattle.base.specs.Outcome.{Outcome, accepted, refused, refusalOf}
+use Rattle.base.specs.Outcome.{Outcome, accepted, refusalOf}
 use Rattle.base.proofs.BoolLaws.{and-true}
-use Rattle.semilinear.specs.Form.{Row, Form, newRows, formValue, encodeForm, rowsOk, treeRecords, validForm}
-use Rattle.semilinear.specs.Items.{provenance, isAtom, afterAtom}
-use Rattle.semilinear.specs.Valid.{atomOk, atomsOk, knownHeads, newHeads, isSemilinear}
+use Rattle.semilinear.specs.Form.{Row, Form, formValue, encodeForm, rowsOk, validForm}
+use Rattle.semilinear.specs.Items.{provenance}
+use Rattle.semilinear.specs.Valid.{atomsOk, knownHeads, newHeads, isSemilinear}
 use Rattle.semilinear.specs.DecodeForm.{retiredRow, retiredRows, retired, readForm}
 use Rattle.semilinear.specs.Outcome.{formOutcome}
 use Rattle.semilinear.specs.PassOutcome.{readOutcome, passOutcome}

@@ -51,7 +51,6 @@ abbrev allHold : List Example → Bool
 allHold [] = true
 allHold (x ∷ l) = holds x && allHold l
 
-
 abbrev a : Tree
 a = Variable 0
 

@@ -4,7 +4,7 @@ use mathlib.Core.Path.{_≡_, refl, ap, _∙_}
 use Prim.Native.Nat.{ℕ, zero, suc, _+_, _*_, _^_, _≤_, _<_}
 use native.Mathlib.Omega.{arith}
 use mathlib.Core.List.{List, [], _∷_}
-use mathlib.Core.Bool.{Bool, true, false, _&&_, _||_}
+use mathlib.Core.Bool.{Bool, true, false}
 use lib.ListN.{length}
 use lib.Dec.{eqb}
 use Rattle.arith.specs.Congruence.{Eqm}
@@ -14,7 +14,6 @@ use Rattle.arith.proofs.WidthLaws.{mod-add-eqm, mod-add-lt}
 use Rattle.base.specs.Choice.{when}
 use Rattle.base.proofs.BoolLaws.{and-true}
 use Rattle.record.specs.Tree.{Tree}
-use Rattle.record.specs.Tree.Tree.{Constant, Variable, Unary, Binary}
 use Rattle.expr.specs.Value.{value}
 use Rattle.truth.specs.Key.{sameTable}
 use Rattle.truth.proofs.TruthLaws.{table-value}

@@ -4,7 +4,7 @@ use mathlib.Core.Path.{_≡_, refl, ap}
 use Prim.Native.Nat.{ℕ, zero, suc, _+_}
 use mathlib.Core.List.{List, [], _∷_}
 use lib.ListN.{length}
-use Rattle.base.specs.Outcome.{Outcome, accepted}
+use Rattle.base.specs.Outcome.{accepted}
 use Rattle.semilinear.specs.Form.{Row, Form}
 use Rattle.semilinear.specs.DecodeForm.{retiredRows, retired}
 use Rattle.semilinear.proofs.RetiredLaws.{length-retired}

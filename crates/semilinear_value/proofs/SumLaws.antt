@@ -15,11 +15,11 @@ use Rattle.expr.specs.Value.{value}
 use Rattle.semilinear_value.specs.declared.Running.{Running}
 use Rattle.semilinear.specs.Form.{Row, sumRows}
 use Rattle.semilinear.specs.Items.{isAtom, frontNumber, frontWord, atomLength, treeSpan, afterAtom, afterAtoms}
-use Rattle.semilinear.specs.Valid.{atomOk, atomsOk}
+use Rattle.semilinear.specs.Valid.{atomsOk}
 use Rattle.semilinear.specs.DecodeForm.{hasTerm, coeffAt, afterTerm, rowAt, rowsOf}
 use Rattle.semilinear.specs.Scan.{AtomsEnd}
 use Rattle.semilinear_value.specs.Running.{RowPassed, RowAdded}
-use Rattle.semilinear.proofs.ItemsLaws.{atom-room, fold-atom, rows-atom, rows-end, term-big, has-term-is}
+use Rattle.semilinear.proofs.ItemsLaws.{atom-room, rows-atom, rows-end, term-big, has-term-is}
 use Rattle.semilinear.proofs.ItemsLaws.{after-some, after-none}
 use Rattle.semilinear.proofs.ValidLaws.{later-atoms-ok}
 

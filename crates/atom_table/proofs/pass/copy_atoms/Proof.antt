@@ -27,8 +27,7 @@ put-atoms-requires c κs =
     let at-start = at-known .before in
     let s = now (at-start .args .s) in
     let short =
-    length-le s (length-accepted s (λ i. at-known .shared-slice-known .given i .fits) (at-start .pre .0)) in
-    (
+    length-le s (length-accepted s (λ i. at-known .shared-slice-known .given i .fits) (at-start .pre .0)) in (
       rw (at-body .body .ensures, c .before .width .ensures) (semilinear-parts s (at-start .pre .0) .1 .atoms),
       omega (
         arith,

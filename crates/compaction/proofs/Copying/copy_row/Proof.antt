@@ -1,7 +1,6 @@
 -- `Copying::copy_row` meets its contract: the atom is put where it has a term, and left where it has none.
 use Rattle.atom_table.proofs.SpansLaws.{atom-ready}
 use Rattle.compaction.proofs.CompactLaws.{room-with, copied-without, copied-with}
-use Rattle.semilinear.proofs.ItemsLaws.{atom-room}
 use borrow.Author.Tests.{not-true, not-false}
 use mathlib.Core.Path.{ap, sym, _∙_}
 use denote.Ref.{now}
