@@ -19,6 +19,8 @@ function other(file, line, n) {
     if (n == 16 && file == "crates/par/src/main.rt" && line ~ /print_hex/) return 1
     # arguments of a command
     if (n == 256 && file == "crates/passes/src/main.rt") return 1
+    # pairs of the entries of a group
+    if (n == 65536 && line ~ /Step(Ready|ped) w 65536/) return 1
     # how far apart the words of a loop may stand; the folds of links
     if (n == 16 && line ~ /step ≤ 16/) return 1
     if (n == 1024 && line ~ /FOLDS: usize = 1024|^folds = 1024/) return 1
@@ -39,7 +41,7 @@ function other(file, line, n) {
         gsub(/[^0-9]/, "", word)
         n = word + 0
         count++
-        if (n != 16 && n != 256 && n != 1024 && n != 3072 && n != 16384 && n != 16448 && n != 57360) continue
+        if (n != 16 && n != 256 && n != 1024 && n != 3072 && n != 16384 && n != 16448 && n != 57360 && n != 65536) continue
         if (other(FILENAME, line, n)) continue
         printf "check_limits: %s:%d: %d stands here; its name is in crates/base\n", FILENAME, FNR, n > "/dev/stderr"
         faults++

@@ -225,7 +225,7 @@ unfolding bareRows treeRecords
 records-bare [] = refl
 records-bare (x ∷ l) = rw (records-bare l)
 
-length-bare : (l : List Row) → length (bareRows l) ≡ length l
+pub length-bare : (l : List Row) → length (bareRows l) ≡ length l
 unfolding bareRows
 length-bare [] = refl
 length-bare (x ∷ l) = rw (length-bare l)

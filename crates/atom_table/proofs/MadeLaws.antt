@@ -1,5 +1,5 @@
--- What a pass makes of a valid form (compaction/specs/Compact.antt): a valid form of the same width and value, or a
--- refusal, which is not 0; 9 exactly where the table would pass its limits.
+-- What a pass makes of a valid form (semilinear/specs/PassOutcome.antt): a valid form of the same width and value, with
+-- new heads, or a refusal, which is not 0; 9 exactly where the table would pass its limits.
 use mathlib.Core.Path.{_≡_, refl, ap, sym, _∙_}
 use Prim.Native.Nat.{ℕ, _<_}
 use native.Mathlib.Omega.{arith}

@@ -10,7 +10,7 @@ use semilinear::outcome::Answer;
 ghost use mathlib.Core.Path.{_≡_};
 ghost use mathlib.Core.Bool.{true};
 ghost use mathlib.Core.List.{[]};
-ghost use Prim.Native.Nat.{_+_, _<_, _≤_};
+ghost use Prim.Native.Nat.{_+_, _^_, _<_, _≤_};
 ghost use lib.ListN.{length};
 ghost use Rattle.base.specs.Put.{padded};
 ghost use Rattle.semilinear.specs.Valid.{atomsOk, isSemilinear};
@@ -54,7 +54,7 @@ pub fn copy_atoms(s: &[u8], out: &mut [u8]) -> Table
 
 // The term of atom i with the coefficient c is put behind those before it; none where c is 0.
 fn put_row(x: Written, i: u64, c: u64, w: u8, out: &mut [u8]) -> Written
-    requires { ⌜ (x .used + recordLength ≤ length (now out)) × (i < 65536) × (x .terms < 65536) ⌝ }
+    requires { ⌜ (x .used + recordLength ≤ length (now out)) × (i < 2 ^ 16) × (x .terms < 2 ^ 16) ⌝ }
     ensures { λ r. ⌜ TermPut w i c x (now (out .entry)) (now (out .exit)) r ⌝ }
 {
     if c == 0 {

@@ -3,7 +3,7 @@
 use base::limits;
 ghost use mathlib.Core.Path.{_≡_};
 ghost use mathlib.Core.Bool.{true, false};
-ghost use Prim.Native.Nat.{_+_, _<_, _≤_, _-_};
+ghost use Prim.Native.Nat.{_+_, _-_, _^_, _<_, _≤_};
 ghost use lib.ListN.{length};
 ghost use Rattle.record.specs.Span.{sized};
 ghost use Rattle.base.specs.Put.{put};
@@ -30,7 +30,7 @@ pub fn put_atom(out: &mut [u8], at: usize, t: &[u8], hash: u64, w: u8)
 
 // Puts the term of atom i with coefficient c into out from index `at` on.
 pub fn put_term(out: &mut [u8], at: usize, i: u64, c: u64, w: u8)
-    requires { ⌜ (at + recordLength ≤ length (now out)) × (i < 65536) ⌝ }
+    requires { ⌜ (at + recordLength ≤ length (now out)) × (i < 2 ^ 16) ⌝ }
     ensures { λ _. ⌜ now (out .exit) ≡ put (now (out .entry)) at (termBytes w i c) ⌝ }
 {
     record::write::put_record(out, at, 34, 0, i, w, c);

@@ -9,11 +9,12 @@ use lib.Bits.{bitXor}
 use lib.Pow.{field, mod-mod-pow}
 use lib.Seq.{take-at, drop-at}
 use Rattle.arith.proofs.CongruenceLaws.{eqm-mul-r}
-use Rattle.record.specs.Fields.{kind, byte1, size, literal}
+use Rattle.record.specs.Fields.{kind, byte1, varIndex, size, literal}
 use Rattle.record.specs.Span.{body}
 use Rattle.record.specs.Tree.{Tree, sizeOf, recordBytes, encode}
 use Rattle.record.specs.Tree.Tree.{Constant, Variable, Unary, Binary}
 use Rattle.record.proofs.BytesLaws.{kind-record, byte1-record, size-record, literal-record, body-record}
+use Rattle.record.proofs.VariableLaws.{kind-variable, size-variable, index-variable}
 use Rattle.record.proofs.EncodeLaws.{length-encode, size-encode, sizeOf-pos}
 use Rattle.expr.specs.Hash.{mixHash, tagHash, varHash, structuralHash}
 
@@ -60,7 +61,7 @@ sizes-same w t u e = sym (size-encode w t) ∙ ap size e ∙ size-encode w u
 size-behind : (w : ℕ) (s : List ℕ) (t : Tree) → size (s ++ encode w t) ≡ sizeOf t
 unfolding encode sizeOf
 size-behind w s (Constant v) = size-record s 0 0 1 w v
-size-behind w s (Variable i) = size-record s 1 i 1 w 0
+size-behind w s (Variable i) = size-variable w i s
 size-behind w s (Unary k a t) =
     ap size (sym (append-assoc s (encode w t) (recordBytes k a (sizeOf t + 1) w 0)))
     ∙ size-record (s ++ encode w t) k a (sizeOf t + 1) w 0
@@ -114,15 +115,15 @@ pub same-hash : (w : ℕ) (t u : Tree) → encode w t ≡ encode w u → structu
 unfolding encode sizeOf structuralHash
 same-hash w (Constant v) (Constant x) e = literal-hash w v x e
 same-hash w (Constant v) (Variable i) e =
-    absurd (omega (arith, kind-record [] 0 0 1 w v, kind-record [] 1 i 1 w 0, ap kind e))
+    absurd (omega (arith, kind-record [] 0 0 1 w v, kind-variable w i, ap kind e))
 same-hash w (Constant v) (Unary k a u) e =
     absurd (omega (arith, sizes-same w (Constant v) (Unary k a u) e, sizeOf-pos u))
 same-hash w (Constant v) (Binary k l r) e =
     absurd (omega (arith, sizes-same w (Constant v) (Binary k l r) e, sizeOf-pos l))
 same-hash w (Variable i) (Constant x) e =
-    absurd (omega (arith, kind-record [] 1 i 1 w 0, kind-record [] 0 0 1 w x, ap kind e))
+    absurd (omega (arith, kind-variable w i, kind-record [] 0 0 1 w x, ap kind e))
 same-hash w (Variable i) (Variable j) e =
-    ap varHash (sym (byte1-record [] 1 i 1 w 0) ∙ ap byte1 e ∙ byte1-record [] 1 j 1 w 0)
+    ap varHash (sym (index-variable w i) ∙ ap varIndex e ∙ index-variable w j)
 same-hash w (Variable i) (Unary k a u) e =
     absurd (omega (arith, sizes-same w (Variable i) (Unary k a u) e, sizeOf-pos u))
 same-hash w (Variable i) (Binary k l r) e =

@@ -12,9 +12,9 @@ exprRecords = 1024
 abbrev pub exprBytes : ℕ
 exprBytes = 16384
 
--- variables have numbers below this
+-- variables have numbers below this: two bytes
 abbrev pub varLimit : ℕ
-varLimit = 256
+varLimit = 65536
 
 -- the atoms of a semilinear form (document 01: sheet), the records of their trees, and the form's bytes
 abbrev pub atomLimit : ℕ

@@ -8,6 +8,9 @@ pub const EXPR_RECORDS: usize = 1024;
 
 pub const EXPR_BYTES: usize = EXPR_RECORDS * RECORD_LENGTH;
 
+// Variables have numbers below this: two bytes.
+pub const VAR_LIMIT: u64 = 65536;
+
 // The atoms of a semilinear form (document 01: sheet), the records of their trees, and the form's
 // bytes: a head and a term for each atom, the trees, and the sum record.
 pub const ATOM_LIMIT: usize = 256;

@@ -6,7 +6,7 @@ use Prim.Native.Nat.{ℕ, _+_, _-_, _^_, _≤_, _<_}
 use native.Mathlib.Omega.{arith}
 use mathlib.Core.List.{List, [], _∷_, _++_}
 use mathlib.Core.Bool.{Bool, true, false}
-use lib.ListN.{length, getD, length-append, length-set}
+use lib.ListN.{length, getD, length-set}
 use lib.Dec.{eqb, ltb}
 use borrow.Author.Tests.{eq-eqb, ne-eqb, ltb-true}
 use Rattle.base.specs.Choice.{when}
@@ -19,7 +19,7 @@ use Rattle.atom_table.specs.Terms.{coeffsOf}
 use Rattle.made.specs.Rows.{createRow, maskedTree, createMasked, addCoeff}
 use Rattle.made.specs.Made.{tableOf, Room, Grew}
 use Rattle.group.specs.Gathered.{addWord}
-use Rattle.made.proofs.CoeffsLaws.{create-past, coeffs-create, fits-length, fits-less}
+use Rattle.made.proofs.CoeffsLaws.{length-create, create-past, coeffs-create, fits-length, fits-less}
 use Rattle.group.proofs.SettleLaws.{add-length}
 use Rattle.group.proofs.ShownLaws.{add-fits, shown-add}
 use Rattle.structure_laws.specs.RecoverStructure.{rowWith, withBare}
@@ -36,13 +36,9 @@ module _ (t : Tree) (l : List Row) where
   unfolding createRow
   create-fits h = fits-less l (newRow t 0 ∷ []) h
 
-  create-length : length (createRow t l) ≡ length l + 1
-  unfolding createRow
-  create-length = length-append l (newRow t 0 ∷ [])
-
   create-coeffs : fitsTable (createRow t l) ≡ true
       → padded 256 (coeffsOf (createRow t l)) ≡ padded 256 (coeffsOf l)
-  create-coeffs h = coeffs-create 256 t l (omega (arith, create-length, fits-length (createRow t l) h))
+  create-coeffs h = coeffs-create 256 t l (omega (arith, length-create t l, fits-length (createRow t l) h))
 
 -- ---- the row of the basis alone
 
@@ -78,13 +74,13 @@ module _ (w : ℕ) (t : Tree) where
     unfolding withBare
     bare-lt =
         when-both (λ (m : List Row). rowWith w t 0 l < length m) (ltb (rowWith w t 0 l) (length l)) l (createRow t l)
-        (λ e. ltb-true _ _ e) (λ _. omega (arith, with-le l 0, create-length t l))
+        (λ e. ltb-true _ _ e) (λ _. omega (arith, with-le l 0, length-create t l))
 
     bare-longer : length l ≤ length (withBare w t l)
     unfolding withBare
     bare-longer =
         when-both (λ (m : List Row). length l ≤ length m) (ltb (rowWith w t 0 l) (length l)) l (createRow t l)
-        (λ _. omega arith) (λ _. omega (arith, create-length t l))
+        (λ _. omega arith) (λ _. omega (arith, length-create t l))
 
 -- ---- the new terms
 
@@ -119,7 +115,7 @@ module _ (w : ℕ) (t : Tree) where
         (λ _. omega (
           arith,
           add-length w [] hw c (length l) (createMasked w t m l),
-          create-length (maskedTree w t m) l,
+          length-create (maskedTree w t m) l,
         ))
 
   rows-first : (x : Carried) (l : List Carried) (rows : List Row)
@@ -246,7 +242,7 @@ module _ (w c m : ℕ) (t : Tree) (hw : w ≤ 64) {made out coeffs made′ out�
             let u : Tree = maskedTree w t m in
             rw (row-masked w t c m l nm)
             (shows-shown
-            (shown-add w c (length l) (createMasked w t m l) hw (omega (arith, create-length u l)) (g .held l (h .held))
+            (shown-add w c (length l) (createMasked w t m l) hw (omega (arith, length-create u l)) (g .held l (h .held))
             (λ f. h .terms (create-fits u l f) ∙ sym (create-coeffs u l f)) at-row));
       }
 

@@ -6,11 +6,13 @@ use Rattle.arith.specs.Bit.{bitAt}
 use Rattle.arith.specs.Effective.{effectiveMask, reduceMask, canChangeCoefficientTo}
 use Rattle.arith.specs.Width.{bitmask, modAdd, modSub, modMul, modNeg}
 use Rattle.base.specs.Lists.{eqList}
-use Rattle.record.specs.Tree.{sizeOf, recordBytes, encode}
-use Rattle.record.specs.Fields.{u16, u32, u64, kind, byte1, varIndex, amount, size, width, spare, literal, arity}
+use Rattle.record.specs.Tree.{sizeOf, recordBytes, variableBytes, encode}
+use Rattle.record.specs.Fields.{u16, u32, u64, kind, byte1, byte5, varIndex, amount, size, width, spareHigh, spare}
+use Rattle.record.specs.Fields.{literal, arity}
 use Rattle.record.specs.Span.{cut, body, left, right, step, stepsF, fold}
 use Rattle.record.specs.Decode.{leaf}
-use Rattle.expr_refusal.specs.Refusal.{lowest, usesByte1, fieldsOk, sizeOk, formOk, widthOk, rootRefusal, exprRefusal}
+use Rattle.expr_refusal.specs.Refusal.{lowest, usesByte1, fieldsOk, unused, sizeOk, formOk, widthOk, rootRefusal}
+use Rattle.expr_refusal.specs.Refusal.{exprRefusal}
 use Rattle.expr.specs.Hash.{mixHash, tagHash, varHash, structuralHash}
 use Rattle.expr_utils.specs.Utils.{hasKind, isArith, isBitwise, hasArith, hasConstantArith}
 use Rattle.expr.specs.Value.{unary, binary, value}
@@ -65,13 +67,13 @@ use Rattle.claims.specs.Example.{sameOutcome, allHold}
 use Rattle.claims.specs.Examples.{starred, tricky}
 use Rattle.claims.specs.Slips.{slips}
 use Rattle.claims.specs.Wide.{wideNormal, widePasses, wide}
-use Rattle.claims.specs.OnBytes.{onBytes, savedHeads, refusals, orders}
+use Rattle.claims.specs.OnBytes.{onBytes, savedHeads, pastByte, refusals, orders}
 
 -- all that computing an example opens
 opened : Unit {0}
 unfolding trailingZeros onesIn bitAt effectiveMask reduceMask canChangeCoefficientTo bitmask modAdd modSub
-    modMul modNeg eqList sizeOf recordBytes encode mixHash tagHash varHash structuralHash hasKind isArith isBitwise
-    hasArith hasConstantArith unary binary value nextVar supportF support sameVars decomposeAnd decomposeAtom
+    modMul modNeg eqList sizeOf recordBytes variableBytes encode mixHash tagHash varHash structuralHash hasKind isArith
+    isBitwise hasArith hasConstantArith unary binary value nextVar supportF support sameVars decomposeAnd decomposeAtom
     termCount atomBytes atomsBytes termBytes termsBytes sumBytes encodeForm eqTree treeRecords fitsTable at putEntry
     emptyGroup pushEntry isLive consumed work onGroup createRow maskedTree createMasked viewRow anyBasis variableBasis
     insertBasis basesOf groupOf ungrouped addCoeff settleAt settle turnsF forIn firstF firstIn formOutcome limitOutcome
@@ -106,9 +108,9 @@ wide-hold = refl
 
 -- what reading and writing bytes opens besides
 openedBytes : Unit {0}
-unfolding opened u16 u32 u64 kind byte1 varIndex amount size width spare literal arity cut body left right step stepsF
-    fold leaf lowest usesByte1 fieldsOk sizeOk formOk widthOk rootRefusal exprRefusal frontKind provenance frontNumber
-    frontWidth frontSpare frontWord atomLength isAtom treeSpan afterAtom atomsF foldAtoms isTerm atomTreeOk treeOk
+unfolding opened u16 u32 u64 kind byte1 byte5 varIndex amount size width spareHigh spare literal arity cut body left
+    right step stepsF fold leaf lowest usesByte1 fieldsOk unused sizeOk formOk widthOk rootRefusal exprRefusal frontKind
+    provenance frontNumber frontWidth frontSpare frontWord atomLength isAtom treeSpan afterAtom atomsF foldAtoms isTerm atomTreeOk treeOk
     atomOk termOk termsOkF termsOk sumOk frontOk isSemilinear lengthRefused hasTerm coeffAt afterTerm rowAt rowsF
     rowsOf decodeForm retiredRows usedRows compactForm passOutcome compactAtomTable normalizeToSemilinear
     refineTerms coalesceTerms flattenComplexAtoms recoverStructure computePartitions passGives useOf afterCall inUse
@@ -117,6 +119,10 @@ openedBytes = tt
 on-bytes-hold : allHold onBytes ≡ true
 unfolding openedBytes onBytes
 on-bytes-hold = refl
+
+past-byte-hold : allHold pastByte ≡ true
+unfolding openedBytes pastByte
+past-byte-hold = refl
 
 saved-heads-hold : allHold savedHeads ≡ true
 unfolding openedBytes savedHeads

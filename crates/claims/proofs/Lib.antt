@@ -1,6 +1,8 @@
--- The worked examples computed, the claim about any list of calls, and what the atoms of a valid form hold.
+-- The worked examples computed, the claim about any list of calls, what the atoms of a valid form hold, byte 1 of
+-- heads, and variables of one byte and of two.
 mod ExamplesLaws
 pub mod CallsLaws
 pub mod NormalizedLaws
 pub mod AtomsLaws
 pub mod HeadsLaws
+pub mod VariablesLaws

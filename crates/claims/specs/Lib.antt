@@ -1,5 +1,5 @@
 -- The worked examples of document 01 (starred puzzles), cases that are easy to get wrong, at 63 and 64 bits and on
--- bytes, and any list of calls.
+-- bytes; any list of calls; byte 1 of heads; and the bytes of files before variables had two.
 pub mod Example
 pub mod Examples
 pub mod Slips
@@ -9,3 +9,4 @@ pub mod Calls
 pub mod Normalized
 pub mod Atoms
 pub mod Heads
+pub mod Variables

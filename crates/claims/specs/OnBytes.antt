@@ -1,10 +1,10 @@
 -- Worked examples on bytes: an expression file or the bytes of a form in, and the bytes, numbers or refusal that the
 -- definitions of the entry points give (w = 8, a is v0, b is v1). Starred puzzles of each kind, document 01's examples
--- of refusals, sheets saved with old heads, and two lists of calls.
+-- of refusals, sheets saved with old heads, variables past 255, and two lists of calls.
 use Prim.Native.Nat.{ℕ}
 use mathlib.Core.List.{List, [], _∷_, _++_}
 use mathlib.Core.Bool.{Bool, true, false}
-use lib.ListN.{replicate}
+use lib.ListN.{take, drop, replicate}
 use Rattle.record.specs.Tree.{Tree, recordBytes, encode}
 use Rattle.record.specs.Tree.Tree.{Constant, Variable, Unary, Binary}
 use Rattle.semilinear.specs.Form.{Row, Form, atomsBytes, termBytes, sumBytes, encodeForm}
@@ -106,6 +106,61 @@ savedHeads =
     -- 5 is no byte of a head
     ∷ stops compact-atom-table (encodeForm (sheet (saved 5 a 1 ∷ []))) whole 10
     ∷ stops flatten-complex-atoms (encodeForm (sheet (row a 1 ∷ saved 255 b 2 ∷ []))) whole 10
+    ∷ []
+
+-- ---- variables past 255 (ticket #101)
+
+abbrev v : ℕ → Tree
+v i = Variable i
+
+-- c·(v i & m)
+abbrev part : ℕ → ℕ → ℕ → Row
+part i m c = row (mask (v i) m) c
+
+-- c·(v & m) of variables that have a byte in common with another
+abbrev some : ℕ → ℕ → List Row
+some m c = part 0 m c ∷ part 255 m c ∷ part 256 m c ∷ part 65535 m c ∷ []
+
+-- the same bytes with 1 in byte 5, and the parts of the form 1 a
+abbrev withByte5 : List ℕ → List ℕ
+withByte5 s = take 5 s ++ (1 ∷ drop 6 s)
+
+abbrev atom : List ℕ
+atom = atomsBytes 8 (row a 1 ∷ [])
+
+abbrev one : List ℕ
+one = termBytes 8 0 1
+
+abbrev sum : List ℕ
+sum = sumBytes 8 0
+
+unfoldable pub pastByte : List Example
+pastByte =
+    -- v256 beside v0: two atoms, and one of both
+    normalizes (Binary 2 (v 256) (Binary 3 (Constant 2) (v 0))) (sheet (row (v 256) 1 ∷ row (v 0) 2 ∷ []))
+    ∷ normalizes (Binary 6 (v 256) (v 0)) (sheet (row (Binary 6 (v 256) (v 0)) 1 ∷ []))
+    -- groups by their hashes, which rise from v0 by v255 and v65535 to v256
+    ∷ makes refine-terms (sheet (some 255 16))
+    (sheet (some 255 0 ++ (part 0 15 16 ∷ part 255 15 16 ∷ part 65535 15 16 ∷ part 256 15 16 ∷ []))) false
+    ∷ makes coalesce-terms (sheet (part 256 15 1 ∷ part 65535 15 2 ∷ part 256 240 1 ∷ part 65535 240 2 ∷ []))
+    (sheet
+    (part 256 15 0 ∷ part 65535 15 0 ∷ part 256 240 0 ∷ part 65535 240 0 ∷ row (v 65535) 2 ∷ row (v 256) 1 ∷ []))
+    false
+    ∷ makes recover-structure (sheet (part 65535 252 1 ∷ part 65535 3 255 ∷ []))
+    (form 8 253 (part 65535 252 0 ∷ part 65535 3 0 ∷ row (Binary 6 (Constant 3) (v 65535)) 1 ∷ [])) false
+    -- an atom of v65535 alone, and of v256
+    ∷ makes flatten-complex-atoms (form 8 7 (row (Unary 7 0 (v 65535)) 3 ∷ row (Unary 7 0 (v 256)) 1 ∷ []))
+    (form 8 3 (row (Unary 7 0 (v 65535)) 0 ∷ row (Unary 7 0 (v 256)) 0 ∷ row (v 65535) 253 ∷ row (v 256) 255 ∷ [])) true
+    ∷ makes compact-atom-table (sheet (row (v 256) 0 ∷ row (v 65535) 2 ∷ [])) (sheet (row (v 65535) 2 ∷ [])) false
+    -- bits 0 to 3 of v256 ^ v65535
+    ∷ record {
+      got = computePartitions (encodeForm (sheet (row (mask (Binary 6 (v 256) (v 65535)) 15) 1 ∷ []))) columnWords;
+      want = accepted (15 ∷ 6 ∷ 240 ∷ 0 ∷ []) (2 ∷ []);
+    }
+    -- byte 5 of a head, of a term and of the sum
+    ∷ stops compact-atom-table ((withByte5 atom ++ one) ++ sum) whole 10
+    ∷ stops compact-atom-table ((atom ++ withByte5 one) ++ sum) whole 10
+    ∷ stops compact-atom-table ((atom ++ one) ++ withByte5 sum) whole 10
     ∷ []
 
 -- ---- refusals

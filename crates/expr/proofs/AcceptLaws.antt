@@ -11,22 +11,25 @@ use lib.Dec.{lit<}
 use lib.ListN.{length, drop, length-append}
 use borrow.Author.Tests.{eq-eqb, ne-eqb}
 use Rattle.record.specs.Fields.{kind, byte1, varIndex, amount, size, width, literal, arity}
-use Rattle.record.specs.Tree.{Tree, sizeOf, recordBytes, encode, IsBytes}
+use Rattle.record.specs.Tree.{Tree, sizeOf, recordBytes, variableBytes, encode, IsBytes}
 use Rattle.record.specs.Tree.Tree.{Constant, Variable, Unary, Binary}
 use Rattle.record.specs.Span.{body, left, right}
 use Rattle.record.specs.Decode.{leaf, decode}
 use Rattle.record.proofs.FieldsLaws.{kind-of-arity-zero, kind-of-arity-one, kind-of-arity-two}
-use Rattle.record.proofs.FieldsLaws.{arity-two, arity-zero-of-lt}
+use Rattle.record.proofs.FieldsLaws.{arity-two}
 use Rattle.record.proofs.SpanLaws.{cut-le, length-body, length-left, length-right, split-one, split-two}
 use Rattle.record.proofs.SpanLaws.{fold-leaf, fold-one, fold-two, span-ind}
 use Rattle.record.proofs.BytesLaws.{length-record, record-big, kind-record, byte1-record, size-record, width-record}
 use Rattle.record.proofs.BytesLaws.{spare-record, literal-record, body-record, last-record}
+use Rattle.record.proofs.VariableLaws.{length-variable, kind-variable, size-variable, width-variable}
+use Rattle.record.proofs.VariableLaws.{spare-high-variable, literal-variable, variable-record}
 use Rattle.record.proofs.BytesLaws.{bytes-body, bytes-left, bytes-right, literal-lt, var-index-lt}
 use Rattle.record.proofs.EncodeLaws.{length-encode, width-encode, left-joined, right-joined, sizeOf-pos}
-use Rattle.expr_refusal.specs.Refusal.{usesByte1, fieldsOk, rootRefusal, treeRefusal, exprRefusal, isExpr}
+use Rattle.expr_refusal.specs.Refusal.{usesByte1, fieldsOk, unused, rootRefusal, treeRefusal, exprRefusal, isExpr}
 use Rattle.expr.specs.Value.{value}
 use Rattle.expr.specs.ExprValue.{exprValue}
-use Rattle.expr_refusal.proofs.RefusalLaws.{lowest-none, Root, fields-literal, fields-byte1, fields-inner, zero-of-root}
+use Rattle.expr_refusal.proofs.RefusalLaws.{lowest-none, Root, root-spare, fields-literal, fields-byte1, fields-inner}
+use Rattle.expr_refusal.proofs.RefusalLaws.{zero-of-root}
 use Rattle.expr_refusal.proofs.RefusalLaws.{accepted-big, accepted-root, accepted-body, accepted-left, accepted-right}
 use Rattle.expr.proofs.IsExprLaws.{constant-of-expr, expr-of-constant, expr-of-variable}
 use Rattle.expr.proofs.IsExprLaws.{unary-of-expr, expr-of-unary, unary-arity}
@@ -52,7 +55,7 @@ module _ (w : ℕ) where
   sound-none s small h e = absurd (omega (arith, accepted-big w s e))
 
   sound-leaf : (s : List ℕ) → 16 ≤ length s → arity (kind s) ≡ 0 → Sound s
-  unfolding Sound encode leaf varIndex
+  unfolding Sound encode leaf unused
   sound-leaf s big a h e = go (ℕ-discrete (kind s) 0)
     where
       ro : Root w s
@@ -67,19 +70,22 @@ module _ (w : ℕ) where
       one : size s ≡ 1
       one = omega (arith, len, ro .length-size)
 
-      all : recordBytes (kind s) (byte1 s) (size s) (width s) (literal s) ≡ s
-      all = rw len at (last-record s big h (ro .unused))
-
       go : Dec (kind s ≡ 0) → Meant w s
       go (yes k0) =
           let d : decode s ≡ Constant (literal s) = fold-leaf _ _ _ _ s big a ∙ simp (eq-eqb _ _ k0) in
           let b : byte1 s ≡ 0 = fields-byte1 _ _ _ (ro .fields) (omega arith) (omega arith) in
+          let z = root-spare w s ro (λ k1. omega arith) in
+          let all : recordBytes (kind s) (byte1 s) (size s) (width s) (literal s) ≡ s =
+          rw len at (last-record s big h z) in
           record { same = rw d (cc (all, k0, b, one, ro .wide)); expr = rw d (expr-of-constant _ (literal-lt s h)) }
       go (no p) =
           let d : decode s ≡ Variable (varIndex s) = fold-leaf _ _ _ _ s big a ∙ simp (ne-eqb _ _ p) in
           let k1 : kind s ≡ 1 = omega (arith, low) in
           let v : literal s ≡ 0 = fields-literal _ _ _ (ro .fields) p in
-          record { same = rw d (cc (all, k1, v, one, ro .wide)); expr = rw d (expr-of-variable _ (var-index-lt s h)) }
+          let z = simp (eq-eqb (kind s) 1 k1) at (ro .clear) in
+          let all : variableBytes (width s) (varIndex s) ≡ s =
+          variable-record s record { long = len; bytes = h; is-variable = k1; one = one; unused = z; none = v } in
+          record { same = rw d (cc (all, ro .wide)); expr = rw d (expr-of-variable _ (var-index-lt s h)) }
 
   sound-one : (s : List ℕ) → 16 ≤ length s → arity (kind s) ≡ 1 → Sound (body s) → Sound s
   unfolding Sound encode amount
@@ -92,7 +98,7 @@ module _ (w : ℕ) where
       let n : sizeOf (decode (body s)) + 1 ≡ size s =
       omega (arith, meant-size w _ m, length-body s, ro .length-size) in
       let last : recordBytes (kind s) (byte1 s) (size s) w 0 ≡ drop (length s - 16) s =
-      rw (v, ro .wide) at (last-record s big h (ro .unused)) in
+      rw (v, ro .wide) at (last-record s big h (root-spare w s ro (λ k1. omega arith))) in
       let plain : kind s < 9 → byte1 s ≡ 0 = fields-byte1 _ _ _ (ro .fields) (omega arith) in
       record {
         same = rw (d, m .same, n, last) (split-one s);
@@ -116,7 +122,7 @@ module _ (w : ℕ) where
       let n : sizeOf (decode (left s)) + sizeOf (decode (right s)) + 1 ≡ size s =
       omega (arith, meant-size w _ ml, meant-size w _ mr, length-left s, length-right s, cut-le s, ro .length-size) in
       let last : recordBytes (kind s) 0 (size s) w 0 ≡ drop (length s - 16) s =
-      rw (v, b, ro .wide) at (last-record s big h (ro .unused)) in
+      rw (v, b, ro .wide) at (last-record s big h (root-spare w s ro (λ k1. omega arith))) in
       record {
         same = rw (d, ml .same, mr .same, n, last) (split-two s);
         expr =
@@ -143,10 +149,10 @@ module _ (w : ℕ) (s : List ℕ) (h : IsBytes s) (e : treeRefusal w s ≡ 0) wh
 
 module _ (w : ℕ) (pos : 1 ≤ w) (le : w ≤ 64) where
   -- no refusal applies to the root of a span that ends in a record
-  root-accept : (f : List ℕ) (k a n v : ℕ) → k ≤ 9 → n * 16 ≡ length f + 16 → (k < 2 → length f ≡ 0)
+  root-accept : (f : List ℕ) (k a n v : ℕ) → k ≤ 9 → (k ≡ 1 → ⊥) → n * 16 ≡ length f + 16 → (k < 2 → length f ≡ 0)
       → v < 2 ^ 64 → fieldsOk k a v ≡ true → (k ≡ 9 → a < 64) → rootRefusal w (f ++ recordBytes k a n w v) ≡ 0
-  unfolding amount
-  root-accept f k a n v known sized short h fields shr =
+  unfolding amount unused
+  root-accept f k a n v known other sized short h fields shr =
       let hk = kind-record f k a n w v in
       let ha = byte1-record f k a n w v in
       let len = length-record f k a n w v in
@@ -158,27 +164,49 @@ module _ (w : ℕ) (pos : 1 ≤ w) (le : w ≤ 64) where
         wide = width-record f k a n w v;
         width-pos = pos;
         width-le = le;
-        unused = spare-record f k a n w v;
+        clear = simp (hk, ne-eqb k 1 other) (spare-record f k a n w v);
         fields = rw (hk, ha, literal-record f k a n w v h) fields;
         shift = rw (hk, ha) shr;
       }
 
-  leaf-accept : (k a v : ℕ) → k < 2 → v < 2 ^ 64 → fieldsOk k a v ≡ true → treeRefusal w (recordBytes k a 1 w v) ≡ 0
-  leaf-accept k a v l h fields =
-      fold-leaf _ _ _ _ (recordBytes k a 1 w v) (record-big [] k a 1 w v)
-      (ap arity (kind-record [] k a 1 w v) ∙ arity-zero-of-lt k l)
-      ∙ root-accept [] k a 1 v (omega arith) refl (λ _. refl) h fields (λ e. absurd (omega arith))
+  literal-accept : (v : ℕ) → v < 2 ^ 64 → treeRefusal w (recordBytes 0 0 1 w v) ≡ 0
+  unfolding arity fieldsOk usesByte1
+  literal-accept v h =
+      fold-leaf _ _ _ _ (recordBytes 0 0 1 w v) (record-big [] 0 0 1 w v) (ap arity (kind-record [] 0 0 1 w v))
+      ∙ root-accept [] 0 0 1 v (omega arith) (λ e. omega arith) refl (λ _. refl) h refl (λ e. absurd (omega arith))
+
+  variable-accept : (i : ℕ) → treeRefusal w (variableBytes w i) ≡ 0
+  unfolding arity amount unused fieldsOk usesByte1
+  variable-accept i =
+      let s : List ℕ = variableBytes w i in
+      let len : length s ≡ 16 = length-variable w i in
+      let hk : kind s ≡ 1 = kind-variable w i in
+      let hn : size s ≡ 1 = size-variable w i [] in
+      fold-leaf _ _ _ _ s (omega arith) (ap arity hk)
+      ∙ zero-of-root w s
+      record {
+        known = omega arith;
+        length-size = omega arith;
+        leaf-length = λ _. len;
+        wide = width-variable w i;
+        width-pos = pos;
+        width-le = le;
+        clear = simp hk (spare-high-variable w i);
+        fields = simp (hk, literal-variable w i);
+        shift = λ e. absurd (omega arith);
+      }
 
   -- the root of an encoding with children below it
   inner-accept : (f : List ℕ) (k a n : ℕ) → 2 ≤ k → k ≤ 9 → n * 16 ≡ length f + 16 → (k < 9 → a ≡ 0)
       → (k ≡ 9 → a < 64) → rootRefusal w (f ++ recordBytes k a n w 0) ≡ 0
   inner-accept f k a n low known sized plain shr =
-      root-accept f k a n 0 known sized (λ h. absurd (omega arith)) (lit< tt) (fields-inner k a known plain) shr
+      root-accept f k a n 0 known (λ e. omega arith) sized (λ h. absurd (omega arith)) (lit< tt)
+      (fields-inner k a known plain) shr
 
   pub expr-accept : (t : Tree) → isExpr t ≡ true → treeRefusal w (encode w t) ≡ 0
-  unfolding encode fieldsOk usesByte1
-  expr-accept (Constant v) e = leaf-accept 0 0 v (lit< tt) (constant-of-expr v e) refl
-  expr-accept (Variable i) e = leaf-accept 1 i 0 (lit< tt) (lit< tt) refl
+  unfolding encode
+  expr-accept (Constant v) e = literal-accept v (constant-of-expr v e)
+  expr-accept (Variable i) e = variable-accept i
   expr-accept (Unary k a t) e =
       let u = unary-of-expr k a t e in
       let n : ℕ = sizeOf t + 1 in

@@ -8,6 +8,7 @@ use mathlib.Core.List.{_++_}
 use mathlib.Core.Bool.{Bool, true, _&&_, _||_, and-false, or-false}
 use lib.Dec.{eqb, ltb, lit<}
 use borrow.Author.Tests.{eqb-true, ltb-true, ne-eqb, lt-ltb}
+use Rattle.base.specs.Limits.{varLimit}
 use Rattle.record.specs.Fields.{arity}
 use Rattle.record.specs.Tree.{Tree, sizeOf, encode, IsBytes, Encodable}
 use Rattle.record.specs.Tree.Tree.{Constant, Variable, Unary, Binary}
@@ -15,6 +16,7 @@ use Rattle.record.specs.Decode.{decode}
 use Rattle.record.proofs.FieldsLaws.{arity-one-of-le, arity-two-of-le}
 use Rattle.base.proofs.BoolLaws.{false-true, and-true, or-cases}
 use Rattle.record.proofs.BytesLaws.{bytes-append, bytes-record}
+use Rattle.record.proofs.VariableLaws.{bytes-variable}
 use Rattle.record.proofs.EncodeLaws.{encoded}
 use Rattle.expr_refusal.specs.Refusal.{isExpr}
 use Rattle.expr.specs.Vars.{occurs}
@@ -27,13 +29,13 @@ pub expr-of-constant : (v : ℕ) → v < 2 ^ 64 → isExpr (Constant v) ≡ true
 unfolding isExpr
 expr-of-constant v h = lt-ltb v (2 ^ 64) h
 
-pub variable-of-expr : (i : ℕ) → isExpr (Variable i) ≡ true → i < 256
+pub variable-of-expr : (i : ℕ) → isExpr (Variable i) ≡ true → i < varLimit
 unfolding isExpr
-variable-of-expr i e = ltb-true i 256 e
+variable-of-expr i e = ltb-true i varLimit e
 
-pub expr-of-variable : (i : ℕ) → i < 256 → isExpr (Variable i) ≡ true
+pub expr-of-variable : (i : ℕ) → i < varLimit → isExpr (Variable i) ≡ true
 unfolding isExpr
-expr-of-variable i h = lt-ltb i 256 h
+expr-of-variable i h = lt-ltb i varLimit h
 
 -- a root with one child: Not and Neg, which have no amount, and Shr
 pub record UnaryExpr (k a : ℕ) (t : Tree) : Type 0 where
@@ -134,7 +136,7 @@ decode-encode w t e = encoded w t (expr-encodable t e) .back
 pub bytes-encode : (w : ℕ) (t : Tree) → isExpr t ≡ true → w < 256 → sizeOf t < 2 ^ 16 → IsBytes (encode w t)
 unfolding encode sizeOf
 bytes-encode w (Constant v) e hw hn = bytes-record 0 0 1 w v (lit< tt) (lit< tt) hn hw
-bytes-encode w (Variable i) e hw hn = bytes-record 1 i 1 w 0 (lit< tt) (variable-of-expr i e) hn hw
+bytes-encode w (Variable i) e hw hn = bytes-variable w i (variable-of-expr i e) hw
 bytes-encode w (Unary k a t) e hw hn =
     let u = unary-of-expr k a t e in
     bytes-append (encode w t) _ (bytes-encode w t (u .child) hw (omega arith))
@@ -146,8 +148,8 @@ bytes-encode w (Binary k l r) e hw hn =
     bytes-append (encode w l ++ encode w r) _ (bytes-append (encode w l) (encode w r) el er)
     (bytes-record k 0 (sizeOf l + sizeOf r + 1) w 0 (omega (arith, b .high)) (lit< tt) hn hw)
 
--- the variables of an expression have one byte
-pub occurs-lt : (i : ℕ) (t : Tree) → isExpr t ≡ true → occurs i t ≡ true → i < 256
+-- the variables of an expression have two bytes
+pub occurs-lt : (i : ℕ) (t : Tree) → isExpr t ≡ true → occurs i t ≡ true → i < varLimit
 unfolding occurs
 occurs-lt i (Constant v) e o = false-true o
 occurs-lt i (Variable j) e o = let f : j ≡ i = eqb-true j i o in omega (arith, variable-of-expr j e)

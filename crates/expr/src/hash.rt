@@ -6,7 +6,7 @@ ghost use lib.ListN.{length};
 ghost use Rattle.record.specs.Span.{sized};
 ghost use Rattle.record.specs.Decode.{leaf, decode};
 ghost use Rattle.expr.specs.Hash.{mixHash, tagHash, varHash, structuralHash};
-ghost use Rattle.base.specs.Limits.{recordLength};
+ghost use Rattle.base.specs.Limits.{recordLength, varLimit};
 
 // A hash with a child's hash x joined to it.
 pub fn mix_hash(h: u64, x: u64) -> u64
@@ -27,7 +27,7 @@ pub fn tag_hash(k: u8, v: u64) -> u64
 
 // The hash of the variable i.
 fn var_hash(i: u64) -> u64
-    requires { ⌜ i < 65536 ⌝ }
+    requires { ⌜ i < varLimit ⌝ }
     ensures { λ r. ⌜ r ≡ varHash i ⌝ }
 {
     1 ^ arith::wrapping_mul(i + 1, 0x517C_C1B7_2722_0A95)

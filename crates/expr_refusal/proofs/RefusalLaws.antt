@@ -14,8 +14,8 @@ use Rattle.record.specs.Span.{body, left, right, sized}
 use Rattle.record.proofs.SpanLaws.{fold-none, fold-leaf, fold-one, fold-two, span-ind}
 use Rattle.base.proofs.BoolLaws.{false-true, and-true}
 use Rattle.record.proofs.FieldsLaws.{kind-of-arity-zero}
-use Rattle.expr_refusal.specs.Refusal.{lowest, usesByte1, fieldsOk, sizeOk, formOk, widthOk, rootRefusal}
-use Rattle.expr_refusal.specs.Refusal.{treeRefusal}
+use Rattle.expr_refusal.specs.Refusal.{lowest, usesByte1, fieldsOk, unused, sizeOk, formOk, widthOk}
+use Rattle.expr_refusal.specs.Refusal.{rootRefusal, treeRefusal}
 
 -- neither of two refusals
 pub lowest-zero : (a b : ℕ) → lowest a b ≡ 0 → (a ≡ 0) × (b ≡ 0)
@@ -42,9 +42,14 @@ pub record Root (w : ℕ) (s : List ℕ) : Type 0 where
   pub wide : width s ≡ w
   pub width-pos : 1 ≤ w
   pub width-le : w ≤ 64
-  pub unused : spare s ≡ 0
+  pub clear : unused s ≡ 0
   pub fields : fieldsOk (kind s) (byte1 s) (literal s) ≡ true
   pub shift : kind s ≡ 9 → amount s < 64
+
+-- the bytes 5 to 7 of a root that is no variable
+pub root-spare : (w : ℕ) (s : List ℕ) → Root w s → (kind s ≡ 1 → ⊥) → spare s ≡ 0
+unfolding unused
+root-spare w s r h = simp (ne-eqb (kind s) 1 h) at (r .clear)
 
 or-false-l : (a b : Bool) → a ≡ false → a || b ≡ true → b ≡ true
 or-false-l a b p e = simp p at e
@@ -118,9 +123,9 @@ unfolding formOk sizeOk widthOk
 root-of-zero w s e =
     let p = passed w s e in
     let fo : Bool = fieldsOk (kind s) (byte1 s) (literal s) in
-    let f1 = and-true (leb (kind s) 13) (sizeOk s && (eqb (spare s) 0 && fo)) (p .form) in
-    let f2 = and-true (sizeOk s) (eqb (spare s) 0 && fo) (f1 .1) in
-    let f3 = and-true (eqb (spare s) 0) fo (f2 .1) in
+    let f1 = and-true (leb (kind s) 13) (sizeOk s && (eqb (unused s) 0 && fo)) (p .form) in
+    let f2 = and-true (sizeOk s) (eqb (unused s) 0 && fo) (f1 .1) in
+    let f3 = and-true (eqb (unused s) 0) fo (f2 .1) in
     let z = and-true (eqb (size s * 16) (length s)) (not (ltb (kind s) 2) || eqb (length s) 16) (f2 .0) in
     let v1 = and-true (not (eqb (width s) 0)) (leb (width s) 64 && eqb (width s) w) (p .wide) in
     let v2 = and-true (leb (width s) 64) (eqb (width s) w) (v1 .1) in
@@ -132,7 +137,7 @@ root-of-zero w s e =
       wide = same;
       width-pos = omega (arith, not-eqb (width s) (v1 .0));
       width-le = omega (arith, leb-true (width s) 64 (v2 .0));
-      unused = eqb-true _ _ (f3 .0);
+      clear = eqb-true _ _ (f3 .0);
       fields = f3 .1;
       shift = shift-lt s (p .shift);
     }
@@ -145,7 +150,7 @@ zero-of-root w s h =
       le-leb (kind s) 13 (omega (arith, h .known)),
       eq-eqb (size s * 16) (length s) (h .length-size),
       leaf (decLt (kind s) 2),
-      eq-eqb (spare s) 0 (h .unused),
+      eq-eqb (unused s) 0 (h .clear),
       h .fields,
       h .wide,
       ne-eqb w 0 (omega (arith, h .width-pos)),

@@ -6,7 +6,7 @@ use mathlib.Core.Bool.{Bool, true, false, not, _&&_, _||_}
 use lib.ListN.{length}
 use lib.Dec.{eqb, ltb, leb}
 use Rattle.base.specs.Choice.{when}
-use Rattle.record.specs.Fields.{kind, byte1, size, width, amount, literal, spare}
+use Rattle.record.specs.Fields.{kind, byte1, size, width, amount, literal, spareHigh, spare}
 use Rattle.record.specs.Span.{fold}
 use Rattle.record.specs.Tree.{Tree}
 use Rattle.record.specs.Tree.Tree.{Constant, Variable, Unary, Binary}
@@ -24,13 +24,17 @@ usesByte1 k = eqb k 1 || (ltb 8 k && ltb k 13)
 unfoldable pub fieldsOk : ℕ → ℕ → ℕ → Bool
 fieldsOk k a v = (eqb k 0 || eqb v 0) && (usesByte1 k || eqb a 0)
 
+-- the sum of the bytes 5 to 7 that the root's kind has no use for: a variable uses byte 5
+unfoldable pub unused : List ℕ → ℕ
+unused s = when (eqb (kind s) 1) (λ _. spareHigh s) (λ _. spare s)
+
 -- the size field of a root is right: the records of its span, and 1 for a leaf
 unfoldable pub sizeOk : List ℕ → Bool
 sizeOk s = eqb (size s * recordLength) (length s) && (not (ltb (kind s) 2) || eqb (length s) recordLength)
 
 -- refusal 3 does not apply to the root
 unfoldable pub formOk : List ℕ → Bool
-formOk s = leb (kind s) 13 && (sizeOk s && (eqb (spare s) 0 && fieldsOk (kind s) (byte1 s) (literal s)))
+formOk s = leb (kind s) 13 && (sizeOk s && (eqb (unused s) 0 && fieldsOk (kind s) (byte1 s) (literal s)))
 
 -- the root's width v is 1 to 64, and the file's
 unfoldable pub widthOk : ℕ → ℕ → Bool

@@ -3,8 +3,8 @@ use base::limits;
 ghost use mathlib.Core.Path.{_≡_};
 ghost use Prim.Native.Nat.{ℕ, _≤_};
 ghost use lib.ListN.{length};
-ghost use Rattle.expr_refusal.specs.Refusal.{lowest, usesByte1, fieldsOk, sizeOk, formOk};
-ghost use Rattle.expr_refusal.specs.Refusal.{widthOk, rootRefusal, treeRefusal, exprRefusal};
+ghost use Rattle.expr_refusal.specs.Refusal.{lowest, usesByte1, fieldsOk, unused, sizeOk};
+ghost use Rattle.expr_refusal.specs.Refusal.{formOk, widthOk, rootRefusal, treeRefusal, exprRefusal};
 ghost use Rattle.base.specs.Limits.{recordLength};
 
 // The lower of two refusals; 0 is none.
@@ -52,6 +52,17 @@ fn fields_ok(k: u8, a: u8, v: u64) -> bool
     a == 0
 }
 
+// The sum of the bytes 5 to 7 that the root's kind has no use for.
+fn unused(t: &[u8]) -> u64
+    requires { ⌜ recordLength ≤ length (now t) ⌝ }
+    ensures { λ r. ⌜ r ≡ unused (now (t .entry)) ⌝ }
+{
+    if record::kind(t) == 1 {
+        return record::spare_high(t);
+    }
+    record::spare(t)
+}
+
 // The size field of the root is right.
 fn size_ok(t: &[u8]) -> bool
     requires { ⌜ recordLength ≤ length (now t) ⌝ }
@@ -79,7 +90,7 @@ fn form_ok(t: &[u8]) -> bool
     if !size_ok(t) {
         return false;
     }
-    if record::spare(t) != 0 {
+    if unused(t) != 0 {
         return false;
     }
     fields_ok(k, record::byte1(t), record::literal(t))

@@ -9,6 +9,7 @@ use lib.ListN.{length, getD, set, drop, length-set}
 use lib.Dec.{eqb}
 use borrow.Author.Tests.{eqb-true, eq-eqb, ne-eqb}
 use lib.Bits.{bitAnd}
+use Rattle.base.specs.Limits.{varLimit}
 use Rattle.arith.specs.Width.{modAdd, modMul, modNeg}
 use Rattle.record.specs.Tree.{Tree, IsBytes}
 use Rattle.record.specs.Decode.{decode}
@@ -144,9 +145,9 @@ complex-tree-parts w t e =
     let p = and-true (not (isPlain w t)) (one && not (hasShr t)) e in
     eqb-true _ _ (and-true one (not (hasShr t)) (p .1) .0)
 
--- it is below 256
+-- it is a variable's
 pub complex-index : (w : ℕ) (r : List ℕ) → IsBytes r → atomOk w r ≡ true → {t : List ℕ} → t ≡ treeSpan r
-    → complexTree w (decode t) ≡ true → nextVar 0 (decode t) < 256
+    → complexTree w (decode t) ≡ true → nextVar 0 (decode t) < varLimit
 complex-index w r bytes ok {t} et e =
     let p = atom-parts w r ok in
     let expr = accept-expr w t (rw et (bytes-tree-span r bytes)) (rw et (p .accepted)) in

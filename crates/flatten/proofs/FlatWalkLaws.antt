@@ -14,7 +14,7 @@ use Rattle.semilinear.specs.Valid.{atomsOk, termsOk}
 use Rattle.semilinear.specs.DecodeForm.{readRows}
 use Rattle.semilinear.specs.Scan.{AtomsEnd}
 use Rattle.atom_table.specs.Terms.{coeffsOf}
-use Rattle.atom_table.proofs.HoldsLaws.{bareRows, holds-bare}
+use Rattle.atom_table.proofs.HoldsLaws.{bareRows, length-bare, holds-bare}
 use Rattle.semilinear.proofs.ItemsLaws.{fold-atom}
 use Rattle.semilinear.proofs.RetiredLaws.{read-rows-atom, read-rows-end}
 use Rattle.semilinear.proofs.ValidLaws.{FrontParts, later-atoms-ok}
@@ -60,11 +60,6 @@ coeffs-bare : (l : List Row) → coeffsOf (bareRows l) ≡ replicate (length l) 
 unfolding coeffsOf bareRows
 coeffs-bare [] = refl
 coeffs-bare (x ∷ l) = rw (coeffs-bare l)
-
-length-bare : (l : List Row) → length (bareRows l) ≡ length l
-unfolding bareRows
-length-bare [] = refl
-length-bare (x ∷ l) = rw (length-bare l)
 
 bare-twice : (l : List Row) → bareRows l ≡ bareRows (bareRows l)
 unfolding bareRows

@@ -9,7 +9,8 @@ use lib.ListN.{length, getD, set, replicate, length-append, length-set}
 use borrow.Author.Tests.{eq-eqb, ne-eqb}
 use Rattle.base.specs.Put.{put, padded}
 use Rattle.record.specs.Span.{sized}
-use Rattle.record.specs.Tree.{recordBytes, encode, Encodable}
+use Rattle.base.specs.Limits.{varLimit}
+use Rattle.record.specs.Tree.{variableBytes, encode, Encodable}
 use Rattle.record.specs.Tree.Tree.{Variable}
 use Rattle.record.specs.Decode.{decode}
 use Rattle.base.proofs.PutLaws.{length-padded}
@@ -28,9 +29,9 @@ use Rattle.flatten.proofs.ShownLaws.{set-behind}
 use Rattle.flatten.proofs.ShownLaws.{held-other}
 
 -- the bytes of a variable, as they are written to an array
-module _ (w v : ℕ) (hv : v < 256) {b : List ℕ} (e : b ≡ put (replicate 16 0) 0 (encode w (Variable v))) where
+module _ (w v : ℕ) (hv : v < varLimit) {b : List ℕ} (e : b ≡ put (replicate 16 0) 0 (encode w (Variable v))) where
   variable-bytes : b ≡ encode w (Variable v)
-  unfolding put encode recordBytes
+  unfolding put encode variableBytes
   variable-bytes = e
 
   variable-encoded : Encoded w (Variable v)

@@ -1,5 +1,5 @@
--- The rows of a form with the terms of groups taken off (specs/Group.antt, `ungrouped`): the same trees under the same
--- numbers.
+-- The rows of a form with the terms of groups taken off (views/specs/Grouping.antt, `ungrouped`): the same trees under
+-- the same numbers.
 use mathlib.Core.Path.{_≡_, refl, ap, ap₂, _∙_}
 use Prim.Native.Nat.{ℕ, zero, suc}
 use native.Mathlib.Omega.{arith}

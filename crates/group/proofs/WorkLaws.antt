@@ -7,7 +7,7 @@ use native.Mathlib.Nat.{mod-eq-of-lt}
 use native.Mathlib.Decide.{ℕ-discrete}
 use mathlib.Core.List.{List, [], _∷_, _++_}
 use mathlib.Core.Bool.{Bool, true, false}
-use lib.ListN.{length, length-append}
+use lib.ListN.{length}
 use lib.Bits.{bitAnd}
 use lib.Dec.{eqb}
 use lib.Pow.{pow-pos}
@@ -27,7 +27,7 @@ use Rattle.made.specs.Rows.{createRow, maskedTree, createMasked}
 use Rattle.semilinear.proofs.RetiredLaws.{new-append}
 use Rattle.semilinear.proofs.FormLaws.{good-row, rows-cons}
 use Rattle.semilinear.proofs.AtomLaws.{atom-tree, tree-atom, masked-atom}
-use Rattle.made.proofs.CoeffsLaws.{coeffs-create, fits-less}
+use Rattle.made.proofs.CoeffsLaws.{length-create, coeffs-create, fits-less}
 
 -- ---- the value of a row's tree
 
@@ -126,10 +126,6 @@ module _ (w : ℕ) (vars : List ℕ) where
   grown-added g = record { extends = g .extends; sum = eqm-of-eq (omega (arith, g .sum-same)) }
 
   module _ (t : Tree) (l : List Row) where
-    pub length-create : length (createRow t l) ≡ length l + 1
-    unfolding createRow
-    length-create = length-append l (newRow t 0 ∷ [])
-
     pub row-value-create : rowValue w vars (createRow t l) (length l) ≡ value w vars t
     unfolding createRow
     row-value-create = row-value-next w vars l (newRow t 0)
@@ -141,14 +137,14 @@ module _ (w : ℕ) (vars : List ℕ) where
         record {
           extends =
               record {
-                longer = omega (arith, length-create);
+                longer = omega (arith, length-create t l);
                 older = row-value-before w vars l (x ∷ []);
                 ok = rows-ok-more w l x (good-row w x (record { known = omega arith; atom = ht; fits = pow-pos w }));
                 new = λ h. new-append l (x ∷ []) h refl;
               };
           sum-same = sum-rows-more w vars l x refl;
           fits = fits-less l (x ∷ []);
-          coeffs = λ n h. coeffs-create n t l (omega (arith, length-create, h));
+          coeffs = λ n h. coeffs-create n t l (omega (arith, length-create t l, h));
         }
 
 -- ---- the basis under a mask
@@ -181,7 +177,7 @@ masked-tree-atom w b m hb hm = go (eqb m (2 ^ w - 1))
 module _ (w : ℕ) (vars : List ℕ) (b : Tree) (m : ℕ) (l : List Row) where
   pub length-masked : length (createMasked w b m l) ≡ length l + 1
   unfolding createMasked
-  length-masked = length-create w vars (maskedTree w b m) l
+  length-masked = length-create (maskedTree w b m) l
 
   pub row-value-masked : m < 2 ^ w → rowValue w vars (createMasked w b m l) (length l) ≡ bitAnd (value w vars b) m
   unfolding createMasked

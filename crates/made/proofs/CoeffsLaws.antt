@@ -1,7 +1,7 @@
 -- The coefficients of rows, with zeros behind them: rows without a term that are added behind change nothing there; and
 -- rows that keep the limits keep them without the last ones.
 use mathlib.Core.Path.{_≡_, refl, sym, _∙_}
-use Prim.Native.Nat.{ℕ, suc, _-_, _≤_, _<_}
+use Prim.Native.Nat.{ℕ, suc, _+_, _-_, _≤_, _<_}
 use native.Mathlib.Omega.{arith}
 use mathlib.Core.List.{List, [], _∷_, _++_}
 use mathlib.Core.Bool.{Bool, true, false}
@@ -17,6 +17,10 @@ use Rattle.atom_table.specs.Terms.{coeffsOf}
 use Rattle.atom_table.proofs.HoldsLaws.{past-more}
 use Rattle.atom_table.proofs.TermsLaws.{length-coeffs, coeffs-append}
 use Rattle.made.specs.Rows.{createRow}
+
+pub length-create : (t : Tree) (l : List Row) → length (createRow t l) ≡ length l + 1
+unfolding createRow
+length-create t l = length-append l (newRow t 0 ∷ [])
 
 -- rows that pass a limit pass it with a row more
 pub create-past : (t : Tree) (l : List Row) → fitsTable l ≡ false → fitsTable (createRow t l) ≡ false

@@ -72,5 +72,5 @@ pub record Makes (w n hash : ℕ) (b made out : List ℕ) : Type 0 where
 -- an atom of `size` tree records, the tree b and two more, has room in out from index `at` on
 pub record AtomFits (at size : ℕ) (b out : List ℕ) : Type 0 where
   pub inside : at + 48 + length b ≤ length out
-  pub size-lt : size < 65536
+  pub size-lt : size < 2 ^ 16
   pub size-is : size * recordLength ≡ length b + 32

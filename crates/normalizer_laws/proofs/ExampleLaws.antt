@@ -8,7 +8,7 @@ use lib.Dec.{eqb}
 use Rattle.arith.specs.Width.{bitmask, wrappingMul, modAdd, modMul, modNeg}
 use Rattle.arith.specs.Bit.{bitAt}
 use Rattle.base.specs.Lists.{eqList}
-use Rattle.record.specs.Tree.{Tree, sizeOf, recordBytes, encode}
+use Rattle.record.specs.Tree.{Tree, sizeOf, recordBytes, variableBytes, encode}
 use Rattle.record.specs.Tree.Tree.{Constant, Variable, Unary, Binary}
 use Rattle.expr_utils.specs.Utils.{hasKind, isArith, isBitwise, hasArith, hasConstantArith}
 use Rattle.expr.specs.Value.{unary, binary, value}
@@ -155,7 +155,7 @@ others =
     ∷ []
 
 examples-hold : allHold starred && allHold others ≡ true
-unfolding bitmask wrappingMul modAdd modMul modNeg bitAt eqList sizeOf recordBytes encode
+unfolding bitmask wrappingMul modAdd modMul modNeg bitAt eqList sizeOf recordBytes variableBytes encode
     hasKind isArith isBitwise hasArith hasConstantArith unary binary value nextVar supportF support sameVars
     mixHash tagHash varHash structuralHash termCount atomBytes atomsBytes termBytes termsBytes sumBytes encodeForm
     eqTree treeRecords fitsTable refusalOf formOutcome joinCollected collectAtom collectConstant isNot operand

@@ -48,7 +48,7 @@ NoPartner full masks marks n = (i : ℕ) → i < n → n ≤ partnerIn (full - g
 pub record TreeFits (w at size : ℕ) (b out : List ℕ) : Type 0 where
   pub inside : at + 32 + length b ≤ length out
   pub same : encode w (decode b) ≡ b
-  pub size-lt : size < 65536
+  pub size-lt : size < 2 ^ 16
   pub size-is : size * recordLength ≡ length b + 32
 
 -- the Xor of a literal and the tree of the bytes b can be made

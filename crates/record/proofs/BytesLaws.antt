@@ -7,9 +7,11 @@ use mathlib.Core.List.{List, [], _∷_, _++_}
 use lib.ListN.{length, getD, take, drop, length-append, length-drop}
 use lib.Seq.{getD-append-add, getD-drop, take-at}
 use lib.Dec.{lit<}
-use Rattle.record.specs.Fields.{u16, u32, u64, kind, byte1, varIndex, size, width, literal, spare}
+use Rattle.record.specs.Fields.{u16, u32, u64, kind, byte1, byte5, varIndex, size, width, literal}
+use Rattle.record.specs.Fields.{spareHigh, spare}
 use Rattle.record.specs.Span.{cut, body, left, right}
 use Rattle.record.specs.Tree.{recordBytes, IsBytes}
+use Rattle.base.specs.Limits.{varLimit}
 
 -- a number from its bytes
 join-bytes : (v a b c d e f g x0 x1 x2 x3 x4 x5 x6 x7 : ℕ) → v ≡ x0 + 256 * a → a ≡ x1 + 256 * b → b ≡ x2 + 256 * c
@@ -62,12 +64,20 @@ module _ (f : List ℕ) (k a n w v : ℕ) where
   unfolding width recordBytes
   width-record = at 4 (length span - 12) (omega (arith, length-record))
 
-  pub spare-record : spare span ≡ 0
-  unfolding spare recordBytes
-  spare-record =
+  pub byte5-record : byte5 span ≡ 0
+  unfolding byte5 recordBytes
+  byte5-record = at 5 (length span - 11) (omega (arith, length-record))
+
+  pub spare-high-record : spareHigh span ≡ 0
+  unfolding spareHigh recordBytes
+  spare-high-record =
       let l : ℕ = length span in
       let e : length span ≡ length f + 16 = length-record in
-      rw (at 5 (l - 11) (omega arith), at 6 (l - 10) (omega arith), at 7 (l - 9) (omega arith))
+      rw (at 6 (l - 10) (omega arith), at 7 (l - 9) (omega arith))
+
+  pub spare-record : spare span ≡ 0
+  unfolding spare
+  spare-record = rw (byte5-record, spare-high-record)
 
   pub literal-record : v < 2 ^ 64 → literal span ≡ v
   unfolding literal u64 u32 u16 recordBytes
@@ -92,11 +102,11 @@ module _ (f : List ℕ) (k a n w v : ℕ) where
 -- ---- the other way
 
 -- what holds of every list of n elements, from what holds of n elements
-abbrev Each : ℕ → (List ℕ → Type 0) → Type 0
+abbrev pub Each : ℕ → (List ℕ → Type 0) → Type 0
 Each zero P = P []
 Each (suc n) P = (x : ℕ) → Each n (λ l. P (x ∷ l))
 
-each : (n : ℕ) (P : List ℕ → Type 0) → Each n P → (l : List ℕ) → length l ≡ n → P l
+pub each : (n : ℕ) (P : List ℕ → Type 0) → Each n P → (l : List ℕ) → length l ≡ n → P l
 each zero P p [] e = p
 each zero P p (x ∷ l) e = absurd (omega arith)
 each (suc n) P p [] e = absurd (omega arith)
@@ -156,7 +166,7 @@ module _ (s : List ℕ) (big : 16 ≤ length s) where
 
   pub last-record : IsBytes s → spare s ≡ 0
       → recordBytes (kind s) (byte1 s) (size s) (width s) (literal s) ≡ drop (length s - 16) s
-  unfolding spare kind byte1 size width literal u16 u32 u64
+  unfolding spare spareHigh byte5 kind byte1 size width literal u16 u32 u64
   last-record h z =
       let l : List ℕ = drop (length s - 16) s in
       let n : ℕ = length s in
@@ -178,7 +188,7 @@ module _ (s : List ℕ) (big : 16 ≤ length s) where
       let a13 : getD l 13 0 ≡ getD s (n - 8 + 4 + 1) 0 = last-at 13 (n - 8 + 4 + 1) (omega arith) in
       let a14 : getD l 14 0 ≡ getD s (n - 8 + 4 + 2) 0 = last-at 14 (n - 8 + 4 + 2) (omega arith) in
       let a15 : getD l 15 0 ≡ getD s (n - 8 + 4 + 2 + 1) 0 = last-at 15 (n - 8 + 4 + 2 + 1) (omega arith) in
-      let z′ : getD l 5 0 + getD l 6 0 + getD l 7 0 ≡ 0 = cc in
+      let z′ : getD l 5 0 + getD l 6 0 + getD l 7 0 ≡ 0 = rw (a5, a6, a7) (omega arith) in
       let r = sixteen l len fit z′ in
       cc
 
@@ -211,11 +221,11 @@ bytes-append (x ∷ s) t h k zero = h 0
 bytes-append (x ∷ s) t h k (suc i) = bytes-append s t (λ j. h (suc j)) k i
 
 -- every element is a byte, as one proof for each
-abbrev EachByte : List ℕ → Type 0
+abbrev pub EachByte : List ℕ → Type 0
 EachByte [] = Unit {0}
 EachByte (x ∷ l) = (x < 256) × EachByte l
 
-bytes-each : (l : List ℕ) → EachByte l → IsBytes l
+pub bytes-each : (l : List ℕ) → EachByte l → IsBytes l
 bytes-each [] h i = lit< tt
 bytes-each (x ∷ l) h zero = h .0
 bytes-each (x ∷ l) h (suc i) = bytes-each l (h .1) i
@@ -248,6 +258,6 @@ literal-lt s h =
       h (n + 4 + 2 + 1),
     )
 
-pub var-index-lt : (s : List ℕ) → IsBytes s → varIndex s < 256
-unfolding varIndex byte1
-var-index-lt s h = h _
+pub var-index-lt : (s : List ℕ) → IsBytes s → varIndex s < varLimit
+unfolding varIndex byte1 byte5
+var-index-lt s h = omega (arith, h (length s - 15), h (length s - 11))

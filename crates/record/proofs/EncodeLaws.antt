@@ -8,7 +8,7 @@ use mathlib.Core.Bool.{true}
 use lib.ListN.{length, getD, drop, length-append, List·getD-append}
 use lib.Seq.{getD-append-add, take-at, drop-at}
 use borrow.Author.Tests.{eq-eqb, le-ltb}
-use Rattle.record.specs.Fields.{u16, kind, byte1, varIndex, amount, size, width, arity}
+use Rattle.record.specs.Fields.{u16, kind, byte1, amount, size, width, arity}
 use Rattle.record.specs.Tree.{Tree, recordBytes, encode, sizeOf, Encodable}
 use Rattle.record.specs.Tree.Tree.{Constant, Variable, Unary, Binary}
 use Rattle.record.specs.Span.{cut, body, left, right, sized}
@@ -16,11 +16,13 @@ use Rattle.record.specs.Decode.{leaf, decode}
 use Rattle.record.proofs.SpanLaws.{fold-leaf, fold-one, fold-two}
 use Rattle.record.proofs.BytesLaws.{length-record, record-big, kind-record, byte1-record, size-record}
 use Rattle.record.proofs.BytesLaws.{width-record, literal-record, body-record}
+use Rattle.record.proofs.VariableLaws.{length-variable, kind-variable, size-variable, width-variable}
+use Rattle.record.proofs.VariableLaws.{index-variable}
 
 pub length-encode : (w : ℕ) (t : Tree) → length (encode w t) ≡ sizeOf t * 16
 unfolding encode sizeOf recordBytes
 length-encode w (Constant v) = refl
-length-encode w (Variable i) = refl
+length-encode w (Variable i) = length-variable w i
 length-encode w (Unary k a t) = simp length-append (omega (arith, length-encode w t))
 length-encode w (Binary k l r) = simp length-append (omega (arith, length-encode w l, length-encode w r))
 
@@ -31,30 +33,20 @@ sizeOf-pos (Variable i) = omega arith
 sizeOf-pos (Unary k a t) = omega arith
 sizeOf-pos (Binary k l r) = omega arith
 
--- a tree's encoding ends in a record with the tree's size
-record Ends (w : ℕ) (t : Tree) : Type 0 where
-  front : List ℕ
-  k : ℕ
-  a : ℕ
-  v : ℕ
-  same : encode w t ≡ front ++ recordBytes k a (sizeOf t) w v
-
-ends : (w : ℕ) (t : Tree) → Ends w t
-unfolding encode sizeOf
-ends w (Constant v) = record { front = []; k = 0; a = 0; v = v; same = refl }
-ends w (Variable i) = record { front = []; k = 1; a = i; v = 0; same = refl }
-ends w (Unary k a t) = record { front = encode w t; k = k; a = a; v = 0; same = refl }
-ends w (Binary k l r) = record { front = encode w l ++ encode w r; k = k; a = 0; v = 0; same = refl }
-
+-- the size and the width of a tree's encoding are those of its last record
 pub size-encode : (w : ℕ) (t : Tree) → size (encode w t) ≡ sizeOf t
-size-encode w t =
-    let e = ends w t in
-    rw (e .same) (size-record (e .front) (e .k) (e .a) (sizeOf t) w (e .v))
+unfolding encode sizeOf
+size-encode w (Constant v) = size-record [] 0 0 1 w v
+size-encode w (Variable i) = size-variable w i []
+size-encode w (Unary k a t) = size-record (encode w t) k a (sizeOf t + 1) w 0
+size-encode w (Binary k l r) = size-record (encode w l ++ encode w r) k 0 (sizeOf l + sizeOf r + 1) w 0
 
 pub width-encode : (w : ℕ) (t : Tree) → width (encode w t) ≡ w
-width-encode w t =
-    let e = ends w t in
-    rw (e .same) (width-record (e .front) (e .k) (e .a) (sizeOf t) w (e .v))
+unfolding encode sizeOf
+width-encode w (Constant v) = width-record [] 0 0 1 w v
+width-encode w (Variable i) = width-variable w i
+width-encode w (Unary k a t) = width-record (encode w t) k a (sizeOf t + 1) w 0
+width-encode w (Binary k l r) = width-record (encode w l ++ encode w r) k 0 (sizeOf l + sizeOf r + 1) w 0
 
 -- the children's spans of two encodings and a record
 module _ (w : ℕ) (l r : Tree) (k n : ℕ) where
@@ -109,18 +101,14 @@ pub record Encoded (w : ℕ) (t : Tree) : Type 0 where
   pub back : decode (encode w t) ≡ t
 
 module _ (w : ℕ) where
-  encoded-leaf : (k a v : ℕ) (t : Tree) → arity k ≡ 0 → encode w t ≡ recordBytes k a 1 w v
-      → leaf (recordBytes k a 1 w v) ≡ t → Encoded w t
-  encoded-leaf k a v t e same lf =
-      let s : List ℕ = recordBytes k a 1 w v in
-      let len : length s ≡ 16 = length-record [] k a 1 w v in
-      let big : 16 ≤ length s = record-big [] k a 1 w v in
-      let ar : arity (kind s) ≡ 0 = ap arity (kind-record [] k a 1 w v) ∙ e in
+  encoded-leaf : (t : Tree) → length (encode w t) ≡ 16 → arity (kind (encode w t)) ≡ 0 → size (encode w t) ≡ 1
+      → leaf (encode w t) ≡ t → Encoded w t
+  encoded-leaf t len ar one lf =
+      let s : List ℕ = encode w t in
+      let big : 16 ≤ length s = omega arith in
       record {
-        ok =
-            rw same
-            (fold-leaf _ _ _ _ s big ar ∙ simp (size-record [] k a 1 w v, eq-eqb 16 (length s) (sym len), len));
-        back = rw same (fold-leaf _ _ _ _ s big ar ∙ lf);
+        ok = fold-leaf _ _ _ _ s big ar ∙ simp (one, eq-eqb 16 (length s) (sym len), len);
+        back = fold-leaf _ _ _ _ s big ar ∙ lf;
       }
 
   encoded-one : (k a : ℕ) (t : Tree) → arity k ≡ 1 → Encoded w t → Encoded w (Unary k a t)
@@ -163,13 +151,13 @@ module _ (w : ℕ) where
       }
 
   pub encoded : (t : Tree) → Encodable t → Encoded w t
-  unfolding encode Encodable arity leaf varIndex
+  unfolding encode Encodable arity leaf
   encoded (Constant v) h =
-      encoded-leaf 0 0 v (Constant v) refl refl
-      (simp (kind-record [] 0 0 1 w v, literal-record [] 0 0 1 w v h))
+      encoded-leaf (Constant v) (length-record [] 0 0 1 w v) (ap arity (kind-record [] 0 0 1 w v))
+      (size-record [] 0 0 1 w v) (simp (kind-record [] 0 0 1 w v, literal-record [] 0 0 1 w v h))
   encoded (Variable i) h =
-      encoded-leaf 1 i 0 (Variable i) refl refl
-      (simp (kind-record [] 1 i 1 w 0, byte1-record [] 1 i 1 w 0))
+      encoded-leaf (Variable i) (length-variable w i) (ap arity (kind-variable w i)) (size-variable w i [])
+      (simp (kind-variable w i, index-variable w i))
   encoded (Unary k a t) h = encoded-one k a t (h .0) (encoded t (h .1))
   encoded (Binary k l r) h = encoded-two k l r (h .0) (encoded l (h .1)) (encoded r (h .2))
 

@@ -3,6 +3,7 @@ pub mod FieldsLaws
 pub mod SpanLaws
 pub mod SizedLaws
 pub mod BytesLaws
+pub mod VariableLaws
 pub mod EncodeLaws
 pub mod DecodeLaws
 pub mod LeafLaws

@@ -25,9 +25,13 @@ kind s = getD s (length s - recordLength) 0
 unfoldable pub byte1 : List ℕ → ℕ
 byte1 s = getD s (length s - 15) 0
 
--- the variable number of a root of kind Variable
+-- byte 5 of the root
+unfoldable pub byte5 : List ℕ → ℕ
+byte5 s = getD s (length s - 11) 0
+
+-- the variable number of a root of kind Variable: its low byte in byte 1, its high byte in byte 5
 unfoldable pub varIndex : List ℕ → ℕ
-varIndex s = byte1 s
+varIndex s = byte1 s + byte5 s * 2 ^ 8
 
 -- the shift count or cast width of a root with one child; 0 for Not and Neg
 unfoldable pub amount : List ℕ → ℕ
@@ -41,9 +45,13 @@ size s = u16 s (length s - 14)
 unfoldable pub width : List ℕ → ℕ
 width s = getD s (length s - 12) 0
 
--- the sum of bytes 5 to 7 of the root, which must be 0
+-- the sum of bytes 6 and 7 of the root, which no kind uses
+unfoldable pub spareHigh : List ℕ → ℕ
+spareHigh s = getD s (length s - 10) 0 + getD s (length s - 9) 0
+
+-- the sum of bytes 5 to 7 of the root, of which a variable alone uses byte 5
 unfoldable pub spare : List ℕ → ℕ
-spare s = getD s (length s - 11) 0 + getD s (length s - 10) 0 + getD s (length s - 9) 0
+spare s = byte5 s + spareHigh s
 
 -- bytes 8 to 15 of the root: its literal
 unfoldable pub literal : List ℕ → ℕ

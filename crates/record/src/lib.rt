@@ -7,8 +7,8 @@ ghost use mathlib.Core.Path.{_≡_};
 ghost use Prim.Native.Nat.{ℕ, _+_, _-_, _*_, _%_, _^_, _<_, _≤_};
 ghost use lib.ListN.{length};
 ghost use Rattle.base.specs.Lists.{eqList};
-ghost use Rattle.record.specs.Fields.{u16, u32, u64, kind, byte1, varIndex, amount, size};
-ghost use Rattle.record.specs.Fields.{width, spare, literal, arity};
+ghost use Rattle.record.specs.Fields.{u16, u32, u64, kind, byte1, byte5, varIndex, amount};
+ghost use Rattle.record.specs.Fields.{size, width, spareHigh, spare, literal, arity};
 ghost use Rattle.record.specs.Span.{cut, body, left, right};
 ghost use Rattle.base.specs.Limits.{recordLength, varLimit};
 
@@ -80,12 +80,21 @@ pub fn byte1(t: &[u8]) -> u8
     t[n - 15]
 }
 
+// Byte 5 of the root, as it stands.
+fn byte5(t: &[u8]) -> u8
+    requires { ⌜ recordLength ≤ length (now t) ⌝ }
+    ensures { λ r. ⌜ r ≡ byte5 (now (t .entry)) ⌝ }
+{
+    let n = t.len();
+    t[n - 11]
+}
+
 // The variable number of a root of kind Variable.
 pub fn var_index(t: &[u8]) -> u64
     requires { ⌜ recordLength ≤ length (now t) ⌝ }
     ensures { λ r. ⌜ (r ≡ varIndex (now (t .entry))) × (r < varLimit) ⌝ }
 {
-    wide(byte1(t))
+    wide(byte1(t)) + wide(byte5(t)) * 0x100
 }
 
 // The shift count of a root of kind Shr, 0 for Not and Neg.
@@ -113,13 +122,21 @@ pub fn width(t: &[u8]) -> u8
     t[n - 12]
 }
 
+// The sum of the root's bytes 6 and 7.
+pub fn spare_high(t: &[u8]) -> u64
+    requires { ⌜ recordLength ≤ length (now t) ⌝ }
+    ensures { λ r. ⌜ (r ≡ spareHigh (now (t .entry))) × (r < 2 ^ 9) ⌝ }
+{
+    let n = t.len();
+    wide(t[n - 10]) + wide(t[n - 9])
+}
+
 // The sum of the root's bytes 5 to 7.
 pub fn spare(t: &[u8]) -> u64
     requires { ⌜ recordLength ≤ length (now t) ⌝ }
     ensures { λ r. ⌜ r ≡ spare (now (t .entry)) ⌝ }
 {
-    let n = t.len();
-    wide(t[n - 11]) + wide(t[n - 10]) + wide(t[n - 9])
+    wide(byte5(t)) + spare_high(t)
 }
 
 // The literal of the root.

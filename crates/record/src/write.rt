@@ -1,7 +1,7 @@
 // Writers of records into lent bytes: any record, and that of a variable.
 use base::write;
 ghost use mathlib.Core.Path.{_≡_};
-ghost use Prim.Native.Nat.{_+_, _%_, _<_, _≤_};
+ghost use Prim.Native.Nat.{_+_, _%_, _^_, _<_, _≤_};
 ghost use lib.ListN.{length};
 ghost use Rattle.record.specs.Tree.{recordBytes, encode};
 ghost use Rattle.record.specs.Tree.Tree.{Variable};
@@ -16,7 +16,7 @@ fn byte(x: u64) -> u8
 
 // Puts one record into d from index `at` on: kind k, byte 1 a, size n, width w, literal v.
 pub fn put_record(d: &mut [u8], at: usize, k: u8, a: u8, n: u64, w: u8, v: u64)
-    requires { ⌜ (at + recordLength ≤ length (now d)) × (n < 65536) ⌝ }
+    requires { ⌜ (at + recordLength ≤ length (now d)) × (n < 2 ^ 16) ⌝ }
     ensures { λ _. ⌜ now (d .exit) ≡ put (now (d .entry)) at (recordBytes k a n w v) ⌝ }
 {
     let r = [
@@ -45,5 +45,7 @@ pub fn put_variable(d: &mut [u8], at: usize, v: u64, w: u8)
     requires { ⌜ (at + recordLength ≤ length (now d)) × (v < varLimit) ⌝ }
     ensures { λ _. ⌜ now (d .exit) ≡ put (now (d .entry)) at (encode w (Variable v)) ⌝ }
 {
-    put_record(d, at, 1, v as u8, 1, w, 0);
+    let high = byte(v / 0x100);
+    let r = [1, byte(v), 1, 0, w, high, 0, 0, 0, 0, 0, 0, 0, 0, 0, 0];
+    write::put_bytes(d, at, &r);
 }

@@ -9,7 +9,7 @@ use lib.ListN.{length, getD, take, drop, length-append, length-take}
 use lib.Seq.{take-at, drop-at, getD-take}
 use lib.Dec.{lit<}
 use borrow.Author.Tests.{le-leb, eq-eqb, ne-eqb}
-use Rattle.record.specs.Fields.{u16, u32, u64, kind, byte1, size, width, literal, spare}
+use Rattle.record.specs.Fields.{u16, u32, u64, kind, byte1, byte5, size, width, literal, spareHigh, spare}
 use Rattle.record.specs.Tree.{Tree, sizeOf, recordBytes, encode, IsBytes}
 use Rattle.record.proofs.BytesLaws.{literal-record, last-record, bytes-take}
 use Rattle.record.proofs.EncodeLaws.{length-encode}
@@ -64,8 +64,8 @@ module _ (r : List ℕ) (big : 16 ≤ length r) where
 
   pub front-record : IsBytes r → frontSpare r ≡ 0
       → recordBytes (frontKind r) (provenance r) (frontNumber r) (frontWidth r) (frontWord r) ≡ take 16 r
-  unfolding frontKind provenance frontNumber frontWidth frontSpare frontWord kind byte1 size width literal spare
-      u64 u32 u16
+  unfolding frontKind provenance frontNumber frontWidth frontSpare frontWord kind byte1 byte5 size width literal
+      spareHigh spare u64 u32 u16
   front-record h z =
       let big′ : 16 ≤ length (take 16 r) = omega (arith, length-first) in
       let a0 = at 0 (lit< tt) in
@@ -84,7 +84,7 @@ module _ (r : List ℕ) (big : 16 ≤ length r) where
       let a13 = at 13 (lit< tt) in
       let a14 = at 14 (lit< tt) in
       let a15 = at 15 (lit< tt) in
-      let z′ : spare (take 16 r) ≡ 0 = rw (length-first, a5, a6, a7) z in
+      let z′ : spare (take 16 r) ≡ 0 = rw (length-first, a5, a6, a7) (omega arith) in
       let e = rw length-first at (last-record (take 16 r) big′ (bytes-take 16 r h) z′) in
       cc
 

@@ -14,10 +14,10 @@ pub struct Head {
 }
 
 // Room for the most words.
-pub fn word_buffer() -> [u64; 256]
-    ensures { λ r. ⌜ 256 ≡ length r ⌝ }
+pub fn word_buffer() -> [u64; 512]
+    ensures { λ r. ⌜ 512 ≡ length r ⌝ }
 {
-    [0; 256]
+    [0; 512]
 }
 
 // The head that 16 bytes hold.

@@ -13,7 +13,8 @@ use Rattle.semilinear.specs.Form.{Row, eqTree, rowsOk}
 use Rattle.made.specs.Rows.{createRow}
 use Rattle.semilinear.proofs.FormLaws.{Good, rows-cons}
 use Rattle.semilinear.proofs.AtomLaws.{Atom, atom-tree, tree-atom, eq-of-eq-tree}
-use Rattle.group.proofs.WorkLaws.{rowValue, Grown, grown-refl, grown-create, length-create, row-value-create}
+use Rattle.group.proofs.WorkLaws.{rowValue, Grown, grown-refl, grown-create, row-value-create}
+use Rattle.made.proofs.CoeffsLaws.{length-create}
 use Rattle.structure_laws.specs.RecoverStructure.{rowWith, withBare}
 
 module _ (w : ℕ) (vars : List ℕ) (t : Tree) (ht : Atom t) where
@@ -94,6 +95,6 @@ module _ (w : ℕ) (vars : List ℕ) (t : Tree) (ht : Atom t) where
           subst (Bare l) (sym (bare-new l e))
           (record {
             grown = grown-create w vars t l (atom-tree t ht);
-            bare-lt = omega (arith, at-end, length-create w vars t l);
+            bare-lt = omega (arith, at-end, length-create t l);
             bare-value = ap (rowValue w vars (createRow t l)) at-end ∙ row-value-create w vars t l;
           })

@@ -12,6 +12,7 @@ use lib.Bits.{bitAnd, and-le-l, and-zero-r}
 use lib.Dec.{eqb}
 use lib.Pow.{pow-mono}
 use borrow.Author.Tests.{eqb-true, eq-eqb, ne-eqb, not-true}
+use Rattle.base.specs.Limits.{varLimit}
 use Rattle.arith.specs.Congruence.{Eqm}
 use Rattle.arith.specs.Width.{modAdd, modMul, modNeg}
 use Rattle.arith.proofs.CongruenceLaws.{eqm-of-eq, eqm-refl, eqm-sym, eqm-trans, eqm-add, eqm-minus}
@@ -48,7 +49,7 @@ rows-append w (x ∷ l) m a b =
 
 -- ---- a new row
 
-variable-atom : (v : ℕ) → v < 256 → Atom (Variable v)
+variable-atom : (v : ℕ) → v < varLimit → Atom (Variable v)
 unfolding hasKind hasArith
 variable-atom v hv = record { expr = expr-of-variable v hv; variable = refl; plain = refl }
 
@@ -70,7 +71,7 @@ module _ (w v m c : ℕ) (l : List Row) (hm : m < 2 ^ w) where
           (sum-append w vars l (newRow (maskedTree w (Variable v) m) c ∷ [])
           ∙ omega (arith, ap (λ (y : ℕ). c * y) (masked-value w vars (Variable v) m hm)))
 
-  pub flat-row-ok : w ≤ 64 → v < 256 → c < 2 ^ w → rowsOk w l ≡ true → rowsOk w (flatRow w v m c l) ≡ true
+  pub flat-row-ok : w ≤ 64 → v < varLimit → c < 2 ^ w → rowsOk w l ≡ true → rowsOk w (flatRow w v m c l) ≡ true
   unfolding flatRow rowsOk
   flat-row-ok hw hv hc ok = go (eqb m 0)
     where
@@ -130,7 +131,7 @@ module _ (w : ℕ) (hw : w ≤ 64) (x : Row) (g : Good w x) (k : Complex x) wher
   inverts-lt : inverts < 2 ^ w
   inverts-lt = lt-of-le-of-lt (and-le-l zeroed (2 ^ w - 1 - raised)) (at-zero-lt w (x .tree))
 
-  index-lt : index < 256
+  index-lt : index < varLimit
   index-lt = occurs-lt index (x .tree) (tree-atom (x .tree) (g .atom) .expr) (one-var-occurs (x .tree) (k .one))
 
   -- the rows and the constant that stand for the row

@@ -1,4 +1,4 @@
--- That recovering, coalescing and flattening keep the value and give a valid form.
+-- That recovering, coalescing and flattening keep the value and give a valid form with new heads.
 pub mod AddedLaws
 pub mod BareLaws
 pub mod BitSumLaws

@@ -30,7 +30,8 @@ use Rattle.group.specs.Group.{Entry, at, isLive, consumed}
 use Rattle.made.specs.Rows.{createRow}
 use Rattle.semilinear.proofs.AtomLaws.{Atom, atom-tree, sides-atom}
 use Rattle.group.proofs.TotalLaws.{live-mark, live-consumed}
-use Rattle.group.proofs.WorkLaws.{rowValue, Grown, grown-create, length-create, row-value-create}
+use Rattle.group.proofs.WorkLaws.{rowValue, Grown, grown-create, row-value-create}
+use Rattle.made.proofs.CoeffsLaws.{length-create}
 use Rattle.group.proofs.SettleLaws.{owed, owed-live, owed-consumed}
 use Rattle.group.proofs.FitsLaws.{Fits, fits-extends}
 use Rattle.structure_laws.specs.RecoverStructure.{Recovery, rowWith, withBare, recoverXor, eliminateMask}
@@ -169,7 +170,7 @@ module _ (w : ℕ) (hw : w ≤ 64) (vars : List ℕ) (b : Tree) (hb : Atom b) (g
         (consumed f) (p .apart) (p .i-lt) (p .j-lt)
         (λ _. record {
           coeff-lt = held-j .coeff-lt;
-          atom-lt = omega (arith, length-create w vars t (x .rows));
+          atom-lt = omega (arith, length-create t (x .rows));
           masked = λ ne. absurd (ne refl);
         })
         (λ live. false-true (sym (live-consumed f) ∙ live))

@@ -10,6 +10,7 @@ use mathlib.Core.Bool.{true, false}
 use lib.ListN.{length, getD}
 use Rattle.arith.specs.Bit.{bitAt}
 use Rattle.arith.proofs.BitLaws.{bit-zero, bits-below}
+use Rattle.base.specs.Limits.{varLimit}
 use Rattle.record.specs.Tree.{Tree}
 use Rattle.base.proofs.ListsLaws.{eq-of-eq-list}
 use Rattle.expr_refusal.specs.Refusal.{isExpr}
@@ -37,18 +38,18 @@ words-at (suc n) b (suc v) h = words-at n (λ x. b (suc x)) v (omega arith)
 
 -- row i of the Rust's table of the variables vs (semilinear.rs 111-161): the value at w bits where each is 0 or 1
 unfoldable pub rowWord : ℕ → List ℕ → ℕ → Tree → ℕ
-rowWord w vs i t = value w (wordsOf 256 (rowBits 0 vs i)) t
+rowWord w vs i t = value w (wordsOf varLimit (rowBits 0 vs i)) t
 
 module _ (w : ℕ) (vs : List ℕ) (hw : 1 ≤ w) where
   row-word-bit : (t : Tree) → Bitwise t → (i : ℕ) → bitAt (rowWord w vs i t) 0 ≡ bitOf w 0 (rowBits 0 vs i) t
   unfolding rowWord
   row-word-bit t b i =
-      bit-value w 0 (omega arith) (wordsOf 256 (rowBits 0 vs i)) t b
-      ∙ bit-of-agree w 0 (λ v. bitAt (getD (wordsOf 256 (rowBits 0 vs i)) v 0) 0) (rowBits 0 vs i) t same
+      bit-value w 0 (omega arith) (wordsOf varLimit (rowBits 0 vs i)) t b
+      ∙ bit-of-agree w 0 (λ v. bitAt (getD (wordsOf varLimit (rowBits 0 vs i)) v 0) 0) (rowBits 0 vs i) t same
     where
-      same : (v : ℕ) → occurs v t ≡ true → bitAt (getD (wordsOf 256 (rowBits 0 vs i)) v 0) 0 ≡ rowBits 0 vs i v
+      same : (v : ℕ) → occurs v t ≡ true → bitAt (getD (wordsOf varLimit (rowBits 0 vs i)) v 0) 0 ≡ rowBits 0 vs i v
       same v o =
-          ap (λ (x : ℕ). bitAt x 0) (words-at 256 (rowBits 0 vs i) v (occurs-lt v t (b .expr) o))
+          ap (λ (x : ℕ). bitAt x 0) (words-at varLimit (rowBits 0 vs i) v (occurs-lt v t (b .expr) o))
           ∙ bit-zero (rowBits 0 vs i v)
           ∙ mod-eq-of-lt (row-bits-lt 0 vs i v)
 
@@ -102,4 +103,4 @@ word-tables w hw t u pt pu s et eu at au = (there, back)
           vars = eq-of-eq-list (support t) (support u) s;
           tables = e;
         } in
-        same-value t u same et eu at au w (wordsOf 256 (rowBits 0 (support t) i))
+        same-value t u same et eu at au w (wordsOf varLimit (rowBits 0 (support t) i))

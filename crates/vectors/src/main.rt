@@ -12,7 +12,7 @@ const MOST_ENTRIES: u64 = 1_000_000;
 
 // Replays entries up to the end entry, or to the first thing that is no entry.
 fn replay(
-    bytes: &mut [u8; 191008],
+    bytes: &mut [u8; 193056],
     out: &mut [u8; 57376],
     classes: &mut [u64; 16464],
     entries: &mut [u64; 15],
@@ -39,7 +39,7 @@ fn summary(entries: &[u64; 15], differences: &[u64; 15]) {
 
 // Room for the longest payload and for the longest result slices is lent to every entry.
 fn main() {
-    let mut bytes = [0u8; 191008];
+    let mut bytes = [0u8; 193056];
     let mut out = [0u8; 57376];
     let mut classes = [0u64; 16464];
     let mut entries = [0u64; 15];

@@ -9,7 +9,7 @@ ghost use lib.ListN.{length};
 
 // What the function under test gives for an entry whose words and bytes stand in bytes.
 fn run(head: Head, bytes: &[u8], out: &mut [u8], classes: &mut [u64]) -> Answer
-    requires { ⌜ (head .words ≤ 256) × (8 * head .words + head .size ≤ length (now bytes)) ⌝ }
+    requires { ⌜ (head .words ≤ 512) × (8 * head .words + head .size ≤ length (now bytes)) ⌝ }
 {
     let mut words = entry::word_buffer();
     let count = head.words as usize;
@@ -31,7 +31,7 @@ fn run(head: Head, bytes: &[u8], out: &mut [u8], classes: &mut [u64]) -> Answer
 fn body(
     at: u64,
     head: Head,
-    bytes: &mut [u8; 191008],
+    bytes: &mut [u8; 193056],
     out: &mut [u8; 57376],
     classes: &mut [u64; 16464],
     entries: &mut [u64; 15],
@@ -39,7 +39,7 @@ fn body(
 ) -> bool
     requires { ⌜ head .kind < 15 ⌝ }
 {
-    if 256 < head.words {
+    if 512 < head.words {
         report::malformed(at, b"too many words");
         return false;
     }
@@ -65,7 +65,7 @@ fn body(
 // Replays the entry with the number at; false after the end entry and on a malformed file.
 pub fn step(
     at: u64,
-    bytes: &mut [u8; 191008],
+    bytes: &mut [u8; 193056],
     out: &mut [u8; 57376],
     classes: &mut [u64; 16464],
     entries: &mut [u64; 15],

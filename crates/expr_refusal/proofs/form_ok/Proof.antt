@@ -26,8 +26,8 @@ returns-2 c =
       sym (c .before .size-ok .ensures) ∙ not-true _ (c .if2 .taken),
     )
 
-spare-requires : tie.Need-spare-requires
-spare-requires c κs = search needs
+unused-requires : tie.Need-unused-requires
+unused-requires c κs = search needs
 
 returns-3 : tie.Need-returns-3
 unfolding formOk
@@ -37,7 +37,7 @@ returns-3 c =
       ← at-size-ok .before .before .kind .ensures,
       le-leb _ _ (at-size-ok .before .if1 .left),
       sym (at-size-ok .size-ok .ensures) ∙ not-false _ (c .before .before .if2 .left),
-      ← c .before .spare .ensures,
+      ← c .before .unused .ensures,
       ne-eqb _ _ (c .if3 .taken),
     )
 
@@ -59,7 +59,7 @@ returns-4 c =
       ← at-size-ok .before .before .kind .ensures,
       le-leb _ _ (at-size-ok .before .if1 .left),
       sym (at-size-ok .size-ok .ensures) ∙ not-false _ (at-if3 .before .before .if2 .left),
-      ← at-if3 .before .spare .ensures,
+      ← at-if3 .before .unused .ensures,
       eq-eqb _ _ (at-if3 .if3 .left),
       ← c .before .before .byte1 .ensures,
       ← c .before .literal .ensures,
@@ -73,7 +73,7 @@ form-ok-spec =
     returns
     size-ok-requires
     returns-2
-    spare-requires
+    unused-requires
     returns-3
     byte1-requires
     literal-requires
