@@ -69,7 +69,7 @@ fn groups() -> Form {
     let rng = &mut Prng::new(SEED + 8);
     let mut form = Form::new(64, 1);
     for number in 0..MAX_ATOMS {
-        let tree = masked(variable(64, number as u8), rng.word());
+        let tree = masked(variable(64, number as u16), rng.word());
         form.push_term(HEAD_BYTE, tree, rng.word() | 1);
     }
     form
@@ -80,7 +80,7 @@ pub fn places() -> Form {
     let rng = &mut Prng::new(SEED + 9);
     let mut form = Form::new(64, 1);
     for number in 0..MAX_ATOMS {
-        let leaf = |i: usize| variable(64, (number + i) as u8);
+        let leaf = |i: usize| variable(64, (number + i) as u16 % 256);
         let tree = masked(left_chain(XOR, 5, leaf), rng.word());
         form.push_term(HEAD_BYTE, tree, rng.word() | 1);
     }
@@ -92,7 +92,7 @@ fn complex() -> Form {
     let rng = &mut Prng::new(SEED + 10);
     let mut form = Form::new(64, 1);
     for number in 0..MAX_ATOMS / 2 {
-        let tree = masked(variable(64, number as u8), rng.word());
+        let tree = masked(variable(64, number as u16), rng.word());
         form.push_term(HEAD_BYTE, unary(NOT, 0, tree), rng.word() | 1);
     }
     form

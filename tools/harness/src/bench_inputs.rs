@@ -27,7 +27,7 @@ pub fn classes() -> Vec<Class> {
         refusal,
         files: vec![bytes(&tree)],
     };
-    let leaf = |i: usize| variable(64, i as u8);
+    let leaf = |i: usize| variable(64, i as u16 % 256);
     let rng = &mut Prng::new(SEED + 3);
     let tangles = Class {
         name: "100 expressions of 5 to 40 records",

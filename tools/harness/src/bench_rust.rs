@@ -13,7 +13,7 @@ use crate::form::{ATOM, HEAD_BYTE, MAX_ATOMS, MAX_TREE_RECORDS, RESULT_BYTES, SU
 use crate::ir::semilinear::{structural_hash, AtomInfo, SemilinearIR};
 use crate::ir::semilinear_normalizer::normalize_to_semilinear;
 use crate::model::{zeros_hold, Answer};
-use crate::published::push_node;
+use crate::published::{byte, number_of, push_node};
 use crate::record::{
     self, arity, Record, CONCAT, CONSTANT, MAX_RECORDS, RECORD_BYTES, SHR, VARIABLE, ZEXT,
 };
@@ -158,7 +158,7 @@ fn put(record: Record, out: &mut [u8], at: usize) -> usize {
 
 fn put_atom(info: &AtomInfo, size: usize, w: u8, out: &mut [u8], at: usize) -> usize {
     let hash = info.structural_hash;
-    let head = Record::new(ATOM, HEAD_BYTE, size, w, hash);
+    let head = Record::new(ATOM, u16::from(HEAD_BYTE), size, w, hash);
     let from = put(head, out, at);
     put_tree(&info.original_subtree, w, out, from)
 }
@@ -171,12 +171,12 @@ fn put_tree(tree: &Expr, w: u8, out: &mut [u8], at: usize) -> usize {
     }
     let (kind, arg, literal) = match tree.kind {
         Kind::Constant(literal) => (CONSTANT, 0, literal),
-        Kind::Variable(number) => (VARIABLE, number as u8, 0),
+        Kind::Variable(number) => (VARIABLE, number_of(number), 0),
         Kind::And => (record::AND, 0, 0),
         Kind::Or => (record::OR, 0, 0),
         Kind::Xor => (record::XOR, 0, 0),
         Kind::Not => (record::NOT, 0, 0),
-        Kind::Shr(count) => (SHR, count as u8, 0),
+        Kind::Shr(count) => (SHR, u16::from(byte(count)), 0),
         _ => unreachable!("no atom has another kind"),
     };
     let size = (end - at) / RECORD_BYTES + 1;
@@ -238,7 +238,7 @@ fn read_atoms(bytes: &[u8], width: u8, sum: &mut Sum) -> Option<usize> {
         let tree = read_tree(bytes.get(at + RECORD_BYTES..end)?, width).ok()?;
         let valid = head.arg <= 4
             && head.width == width
-            && head.zeros == [0; 3]
+            && head.zeros == [0; 2]
             && is_atom(&tree) == Some(true)
             && head.literal == structural_hash(&tree);
         records += size;
@@ -272,7 +272,7 @@ fn read_terms(bytes: &[u8], width: u8, sum: &mut Sum) -> Option<()> {
     let mut records = bytes.chunks_exact(RECORD_BYTES).map(Record::from_bytes);
     while let Some(record) = records.next() {
         let number = usize::from(record.size);
-        if record.arg != 0 || record.width != width || record.zeros != [0; 3] {
+        if record.arg != 0 || record.width != width || record.zeros != [0; 2] {
             return None;
         }
         if record.literal > mask {

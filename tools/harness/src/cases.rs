@@ -5,6 +5,7 @@
 use crate::entry::{
     self, Entry, CHANGE_COEFFICIENT, CHANGE_MASK, COALESCE, FLATTEN, RECOVER, REDUCE_MASK, REFINE,
 };
+use crate::family::Family;
 use crate::form::{Form, RESULT_BYTES};
 use crate::prng::Prng;
 use crate::random::{self, Kinds};
@@ -13,12 +14,14 @@ use crate::record::{
     XOR,
 };
 use crate::{
-    edges, form_edges, form_limits, form_random, list_cases, masks, normal_cases, pass_cases,
-    published,
+    edges, form_edges, form_limits, form_random, list, list_cases, masks, normal_cases,
+    number_cases, pass_cases, published,
 };
 
 /// The seed of the vector file: the letters of "hogzelt".
 pub const SEED: u64 = 0x0068_6F67_7A65_6C74;
+/// Added to the seed for variables of two bytes, so that the other random cases stay as they are.
+pub const NUMBER_SEED: u64 = 20;
 
 const RANDOM_TREES: usize = 700;
 const RANDOM_ALL_KINDS: usize = 200;
@@ -51,24 +54,55 @@ pub fn entries() -> Vec<Entry> {
     all.extend(form_limits::entries(rng));
     all.extend(random_forms(rng));
     for family in &normal_cases::FAMILIES {
-        for case in (family.make)(rng, family.stored) {
-            all.push(entry::normalize(case.file, case.length));
-        }
+        all.extend(normal_entries(rng, family));
     }
     for family in &pass_cases::FAMILIES {
-        for case in (family.make)(rng, family.stored) {
-            let bytes = case.bytes();
-            for kind in [REFINE, FLATTEN, RECOVER, COALESCE] {
-                all.push(entry::pass(kind, case.file.clone(), bytes));
-            }
-            all.push(entry::columns(case.file.clone(), case.words()));
-        }
+        all.extend(pass_entries(rng, family));
     }
     for family in &list_cases::FAMILIES {
-        let cases = (family.make)(rng, family.stored);
-        all.extend(cases.into_iter().map(entry::run));
+        all.extend(list_entries(rng, family));
+    }
+    all.extend(number_entries(&mut Prng::new(SEED + NUMBER_SEED)));
+    all
+}
+
+/// The entries over variables of two bytes.
+fn number_entries(rng: &mut Prng) -> Vec<Entry> {
+    let mut all = number_cases::entries(rng);
+    for family in &number_cases::NORMAL {
+        all.extend(normal_entries(rng, family));
+    }
+    for family in &number_cases::FORMS {
+        all.extend(pass_entries(rng, family));
+    }
+    for family in &number_cases::LISTS {
+        all.extend(list_entries(rng, family));
     }
     all
+}
+
+fn normal_entries(rng: &mut Prng, family: &Family<normal_cases::Case>) -> Vec<Entry> {
+    let cases = (family.make)(rng, family.stored).into_iter();
+    cases
+        .map(|case| entry::normalize(case.file, case.length))
+        .collect()
+}
+
+fn pass_entries(rng: &mut Prng, family: &Family<pass_cases::Case>) -> Vec<Entry> {
+    let mut all = Vec::new();
+    for case in (family.make)(rng, family.stored) {
+        let bytes = case.bytes();
+        for kind in [REFINE, FLATTEN, RECOVER, COALESCE] {
+            all.push(entry::pass(kind, case.file.clone(), bytes));
+        }
+        all.push(entry::columns(case.file.clone(), case.words()));
+    }
+    all
+}
+
+fn list_entries(rng: &mut Prng, family: &Family<list::Case>) -> Vec<Entry> {
+    let cases = (family.make)(rng, family.stored);
+    cases.into_iter().map(entry::run).collect()
 }
 
 /// Random forms, forms that the Rust's normaliser makes, and damaged ones, for both functions.
@@ -184,7 +218,7 @@ fn hash_edges() -> Vec<Entry> {
     for kind in ADD..=XOR {
         all.push(entry::hash(&binary(kind, variable(8, 1), variable(8, 0))));
     }
-    let sum = balanced(ADD, 0, 512, &|i| variable(8, i as u8));
+    let sum = balanced(ADD, 0, 512, &|i| variable(8, i as u16 % 256));
     all.push(entry::hash(&sum));
     all.push(entry::hash(&nested(&[NEG], 1023, variable(8, 0))));
     all

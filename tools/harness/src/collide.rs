@@ -55,9 +55,19 @@ fn inverse(factor: u64) -> u64 {
 
 /// Unlike trees of one hash, mostly over the same variables, met in every order.
 pub fn collisions(rng: &mut Prng, count: usize) -> Vec<Case> {
+    collisions_over(rng, count, |_| (0..8).collect())
+}
+
+/// The same over the first of the variables that `choose` gives, which are eight.
+pub fn collisions_over(
+    rng: &mut Prng,
+    count: usize,
+    choose: fn(&mut Prng) -> Vec<u16>,
+) -> Vec<Case> {
     expressions(rng, count, |rng, w| {
+        let numbers = choose(rng);
         let variables = rng.pick(&[1, 2, 2, 2, 3, 6, 7]);
-        let first = all_variables(rng, variables, w);
+        let first = all_variables(rng, &numbers, variables, w);
         let first = match rng.below(4) {
             0 => first,
             1 => unary(SHR, rng.byte() % 3, first),
@@ -73,7 +83,7 @@ pub fn collisions(rng: &mut Prng, count: usize) -> Vec<Case> {
                 true => variables + 1,
                 false => variables,
             };
-            let tree = all_variables(rng, over, w);
+            let tree = all_variables(rng, &numbers, over, w);
             let mut tree = binary(AND, tree, literal(w, 0));
             if rng.one_in(3) {
                 tree = unary(rng.pick(&[NOT, SHR]), 0, tree);
@@ -97,12 +107,12 @@ pub fn collisions(rng: &mut Prng, count: usize) -> Vec<Case> {
     })
 }
 
-/// A bitwise tree over exactly the first `count` variables.
-fn all_variables(rng: &mut Prng, count: usize, w: u8) -> Records {
+/// A bitwise tree over exactly the first `count` of the variables.
+fn all_variables(rng: &mut Prng, numbers: &[u16], count: usize, w: u8) -> Records {
     let first = rng.below(count);
     let kinds = [AND, OR, XOR];
-    (1..count).fold(variable(w, first as u8), |tree, i| {
-        let leaf = variable(w, ((first + i) % count) as u8);
+    (1..count).fold(variable(w, numbers[first]), |tree, i| {
+        let leaf = variable(w, numbers[(first + i) % count]);
         let kind = rng.pick(&kinds);
         either(rng, kind, tree, leaf)
     })

@@ -2,7 +2,7 @@
 //! compaction): first on the cases of the vector file, then on random ones. Stops at the first
 //! difference.
 
-use crate::cases::{self, SEED};
+use crate::cases::{self, NUMBER_SEED, SEED};
 use crate::differences::hex;
 use crate::entry::{
     self, Entry, CHANGE_COEFFICIENT, CHANGE_MASK, COMPACT, FORM_VALUE, REDUCE_MASK, TYPE_NAMES,
@@ -10,18 +10,22 @@ use crate::entry::{
 };
 use crate::form::RESULT_BYTES;
 use crate::model::Answer;
+use crate::numbers::{self, MOST_WORDS};
 use crate::pass::Pass;
 use crate::prng::Prng;
 use crate::random::{self, Kinds};
 use crate::refusal::{NUMBERS, OF_COMPACT, OF_EXPR_VALUE, OF_FORM_VALUE};
 use crate::written::Written;
 use crate::{
-    form_random, library, library_forms, list_compare, masks, normal_compare, pass_compare,
+    form_random, library, library_forms, list_compare, masks, normal_compare, number_cases,
+    pass_compare,
 };
 
 /// Random inputs for each function, beside the cases of the vector file.
 const RANDOM_INPUTS: usize = 250_000;
 const RANDOM_FORMS: usize = 125_000;
+/// One more for so many of them, over variables of two bytes.
+const ONE_IN: usize = 8;
 
 pub fn run() -> Result<(), String> {
     // another seed than the vector file's, so that the random inputs are new ones
@@ -75,8 +79,31 @@ fn compare_values(rng: &mut Prng, edges: &[Entry]) -> Result<(), String> {
         };
         counts.add(check_value(&entry)?);
     }
+    let rng = &mut number_rng();
+    for i in 0..RANDOM_INPUTS / ONE_IN {
+        let longest = longest_assignment(rng);
+        let entry = match i % 4 {
+            3 => number_cases::spoiled_value(rng, longest),
+            _ => number_cases::random_value(rng, longest),
+        };
+        counts.add(check_value(&entry)?);
+    }
     counts.show("hogzelt_expr_value", OF_EXPR_VALUE);
     Ok(())
+}
+
+/// The generator for variables of two bytes.
+fn number_rng() -> Prng {
+    Prng::new(SEED + NUMBER_SEED + 1)
+}
+
+/// The length of the longest assignment of a call: mostly all words that are read, or a few more.
+fn longest_assignment(rng: &mut Prng) -> usize {
+    match rng.below(8) {
+        0 => 512,
+        1 => MOST_WORDS + 1 + rng.below(4096),
+        _ => MOST_WORDS,
+    }
 }
 
 /// The refusal that both give.
@@ -162,6 +189,14 @@ fn form_bytes(rng: &mut Prng, number: usize) -> Vec<u8> {
     }
 }
 
+/// Forms over variables of two bytes, a quarter of them with byte 5, 6 or 7 of a record set.
+fn number_bytes(rng: &mut Prng, number: usize) -> Vec<u8> {
+    match number % 4 {
+        3 => number_cases::spoiled_form(rng),
+        _ => number_cases::random_form(rng, 12).bytes(),
+    }
+}
+
 fn compare_form_values(rng: &mut Prng, edges: &[Entry]) -> Result<(), String> {
     let mut counts = Counts::default();
     for entry in edges.iter().filter(|entry| entry.kind == FORM_VALUE) {
@@ -171,6 +206,13 @@ fn compare_form_values(rng: &mut Prng, edges: &[Entry]) -> Result<(), String> {
         let bytes = form_bytes(rng, i);
         let w = bytes.get(4).map_or(8, |w| (*w).clamp(1, 64));
         let entry = entry::form_value(bytes, random::assignment(rng, w));
+        counts.add(check_value(&entry)?);
+    }
+    let rng = &mut number_rng();
+    for i in 0..RANDOM_FORMS / ONE_IN {
+        let longest = longest_assignment(rng);
+        let words = numbers::assignment(rng, longest);
+        let entry = entry::form_value(number_bytes(rng, i), words);
         counts.add(check_value(&entry)?);
     }
     counts.show("hogzelt_semilinear_value", OF_FORM_VALUE);
@@ -192,6 +234,10 @@ fn compare_compactions(rng: &mut Prng, edges: &[Entry]) -> Result<(), String> {
             _ => RESULT_BYTES,
         };
         counts.add(check_compaction(&bytes, length)?);
+    }
+    let rng = &mut number_rng();
+    for i in 0..RANDOM_FORMS / ONE_IN {
+        counts.add(check_compaction(&number_bytes(rng, i), RESULT_BYTES)?);
     }
     counts.show("hogzelt_compact_atom_table", OF_COMPACT);
     Ok(())

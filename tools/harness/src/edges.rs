@@ -234,7 +234,7 @@ fn casts() -> Vec<Entry> {
 fn refused(number: u64) -> Records {
     let mut records = smallest(SHR, 1, 8);
     match number {
-        3 => records[1].zeros[0] = 1,
+        3 => records[1].arg |= 256,
         4 => records[1].width = 65,
         5 => records[1].kind = SEXT,
         6 => records[1].arg = 64,
@@ -266,7 +266,7 @@ fn pairs() -> Vec<Entry> {
 fn pairs_in_one_record() -> Vec<Entry> {
     let mut shift = smallest(SHR, 255, 0);
     let mut all = vec![plain(&shift)];
-    shift[1].zeros[2] = 1;
+    shift[1].zeros[1] = 1;
     all.push(plain(&shift));
     let mut cast = smallest(TRUNC, 8, 65);
     all.push(plain(&cast));
@@ -334,7 +334,7 @@ fn operators() -> Vec<Entry> {
 fn deep_and_wide() -> Vec<Entry> {
     let leaf = |i: usize| match i % 3 {
         0 => literal(64, 0x0123_4567_89AB_CDEF_u64.wrapping_mul(i as u64 + 1)),
-        _ => variable(64, (i % 7) as u8),
+        _ => variable(64, (i % 7) as u16),
     };
     let depth = MAX_RECORDS - 1;
     let mut all = vec![

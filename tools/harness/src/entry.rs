@@ -8,7 +8,7 @@ use crate::written::{self, Written};
 use crate::{columns, form, list, model, normal_model, published, record};
 
 pub const HEAD_BYTES: usize = 16;
-pub const MAX_WORDS: usize = 256;
+pub const MAX_WORDS: usize = 512;
 /// A form of one record more than there may be, and the longest result, that of the columns.
 pub const MAX_BYTES: usize = form::RESULT_BYTES + RECORD_BYTES + 8 * columns::RESULT_WORDS;
 

@@ -105,7 +105,8 @@ impl Form {
         let mut records = Vec::new();
         for atom in &self.atoms {
             let size = atom.tree.len();
-            records.push(Record::new(ATOM, atom.head_byte, size, w, atom.hash));
+            let head_byte = u16::from(atom.head_byte);
+            records.push(Record::new(ATOM, head_byte, size, w, atom.hash));
             records.extend(&atom.tree);
         }
         for term in &self.terms {

@@ -160,7 +160,7 @@ fn single_trees() -> Vec<Entry> {
     let mut all = Vec::new();
     for kind in CONSTANT..=CONCAT {
         for (left, right) in [(true, true), (true, false), (false, true), (false, false)] {
-            let leaf = |is_variable: bool, number: u8| match is_variable {
+            let leaf = |is_variable: bool, number: u16| match is_variable {
                 true => variable(8, number),
                 false => literal(8, u64::from(number) + 9),
             };

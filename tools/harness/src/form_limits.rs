@@ -133,7 +133,7 @@ fn result_lengths() -> Vec<Entry> {
 fn variables(w: u8, count: usize, first: usize, step: usize) -> Form {
     let mut form = Form::new(w, 1);
     for number in 0..count {
-        let tree = variable(w, number as u8);
+        let tree = variable(w, number as u16 % 256);
         if number >= first && (number - first).is_multiple_of(step) {
             form.push_term(HEAD_BYTE, tree, 1 + number as u64 % most(w));
         } else {
@@ -159,7 +159,7 @@ fn record_limit() -> Vec<Entry> {
     let nots = |count: usize| nested(&[NOT], count - 1, variable(w, 0));
     let leaf = |i: usize| match i % 5 {
         0 => literal(w, !(1 << (i % 64))),
-        _ => variable(w, (i % 2) as u8),
+        _ => variable(w, (i % 2) as u16),
     };
     let leaves = MAX_TREE_RECORDS / 2;
     let most = MAX_TREE_RECORDS;

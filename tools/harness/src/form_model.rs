@@ -41,7 +41,7 @@ fn form(records: &[Record]) -> Option<Form> {
     }
     if records
         .iter()
-        .any(|r| r.width != width || r.zeros != [0; 3])
+        .any(|r| r.width != width || r.zeros != [0; 2])
     {
         return None;
     }
@@ -88,13 +88,13 @@ fn atom(head: &Record, tree: &[Record]) -> Option<Atom> {
         SHR => r.arg <= 63,
         _ => false,
     };
-    let valid = head.arg <= 4
-        && model::well_formed(tree)
+    let head_byte = u8::try_from(head.arg).ok().filter(|byte| *byte <= 4)?;
+    let valid = model::well_formed(tree)
         && tree.iter().all(allowed)
         && tree.iter().any(|r| r.kind == VARIABLE)
         && head.literal == published::hash(tree);
     valid.then(|| Atom {
-        head_byte: head.arg,
+        head_byte,
         hash: head.literal,
         tree: tree.to_vec(),
     })

@@ -17,7 +17,7 @@ pub fn atom_tree(rng: &mut Prng, count: usize, w: u8) -> Records {
     let mut tree = random::expression(rng, count, w, Kinds::Atom);
     if tree.iter().all(|r| r.kind != VARIABLE) {
         // the first record is a leaf
-        tree[0] = Record::new(VARIABLE, rng.byte() % 8, 1, w, 0);
+        tree[0] = Record::new(VARIABLE, u16::from(rng.byte() % 8), 1, w, 0);
     }
     tree
 }
@@ -93,7 +93,13 @@ fn damage(rng: &mut Prng, records: &mut Records, w: u8) {
         3 => record.size = record.size.wrapping_add(rng.pick(&[1, u16::MAX, 256])),
         4 => record.size = rng.below(12) as u16,
         5 => record.width = random::width(rng),
-        6 => record.zeros[rng.below(3)] = 1 << rng.below(8),
+        6 => {
+            let bit = 1u8 << rng.below(8);
+            match rng.below(3) {
+                0 => record.arg = record.arg % 256 | u16::from(bit) << 8,
+                place => record.zeros[place - 1] = bit,
+            }
+        }
         7 => record.literal = random::word(rng, w),
         8 => record.literal ^= 1 << rng.below(64),
         9 => records.swap(at, other),
@@ -114,7 +120,7 @@ pub const ZERO: Record = Record {
     arg: 0,
     size: 0,
     width: 0,
-    zeros: [0; 3],
+    zeros: [0; 2],
     literal: 0,
 };
 

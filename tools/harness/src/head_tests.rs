@@ -15,7 +15,7 @@ use crate::record::{binary, bytes, literal, split, unary, ADD, OR, RECORD_BYTES,
 use crate::written::Written;
 
 /// The bytes at the places of byte 1 of the heads in the bytes of a form.
-fn head_bytes(form: &[u8]) -> Vec<u8> {
+fn head_bytes(form: &[u8]) -> Vec<u16> {
     let records = split(form);
     let heads = records.iter().filter(|record| record.kind == ATOM);
     heads.map(|head| head.arg).collect()

@@ -42,7 +42,7 @@ pub const FAMILIES: [Family<Case>; 7] = [
     family("lengths", 5_000, 20, lengths),
 ];
 
-fn case(file: Vec<u8>, words: Vec<u64>) -> Case {
+pub fn case(file: Vec<u8>, words: Vec<u64>) -> Case {
     Case {
         file,
         words,
@@ -63,7 +63,7 @@ fn made(rng: &mut Prng, count: usize, make: fn(&mut Prng) -> Vec<u8>) -> Vec<Cas
 
 /// Up to 20 calls: passes in their order or at random, one call in eight with a result slice that is
 /// too short.
-fn random_words(rng: &mut Prng, passes: &[Pass]) -> Vec<u64> {
+pub fn random_words(rng: &mut Prng, passes: &[Pass]) -> Vec<u64> {
     let in_order = rng.one_in(4);
     let call = |rng: &mut Prng, number: usize| {
         let pass = match in_order {
@@ -102,7 +102,7 @@ fn examples(count: usize) -> Vec<Case> {
 
 /// An expression with the atoms of a form, and its value: the sum of its terms and constant. An atom
 /// without a term is put in and taken away. None where it is too long.
-fn sum_of(form: &Form) -> Option<Vec<u8>> {
+pub fn sum_of(form: &Form) -> Option<Vec<u8>> {
     let w = form.width;
     let mut terms: Vec<Records> = Vec::new();
     for (number, atom) in form.atoms.iter().enumerate() {
@@ -119,7 +119,7 @@ fn sum_of(form: &Form) -> Option<Vec<u8>> {
 }
 
 /// A sum with the atoms of a form that the passes change.
-fn from_form(rng: &mut Prng) -> Vec<u8> {
+pub fn from_form(rng: &mut Prng) -> Vec<u8> {
     let kinds = [
         pass_groups::one,
         pass_groups::one,
@@ -169,7 +169,7 @@ fn filled(rng: &mut Prng) -> Vec<u8> {
     let short = rng.pick(&[0, 0, 1, 2, 3, 4, 6, 8]);
     let sum = crate::record::split(&file);
     let w = sum[0].width;
-    let shifted = |number: usize| unary(SHR, 1, variable(w, 255 - number as u8));
+    let shifted = |number: usize| unary(SHR, 1, variable(w, 255 - number as u16));
     let extra = (MAX_ATOMS - short).saturating_sub(atoms);
     let whole = (0..extra).fold(sum, |sum, number| binary(ADD, sum, shifted(number)));
     bytes(&whole)

@@ -10,6 +10,8 @@ use crate::library_forms as library;
 use crate::list::{self, Case, Ran};
 use crate::list_cases::FAMILIES;
 use crate::model;
+use crate::number_cases;
+use crate::numbers;
 use crate::pass::PASSES;
 use crate::prng::Prng;
 use crate::refusal::{OF_LISTS, RESULT_LENGTH, TABLE_FULL};
@@ -84,7 +86,7 @@ pub fn run() -> Result<(), String> {
     let mut all = Counts::default();
     let mut faults = Differences::none(&[]);
     println!("{HEAD}");
-    for family in &FAMILIES {
+    for family in FAMILIES.iter().chain(&number_cases::LISTS) {
         let mut counts = Counts::default();
         for case in (family.make)(rng, family.compared) {
             let wanted = list::answer(&case);
@@ -116,7 +118,7 @@ fn check(rng: &mut Prng, case: &Case, wanted: &Written, faults: &mut Differences
         faults.add("single calls of the library give another form", case);
     }
     let same_value = |_| {
-        let vars: Vec<u64> = (0..256).map(|_| rng.word()).collect();
+        let vars = numbers::words(rng, &case.file);
         form_model::answer(found.form(), &vars) == model::answer(&case.file, &vars)
     };
     if !(0..2).all(same_value) {

@@ -55,7 +55,7 @@ fn stack(shape: &str, case: &Case, most: &mut usize) -> Result<usize, String> {
 }
 
 fn shapes() -> Vec<(&'static str, Records)> {
-    let leaf = |i: usize| variable(64, i as u8);
+    let leaf = |i: usize| variable(64, i as u16 % 256);
     let mask = |i: usize| 1 << (i % 64);
     let atom = |i: usize| binary(AND, leaf(0), literal(64, (1 << 16) - 1 - i as u64));
     vec![

@@ -62,6 +62,10 @@ mod normal_small;
 #[cfg(feature = "library")]
 mod normal_stack;
 mod normal_table;
+mod number_cases;
+#[cfg(test)]
+mod number_tests;
+mod numbers;
 mod pass;
 mod pass_atoms;
 mod pass_cases;

@@ -75,10 +75,12 @@ pub fn well_formed(records: &[Record]) -> bool {
 
 /// Bytes that must be 0 in a record of a kind up to 13 are.
 pub fn zeros_hold(record: &Record) -> bool {
-    let has_arg = record.kind == VARIABLE || (SHR..=TRUNC).contains(&record.kind);
-    (has_arg || record.arg == 0)
-        && record.zeros == [0; 3]
-        && (record.kind == CONSTANT || record.literal == 0)
+    let most = match record.kind {
+        VARIABLE => u16::MAX,
+        SHR..=TRUNC => u16::from(u8::MAX),
+        _ => 0,
+    };
+    record.arg <= most && record.zeros == [0; 2] && (record.kind == CONSTANT || record.literal == 0)
 }
 
 /// The value of an accepted expression.

@@ -12,6 +12,8 @@ use crate::library_forms as library;
 use crate::model;
 use crate::normal_cases::{Case, FAMILIES};
 use crate::normal_model;
+use crate::number_cases;
+use crate::numbers;
 use crate::prng::Prng;
 use crate::published;
 use crate::record::split;
@@ -76,7 +78,7 @@ pub fn run() -> Result<(), String> {
     let mut partings = Differences::none(&[MAP_ORDERS]);
     println!("| hogzelt_normalize_to_semilinear | inputs | accepted | of two terms or more | 1 | 2 | 3 | 4 | 5 | 6 | 7 | 8 | 9 |");
     println!("|---|---|---|---|---|---|---|---|---|---|---|---|---|");
-    for family in &FAMILIES {
+    for family in FAMILIES.iter().chain(&number_cases::NORMAL) {
         let mut counts = Counts::default();
         for case in (family.make)(rng, family.compared) {
             let wanted = check(&case, &mut faults, &mut partings);
@@ -137,7 +139,7 @@ fn keeps_value(rng: &mut Prng, case: &Case, wanted: &Written) -> bool {
     if wanted.refusal != 0 {
         return true;
     }
-    let vars: Vec<u64> = (0..256).map(|_| rng.word()).collect();
+    let vars = numbers::words(rng, &case.file);
     form_model::answer(wanted.form(), &vars) == model::answer(&case.file, &vars)
 }
 

@@ -32,7 +32,7 @@ pub fn chains(rng: &mut Prng, count: usize) -> Vec<Case> {
                 0 => unary(SHR, rng.byte() % 2, variable(w, 1)),
                 1 => unary(NOT, 0, variable(w, 2)),
                 2 => binary(AND, variable(w, 0), variable(w, 1)),
-                _ => variable(w, rng.byte()),
+                _ => variable(w, u16::from(rng.byte())),
             };
             let kinds = rng.pick(&[[XOR, XOR], [OR, OR], [XOR, OR]]);
             let length = match rng.below(4) {
@@ -53,7 +53,7 @@ pub fn chains(rng: &mut Prng, count: usize) -> Vec<Case> {
 /// The longest files: nested unary records, and chains of sums.
 pub fn deep() -> Vec<Case> {
     let depth = MAX_RECORDS - 1;
-    let leaf = |i: usize| variable(8, i as u8);
+    let leaf = |i: usize| variable(8, i as u16 % 256);
     let halves = nested(&[NEG], depth / 2, nested(&[NOT], depth / 2, leaf(0)));
     cases(vec![
         nested(&[NEG], depth, leaf(0)),
@@ -70,8 +70,8 @@ pub fn deep() -> Vec<Case> {
         balanced(ADD, 0, 512, &leaf),
         left_chain(AND, 512, leaf),
         right_chain(XOR, 512, leaf),
-        left_chain(AND, 512, |i| variable(8, i as u8 % 5)),
-        right_chain(OR, 512, |i| variable(8, i as u8 % 5)),
+        left_chain(AND, 512, |i| variable(8, i as u16 % 256 % 5)),
+        right_chain(OR, 512, |i| variable(8, i as u16 % 256 % 5)),
         left_chain(MUL, 512, |i| match i {
             0 => variable(8, 0),
             _ => literal(8, 3),
@@ -81,7 +81,7 @@ pub fn deep() -> Vec<Case> {
 
 /// The variables 0 to `count` - 1, and shifted variables from 256 on.
 fn atom(w: u8, number: usize) -> Records {
-    let leaf = variable(w, number as u8);
+    let leaf = variable(w, number as u16 % 256);
     match number / MAX_ATOMS {
         0 => leaf,
         shift => unary(SHR, shift as u8, leaf),
@@ -98,7 +98,7 @@ fn records_sum(w: u8, leaf: Records, kind: u8, count: usize, total: usize) -> Re
     let size = leaf.len();
     let made = (count + 1) * size + count * (count + 1);
     let whole = chain(leaf, &[kind], count, |i| 1 + i as u64);
-    (0..total.saturating_sub(made)).fold(whole, |sum, i| add(sum, variable(w, 255 - i as u8)))
+    (0..total.saturating_sub(made)).fold(whole, |sum, i| add(sum, variable(w, 255 - i as u16)))
 }
 
 /// Tables at their limits: 255 to 257 atoms, also with one that is not used, with a product of
@@ -126,7 +126,7 @@ pub fn edges() -> Vec<Case> {
     for total in 3071..=3073 {
         all.push(records_sum(w, variable(w, 0), XOR, 54, total));
         all.push(records_sum(w, variable(w, 0), OR, 53, total));
-        let big = left_chain(AND, 382, |i| variable(w, i as u8 % 7));
+        let big = left_chain(AND, 382, |i| variable(w, i as u16 % 256 % 7));
         all.push(records_sum(w, big, XOR, 3, total));
     }
     for count in [54, 55] {
@@ -163,7 +163,7 @@ fn many_atoms(rng: &mut Prng, wanted: usize, w: u8) -> Records {
     let mut terms = Vec::new();
     let (mut made, mut number) = (0, 0);
     while made < wanted {
-        let leaf = variable(w, number as u8);
+        let leaf = variable(w, number as u16 % 256);
         // each variable is taken once in each round
         let round = 1 + (number / 256) as u8;
         let (term, atoms) = match rng.below(6) {
@@ -201,7 +201,7 @@ pub fn tree_records(rng: &mut Prng, count: usize) -> Vec<Case> {
             let total = MAX_TREE_RECORDS + rng.below(5) - 2;
             let mut sum = chain(leaf, &[rng.pick(&[XOR, OR])], length, |i| 1 + 2 * i as u64);
             for i in 0..total.saturating_sub(made) {
-                let extra = variable(w, 255 - i as u8);
+                let extra = variable(w, 255 - i as u16);
                 sum = match rng.one_in(2) {
                     true => add(sum, extra),
                     false => add(extra, sum),
@@ -215,7 +215,7 @@ pub fn tree_records(rng: &mut Prng, count: usize) -> Vec<Case> {
 /// A bitwise tree of `size` records that is no Not: nested shifts, or a chain of And.
 fn big_leaf(rng: &mut Prng, size: usize, w: u8) -> Records {
     let variables = 1 + rng.below(7);
-    let leaf = |i: usize| variable(w, (i % variables) as u8);
+    let leaf = |i: usize| variable(w, (i % variables) as u16);
     match rng.below(3) {
         0 => nested(&[SHR], size - 1, leaf(0)),
         1 => nested(

@@ -37,7 +37,7 @@ fn bitwise(rng: &mut Prng, most: usize, w: u8) -> Records {
 /// A tree without literals and shifts, over the first `variables` of the variables.
 pub fn pure(rng: &mut Prng, records: usize, variables: usize, w: u8) -> Records {
     match records {
-        1 => variable(w, rng.below(variables) as u8),
+        1 => variable(w, rng.below(variables) as u16),
         2 => unary(NOT, 0, pure(rng, 1, variables, w)),
         _ if rng.one_in(3) => unary(NOT, 0, pure(rng, records - 1, variables, w)),
         _ => {
@@ -107,7 +107,7 @@ pub fn sums(rng: &mut Prng, count: usize) -> Vec<Case> {
         for _ in 0..2 + rng.below(9) {
             let atom = match rng.below(8) {
                 0 | 1 if !atoms.is_empty() => atoms[rng.below(atoms.len())].clone(),
-                2 => variable(w, rng.byte() % 8),
+                2 => variable(w, u16::from(rng.byte() % 8)),
                 3 | 4 => {
                     let records = 1 + rng.below(6);
                     pure(rng, records, 3, w)
@@ -167,7 +167,7 @@ pub fn lowering(rng: &mut Prng, count: usize) -> Vec<Case> {
         let mut terms = Vec::new();
         for _ in 0..1 + rng.below(4) {
             let mut tree = match rng.below(3) {
-                0 => variable(w, rng.byte() % 4),
+                0 => variable(w, u16::from(rng.byte() % 4)),
                 1 => pure(rng, 3, 2, w),
                 _ => bitwise(rng, 5, w),
             };
@@ -253,7 +253,8 @@ pub fn constants(rng: &mut Prng, count: usize) -> Vec<Case> {
 /// Products of variables, and bitwise operators over sums, below sums, factors and factors of 0.
 pub fn nonlinear(rng: &mut Prng, count: usize) -> Vec<Case> {
     expressions(rng, count, |rng, w| {
-        let (x, y) = (variable(w, rng.byte() % 4), variable(w, rng.byte() % 4));
+        let x = variable(w, u16::from(rng.byte() % 4));
+        let y = variable(w, u16::from(rng.byte() % 4));
         let sum_of_two = add(x.clone(), y.clone());
         let mask = number(rng, w);
         let mut tree = match rng.below(8) {

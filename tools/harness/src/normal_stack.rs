@@ -70,8 +70,8 @@ pub fn times() -> Result<(), String> {
 }
 
 fn shapes() -> Vec<(&'static str, Records)> {
-    let leaf = |i: usize| variable(64, i as u8);
-    let five = |i: usize| variable(64, i as u8 % 5);
+    let leaf = |i: usize| variable(64, i as u16 % 256);
+    let five = |i: usize| variable(64, i as u16 % 256 % 5);
     let depth = MAX_RECORDS - 1;
     let mask = |i: usize| 1 << (i % 64);
     let product = |i: usize| match i {

@@ -11,7 +11,7 @@ const MAX_TABLE_VARIABLES: usize = 5;
 /// An atom of the table, with what decides about sharing it.
 struct Entry {
     atom: Atom,
-    variables: Vec<u8>,
+    variables: Vec<u16>,
     table: Option<u32>,
     coeff: u64,
 }
@@ -51,7 +51,7 @@ fn shared(entries: &[Entry], new: &Entry) -> Option<usize> {
 }
 
 fn entry(coeff: u64, tree: Records) -> Entry {
-    let mut variables: Vec<u8> = tree
+    let mut variables: Vec<u16> = tree
         .iter()
         .filter(|r| r.kind == VARIABLE)
         .map(|r| r.arg)
@@ -68,13 +68,13 @@ fn entry(coeff: u64, tree: Records) -> Entry {
 
 /// The truth table, row i in bit i: the j-th smallest variable has bit j of i. None where a literal
 /// or a Shr, by 0 too, occurs or the variables are too many.
-fn truth_table(tree: &[Record], variables: &[u8]) -> Option<u32> {
+fn truth_table(tree: &[Record], variables: &[u16]) -> Option<u32> {
     let opaque = tree.iter().any(|r| matches!(r.kind, CONSTANT | SHR));
     if opaque || variables.len() > MAX_TABLE_VARIABLES {
         return None;
     }
     let rows = 1u32 << variables.len();
-    let column = |number: u8| {
+    let column = |number: u16| {
         let place = variables.iter().position(|v| *v == number);
         let place = place.expect("a variable of the tree");
         (0..rows).fold(0, |bits, row| bits | (row >> place & 1) << row)

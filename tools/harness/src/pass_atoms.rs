@@ -30,10 +30,10 @@ pub fn atoms(rng: &mut Prng, w: u8) -> Form {
 
 /// A tree over exactly so many variables, with a few literals and shifts among them.
 fn atom(rng: &mut Prng, variables: usize, w: u8) -> Records {
-    let from = rng.byte() % 4;
+    let from = u16::from(rng.byte() % 4);
     let mut tree = variable(w, from);
     for number in 1..variables {
-        let next = decorated(rng, variable(w, from + number as u8), w);
+        let next = decorated(rng, variable(w, from + number as u16), w);
         let kind = rng.pick(&[AND, OR, XOR]);
         tree = either(rng, kind, tree, next);
     }
@@ -106,7 +106,7 @@ fn fill(rng: &mut Prng, form: &mut Form, more: &Form) {
     if rng.one_in(2) {
         for _ in atoms..MAX_ATOMS.saturating_sub(short) {
             if size(form) + size(more) < MAX_TREE_RECORDS {
-                form.push(rng.byte() % 5, variable(w, rng.byte()));
+                form.push(rng.byte() % 5, variable(w, u16::from(rng.byte())));
             }
         }
         return;
@@ -144,7 +144,7 @@ pub fn edges() -> Vec<Case> {
         for atoms in [MAX_ATOMS - new.len(), MAX_ATOMS - new.len() + 1] {
             let mut form = Form::new(w, 1);
             for number in terms.len()..atoms {
-                form.push(HEAD_BYTE, variable(w, 1 + (number - terms.len()) as u8));
+                form.push(HEAD_BYTE, variable(w, 1 + (number - terms.len()) as u16));
             }
             all.push(with_terms(form));
         }

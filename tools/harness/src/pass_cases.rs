@@ -78,7 +78,7 @@ pub fn case(form: &Form) -> Case {
 }
 
 /// `count` calls on forms that `make` makes at random widths.
-fn made(rng: &mut Prng, count: usize, make: fn(&mut Prng, u8) -> Form) -> Vec<Case> {
+pub fn made(rng: &mut Prng, count: usize, make: fn(&mut Prng, u8) -> Form) -> Vec<Case> {
     (0..count)
         .map(|_| {
             let w = random::width(rng);
@@ -107,7 +107,7 @@ pub fn expression(rng: &mut Prng) -> (Vec<u8>, Vec<u8>) {
 }
 
 /// The forms of such expressions, with their whole tables.
-fn normalised(rng: &mut Prng, count: usize) -> Vec<Case> {
+pub fn normalised(rng: &mut Prng, count: usize) -> Vec<Case> {
     (0..count)
         .map(|_| Case {
             file: expression(rng).1,

@@ -63,8 +63,8 @@ pub fn hold(form: &Form, columns: &Columns, vars: &[u64]) -> bool {
 }
 
 /// The numbers of a tree's variables, rising.
-fn variables(tree: &[Record]) -> Vec<u8> {
-    let mut numbers: Vec<u8> = tree
+fn variables(tree: &[Record]) -> Vec<u16> {
+    let mut numbers: Vec<u16> = tree
         .iter()
         .filter(|record| record.kind == VARIABLE)
         .map(|record| record.arg)
@@ -85,7 +85,7 @@ fn opaque(tree: &[Record]) -> bool {
 fn tells(tree: &[Record], mask: u64, word: u64, value: u64, vars: &[u64]) -> bool {
     let numbers = variables(tree);
     (0..64).filter(|place| mask >> place & 1 == 1).all(|place| {
-        let bit = |number: &u8| vars.get(usize::from(*number)).map_or(0, |v| v >> place & 1);
+        let bit = |number: &u16| vars.get(usize::from(*number)).map_or(0, |v| v >> place & 1);
         let row = numbers
             .iter()
             .enumerate()

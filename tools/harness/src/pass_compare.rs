@@ -11,6 +11,8 @@ use crate::dump;
 use crate::form::{Form, HEAD_BYTE};
 use crate::form_model;
 use crate::library_forms as library;
+use crate::number_cases;
+use crate::numbers;
 use crate::parted;
 use crate::pass::{self, Pass, PASSES};
 use crate::pass_cases::{Case, FAMILIES};
@@ -97,7 +99,7 @@ pub fn run() -> Result<(), String> {
         partings: Differences::none(&[]),
     };
     println!("{HEAD}");
-    for family in &FAMILIES {
+    for family in FAMILIES.iter().chain(&number_cases::FORMS) {
         let mut counts = Counts::default();
         for case in (family.make)(&mut comparison.rng, family.compared) {
             comparison.check(&case, &mut counts);
@@ -123,7 +125,7 @@ impl Comparison {
         let form = form_model::read(&case.file);
         let new_heads = |form: &Form| form.clone().with_heads(HEAD_BYTE).bytes();
         let unchanged = form.as_ref().map(new_heads).unwrap_or_default();
-        let vars: Vec<u64> = (0..256).map(|_| self.rng.word()).collect();
+        let vars = numbers::words(&mut self.rng, &case.file);
         for (function, pass) in PASSES.into_iter().enumerate() {
             let wanted = self.check_pass(pass, case, &form, &vars);
             let changed = wanted.refusal == 0 && wanted.form() != unchanged;

@@ -201,7 +201,7 @@ pub fn cases() -> Vec<Case> {
     // a shift of a literal alone is no atom
     all.retain(|form| crate::form_model::read(&form.bytes()).is_ok());
     for count in 5..=7 {
-        let leaf = |number: usize| variable(8, number as u8);
+        let leaf = |number: usize| variable(8, number as u16);
         let tree = crate::record::left_chain(XOR, count, leaf);
         all.push(form(0, &[(1, and(tree, 15))]));
     }

@@ -5,6 +5,7 @@ use crate::collide;
 use crate::form::{Form, MAX_ATOMS, MAX_TREE_RECORDS};
 use crate::form_random::number;
 use crate::normal_random::either;
+use crate::numbers;
 use crate::prng::Prng;
 use crate::published;
 use crate::random;
@@ -120,8 +121,8 @@ fn mask_tree(rng: &mut Prng, mask: u64, w: u8) -> Records {
 
 /// A basis: most often a variable.
 fn basis(rng: &mut Prng, w: u8) -> Records {
-    let x = variable(w, rng.byte() % 4);
-    let y = variable(w, rng.byte() % 6);
+    let x = variable(w, u16::from(rng.byte() % 4));
+    let y = variable(w, u16::from(rng.byte() % 6));
     match rng.below(12) {
         0 => binary(AND, x, y),
         1 => binary(XOR, x, y),
@@ -135,7 +136,7 @@ fn basis(rng: &mut Prng, w: u8) -> Records {
             either(rng, OR, x, literal(w, word))
         }
         5 => unary(SHR, rng.byte() % w.min(4), x),
-        6 => variable(w, rng.byte()),
+        6 => variable(w, u16::from(rng.byte())),
         _ => x,
     }
 }
@@ -256,10 +257,22 @@ pub fn bare(rng: &mut Prng, w: u8) -> Form {
 /// Forms of bases and bare atoms that are unlike and of one hash.
 pub fn colliding(rng: &mut Prng, w: u8) -> Form {
     let first = basis(rng, w);
+    colliding_with(rng, first, |rng| u16::from(rng.byte() % 3), w)
+}
+
+/// The same over variables of two bytes.
+pub fn colliding_over_all(rng: &mut Prng, w: u8) -> Form {
+    let mut first = basis(rng, w);
+    numbers::rename(rng, &mut first);
+    colliding_with(rng, first, numbers::number, w)
+}
+
+/// The form with a first basis, and others over the variables that `choose` gives.
+fn colliding_with(rng: &mut Prng, first: Records, choose: fn(&mut Prng) -> u16, w: u8) -> Form {
     let hash = published::hash(&first);
     let mut bases = vec![first];
     for _ in 0..1 + rng.below(3) {
-        let over = variable(w, rng.byte() % 3);
+        let over = variable(w, choose(rng));
         let kind = rng.pick(&[AND, OR, XOR]);
         let mut tree = binary(kind, over, literal(w, 0));
         if rng.one_in(4) {

@@ -1,7 +1,7 @@
 //! The published Rust behind the names that the harness uses: expression files become its `Expr`
 //! and back. bridge.rs does the same for semilinear forms, in each build.
 
-use std::sync::Arc;
+use std::sync::{Arc, OnceLock};
 
 use crate::core::expr::{render, Expr, Kind};
 use crate::ir::semilinear::structural_hash;
@@ -66,10 +66,11 @@ pub fn hash(records: &[Record]) -> u64 {
     structural_hash(&expr(records))
 }
 
-/// A well-formed expression in infix form, variables named v0 to v255.
+/// A well-formed expression in infix form, variables named v0 to v65535.
 pub fn text(records: &[Record]) -> String {
-    let names: Vec<String> = (0..256).map(|i| format!("v{i}")).collect();
-    render(&expr(records), &names, u32::from(records[0].width))
+    static NAMES: OnceLock<Vec<String>> = OnceLock::new();
+    let names = NAMES.get_or_init(|| (0..=u16::MAX).map(|i| format!("v{i}")).collect());
+    render(&expr(records), names, u32::from(records[0].width))
 }
 
 /// The records of a tree without casts, at w bits.
@@ -79,7 +80,7 @@ pub fn records(tree: &Expr, w: u8) -> Records {
     let binary = |kind: u8| record::binary(kind, child(0), child(1));
     match tree.kind {
         Kind::Constant(value) => record::literal(w, value),
-        Kind::Variable(number) => record::variable(w, byte(number)),
+        Kind::Variable(number) => record::variable(w, number_of(number)),
         Kind::Add => binary(record::ADD),
         Kind::Mul => binary(record::MUL),
         Kind::And => binary(record::AND),
@@ -90,6 +91,11 @@ pub fn records(tree: &Expr, w: u8) -> Records {
         Kind::Shr(count) => unary(record::SHR, byte(count)),
         _ => unreachable!("no form has casts"),
     }
+}
+
+/// A variable's number in a record.
+pub fn number_of(number: u32) -> u16 {
+    u16::try_from(number).expect("a number that a record can hold")
 }
 
 pub fn byte(number: u32) -> u8 {

@@ -1,6 +1,5 @@
 //! Random expressions, assignments and damaged files.
 
-use crate::entry::MAX_WORDS;
 use crate::prng::Prng;
 use crate::record::{
     self, binary, literal, unary, variable, Record, Records, AND, CONCAT, NOT, RECORD_BYTES, SHR,
@@ -63,8 +62,8 @@ pub fn expression(rng: &mut Prng, count: usize, w: u8, kinds: Kinds) -> Records 
 fn leaf(rng: &mut Prng, w: u8) -> Records {
     match rng.below(8) {
         0..=2 => literal(w, word(rng, w)),
-        3 => variable(w, rng.byte()),
-        _ => variable(w, rng.byte() % 8),
+        3 => variable(w, u16::from(rng.byte())),
+        _ => variable(w, u16::from(rng.byte() % 8)),
     }
 }
 
@@ -101,10 +100,11 @@ fn binary_kind(rng: &mut Prng, kinds: Kinds) -> u8 {
     }
 }
 
-/// Assignment words: a few for most expressions, sometimes none, sometimes one for each variable.
+/// Assignment words: a few for most expressions, sometimes none, sometimes one for each variable below
+/// 256.
 pub fn assignment(rng: &mut Prng, w: u8) -> Vec<u64> {
     let count = match rng.below(48) {
-        0 => MAX_WORDS,
+        0 => 256,
         1..=3 => 0,
         4..=15 => 1 + rng.below(9),
         _ => 8,

@@ -19,27 +19,28 @@ pub const SEXT: u8 = 11;
 pub const TRUNC: u8 = 12;
 pub const CONCAT: u8 = 13;
 
-/// One record. `arg` is byte 1, `zeros` are bytes 5 to 7, which must be 0 in a valid file.
+/// One record. `arg` has byte 1 and, above it, byte 5, which is not 0 in variables alone; `zeros` are
+/// bytes 6 and 7, which must be 0 in a valid file.
 #[derive(Clone, Copy, Debug, PartialEq, Eq)]
 pub struct Record {
     pub kind: u8,
-    pub arg: u8,
+    pub arg: u16,
     pub size: u16,
     pub width: u8,
-    pub zeros: [u8; 3],
+    pub zeros: [u8; 2],
     pub literal: u64,
 }
 
 pub type Records = Vec<Record>;
 
 impl Record {
-    pub fn new(kind: u8, arg: u8, size: usize, width: u8, literal: u64) -> Self {
+    pub fn new(kind: u8, arg: u16, size: usize, width: u8, literal: u64) -> Self {
         Self {
             kind,
             arg,
             size: size as u16,
             width,
-            zeros: [0; 3],
+            zeros: [0; 2],
             literal,
         }
     }
@@ -47,10 +48,10 @@ impl Record {
     pub fn from_bytes(b: &[u8]) -> Self {
         Self {
             kind: b[0],
-            arg: b[1],
+            arg: u16::from_le_bytes([b[1], b[5]]),
             size: u16::from_le_bytes([b[2], b[3]]),
             width: b[4],
-            zeros: [b[5], b[6], b[7]],
+            zeros: [b[6], b[7]],
             literal: u64::from_le_bytes(b[8..16].try_into().expect("eight bytes")),
         }
     }
@@ -58,10 +59,10 @@ impl Record {
     pub fn to_bytes(self) -> [u8; RECORD_BYTES] {
         let mut b = [0; RECORD_BYTES];
         b[0] = self.kind;
-        b[1] = self.arg;
+        [b[1], b[5]] = self.arg.to_le_bytes();
         b[2..4].copy_from_slice(&self.size.to_le_bytes());
         b[4] = self.width;
-        b[5..8].copy_from_slice(&self.zeros);
+        b[6..8].copy_from_slice(&self.zeros);
         b[8..16].copy_from_slice(&self.literal.to_le_bytes());
         b
     }
@@ -91,14 +92,15 @@ pub fn literal(width: u8, value: u64) -> Records {
     vec![Record::new(CONSTANT, 0, 1, width, value)]
 }
 
-pub fn variable(width: u8, number: u8) -> Records {
+pub fn variable(width: u8, number: u16) -> Records {
     vec![Record::new(VARIABLE, number, 1, width, 0)]
 }
 
 /// A record of a unary kind over `child`, of the child's width.
 pub fn unary(kind: u8, arg: u8, mut child: Records) -> Records {
     let width = root(&child).width;
-    child.push(Record::new(kind, arg, child.len() + 1, width, 0));
+    let size = child.len() + 1;
+    child.push(Record::new(kind, u16::from(arg), size, width, 0));
     child
 }
 
@@ -118,7 +120,7 @@ fn root(records: &[Record]) -> &Record {
 pub fn smallest(kind: u8, arg: u8, width: u8) -> Records {
     match (kind, arity(kind)) {
         (CONSTANT, _) => literal(width, 5),
-        (VARIABLE, _) => variable(width, arg),
+        (VARIABLE, _) => variable(width, u16::from(arg)),
         (_, 1) => unary(kind, arg, variable(width, 0)),
         _ => binary(kind, variable(width, 0), variable(width, 1)),
     }

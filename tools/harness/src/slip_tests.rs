@@ -147,7 +147,7 @@ fn told(form: &Form, words: &[u64], classes: u64) {
 #[test]
 fn columns() {
     const OPAQUE: u64 = 0xDEAD << 48;
-    let chain = |count| left_chain(AND, count, |i| variable(8, i as u8));
+    let chain = |count| left_chain(AND, count, |i| variable(8, i as u16));
     told(&rows(8, 0, &[(chain(5), 1)]), &[255, 1 << 31, 0], 1);
     told(&rows(8, 0, &[(chain(6), 1)]), &[255, OPAQUE, 0], 1);
     let shifted = |count| (unary(SHR, count, a()), 1);

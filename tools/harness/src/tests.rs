@@ -198,7 +198,7 @@ fn normalising_of_the_document() {
     let not = |x: Records| unary(NOT, 0, x);
     let product = || binary(MUL, a(), b());
     let both = |l: Records, r: Records| binary(AND, l, r);
-    let sum_of_all = balanced(ADD, 0, 256, &|i| variable(8, i as u8));
+    let sum_of_all = balanced(ADD, 0, 256, &|i| variable(8, i as u16));
     let puzzles = [
         (n(5), "5"),
         (binary(XOR, a(), n(15)), "15, 1·(v0), 254·(v0 & 15)"),
