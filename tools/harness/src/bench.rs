@@ -20,7 +20,8 @@ const BEGIN: &str = "<!-- printed by tools/harness/run.sh bench -->\n";
 const END: &str = "<!-- end of what it printed -->\n";
 
 pub fn run(document: Option<&str>) -> Result<(), String> {
-    let classes = bench_inputs::classes();
+    let mut classes = bench_inputs::classes();
+    classes.push(bench_inputs::one_atom());
     let mut rows = Vec::new();
     for class in &classes {
         rows.push(row(

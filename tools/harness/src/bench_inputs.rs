@@ -63,6 +63,16 @@ pub fn classes() -> Vec<Class> {
     ]
 }
 
+/// One atom of 512 variables, which only a library with variables of two bytes takes.
+#[cfg(feature = "library")]
+pub fn one_atom() -> Class {
+    Class {
+        name: "one atom of 512 variables",
+        refusal: 0,
+        files: vec![bytes(&crate::number_cases::of_512(XOR, 0))],
+    }
+}
+
 /// Accepted expressions of 5 to 40 records, from four families by turns.
 fn tangles(rng: &mut Prng) -> Vec<Vec<u8>> {
     let families: [fn(&mut Prng, usize) -> Vec<Case>; 4] = [
@@ -83,7 +93,7 @@ fn tangles(rng: &mut Prng) -> Vec<Vec<u8>> {
     files
 }
 
-/// A word for each variable.
+/// A word for each variable below 256.
 pub fn assignment() -> Vec<u64> {
     let rng = &mut Prng::new(SEED + 4);
     (0..256).map(|_| random::word(rng, 64)).collect()

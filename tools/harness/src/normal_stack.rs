@@ -9,6 +9,7 @@ use crate::library_forms as library;
 use crate::measure::{stack_used, time_of};
 use crate::normal_limits::chain;
 use crate::normal_model;
+use crate::number_cases::of_512;
 use crate::record::{
     balanced, binary, bytes, left_chain, left_turns, literal, nested, right_chain, right_turns,
     unary, variable, Records, ADD, AND, MAX_RECORDS, MUL, NEG, NOT, OR, SHR, XOR,
@@ -123,6 +124,7 @@ fn shapes() -> Vec<(&'static str, Records)> {
             chain(left_chain(AND, 5, five), &[OR], 500, mask),
         ),
         ("one atom, left chain of And", left_chain(AND, 512, five)),
+        ("one atom of 512 variables", of_512(XOR, 65_024)),
         ("one atom, right chain of Xor", right_chain(XOR, 512, five)),
         (
             "3 nested Xor over a chain of And",

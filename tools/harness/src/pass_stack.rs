@@ -24,10 +24,11 @@ fn shapes() -> Vec<(&'static str, Vec<u8>)> {
     let mask = || literal(64, 15);
     let (leaf, depth) = (variable(64, 0), MAX_TREE_RECORDS - 3);
     let deep_basis = binary(AND, nested(&[NOT], depth, leaf.clone()), mask());
-    let deep_mask = nested(&[NOT], depth, binary(AND, leaf, mask()));
+    let masked = |leaf| nested(&[NOT], depth, binary(AND, leaf, mask()));
     for (shape, tree) in [
         ("nested Not, masked", deep_basis),
-        ("nested Not of a masked variable", deep_mask),
+        ("nested Not of a masked variable", masked(leaf)),
+        ("nested Not of v65535, masked", masked(variable(64, 65_535))),
     ] {
         let mut form = Form::new(64, 1);
         form.push_term(HEAD_BYTE, tree, 16);

@@ -13,13 +13,14 @@ use crate::list_stack;
 use crate::measure::{stack_used, time_of};
 use crate::model;
 use crate::normal_stack;
+use crate::number_cases::of_512;
 use crate::pass::Pass;
 use crate::pass_stack;
 use crate::prng::Prng;
 use crate::random::{self, Kinds};
 use crate::record::{
     balanced, bytes, left_chain, left_turns, nested, right_chain, right_turns, unary, variable,
-    Records, ADD, AND, MAX_RECORDS, NEG, NOT, RECORD_BYTES, SHR,
+    Records, ADD, AND, MAX_RECORDS, NEG, NOT, RECORD_BYTES, SHR, XOR,
 };
 
 const VARS: [u64; 3] = [1, 2, 3];
@@ -70,7 +71,7 @@ fn expression_stacks() -> Result<usize, String> {
 
 /// One leaf, and the shapes that may use the most stack, as long as a file may be.
 fn expressions() -> Vec<(&'static str, Vec<u8>)> {
-    let leaf = |i: usize| variable(64, i as u8);
+    let leaf = |i: usize| variable(64, i as u16 % 256);
     let depth = MAX_RECORDS - 1;
     let chain = |kind: u8| nested(&[kind], depth, leaf(0));
     let mut damaged = chain(NEG);
@@ -91,6 +92,7 @@ fn expressions() -> Vec<(&'static str, Vec<u8>)> {
             right_turns(NEG, ADD, 341, leaf(0)),
         ),
         ("balanced sum", balanced(ADD, 0, 512, &leaf)),
+        ("Xor of 512 variables", of_512(XOR, 65_024)),
         ("nested Neg, wrong deepest size", damaged),
     ];
     shapes
@@ -128,7 +130,7 @@ fn form_stacks() -> Result<usize, String> {
 
 /// Forms of one atom, whose tree is as deep as it may be, and the longest form.
 pub fn forms() -> Vec<(&'static str, Vec<u8>)> {
-    let leaf = |i: usize| variable(64, i as u8);
+    let leaf = |i: usize| variable(64, i as u16 % 256);
     let leaves = MAX_TREE_RECORDS / 2;
     let turns = (MAX_TREE_RECORDS - 1) / 3;
     let trees: [(&'static str, Records); 6] = [
@@ -178,7 +180,7 @@ fn expression_times() {
         1e9 / per_call
     );
     let deep = bytes(&nested(&[NEG], MAX_RECORDS - 1, variable(64, 0)));
-    let wide = bytes(&balanced(ADD, 0, 512, &|i| variable(64, i as u8)));
+    let wide = bytes(&balanced(ADD, 0, 512, &|i| variable(64, i as u16 % 256)));
     for (shape, file) in [("nested Neg", deep), ("balanced sum", wide)] {
         show_time("hogzelt_expr_value", shape, &file, || {
             black_box(library::expr_value(&file, &VARS));
@@ -216,7 +218,7 @@ fn timed_forms() -> Vec<(&'static str, Vec<u8>)> {
     half.terms.retain(|term| term.atom % 2 == 1);
     let mut small = Form::new(64, 1);
     for number in 0..MAX_ATOMS {
-        small.push_term(HEAD_BYTE, variable(64, number as u8), 3);
+        small.push_term(HEAD_BYTE, variable(64, number as u16 % 256), 3);
     }
     let mut deep = Form::new(64, 1);
     deep.push_term(
