@@ -5,7 +5,8 @@
 
 int main(void)
 {
-    /* kind, argument, size (2 bytes), width, 0, 0, 0, literal (8 bytes); children first, root last */
+    /* kind, argument, size (2 bytes), width, high byte of a variable's number, 0, 0, literal (8 bytes);
+       children first, root last */
     const uint8_t expr[3 * HOGZELT_RECORD_BYTES] = {
         HOGZELT_VARIABLE, 0, 1, 0, 8, 0, 0, 0, 0,  0, 0, 0, 0, 0, 0, 0,   /* variable 0 */
         HOGZELT_CONSTANT, 0, 1, 0, 8, 0, 0, 0, 15, 0, 0, 0, 0, 0, 0, 0,   /* literal 15 */

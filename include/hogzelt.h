@@ -42,8 +42,9 @@ extern "C" {
 #define HOGZELT_MOST_TREE_RECORDS 3072
 
 /*
- * Byte 0 of the records of an expression, and of a form. Byte 1 of a head is 4 in every form that is
- * written; in one that is read it is 0 to 4, and nothing depends on it.
+ * Byte 0 of the records of an expression, and of a form. The number of a variable, 0 to 65,535, has its
+ * low byte in byte 1 and its high byte in byte 5, which is 0 in every other record. Byte 1 of a head is
+ * 4 in every form that is written; in one that is read it is 0 to 4, and nothing depends on it.
  */
 enum hogzelt_kind {
     HOGZELT_CONSTANT = 0,
@@ -128,7 +129,8 @@ static inline const char *hogzelt_refusal_text(uint64_t refusal)
  *   5  a cast or Concat
  *   6  a shift count above 63
  * *value is the value, below 2^w, and 0 beside a refusal. The assignment is vars_len words:
- * variable i is word i modulo 2^w, and 0 beyond the end.
+ * variable i is word i modulo 2^w, and 0 beyond the end. There are 65,536 variables: words behind these
+ * are not read.
  */
 uint64_t hogzelt_expr_value(const uint8_t *expr, size_t expr_len, const uint64_t *vars,
                             size_t vars_len, uint64_t *value);

@@ -143,6 +143,8 @@ def push_node(
 ) -> None:
     size = 1 + sum(sizes.pop() for _ in range(ARITY[kind]))
     argument = source.randrange(256) if kind in WITH_ARGUMENT else 0
+    if kind == VARIABLE and source.random() < 0.3:
+        argument = source.choice((256, 257, 511, 65280, 65535, source.randrange(65536)))
     literal = 0
     if kind == CONSTANT:
         literal = source.choice(literals + (source.getrandbits(64), source.getrandbits(16)))

@@ -5,6 +5,7 @@ from __future__ import annotations
 from .parser import Parsed
 from .records import (
     ADD, AND, ARITY, CASTS, CONSTANT, LAYOUT, MUL, NEG, NOT, OR, SHR, VARIABLE, XOR,
+    record_bytes,
 )
 
 
@@ -38,7 +39,7 @@ def fold(parsed: Parsed) -> Parsed:
     places: list[int] = []
     stack: list[tuple[int, int | None]] = []  # first record of a tree without a parent, its value
     for data, place in zip(parsed.records, parsed.places):
-        kind, argument, _, _, literal = LAYOUT.unpack(data)
+        kind, argument, _, _, _, literal = LAYOUT.unpack(data)
         below = [stack.pop() for _ in range(ARITY[kind])][::-1]
         first = below[0][0] if below else len(records)
         values = [value for _, value in below if value is not None]
@@ -48,9 +49,9 @@ def fold(parsed: Parsed) -> Parsed:
         elif below and len(values) == len(below) and kind not in CASTS:
             value = node_value(kind, argument, values, width)
             del records[first:], places[first:]
-            data = LAYOUT.pack(CONSTANT, 0, 1, width, value)
+            data = record_bytes(CONSTANT, 0, 1, width, value)
         elif kind != VARIABLE:
-            data = LAYOUT.pack(kind, argument, len(records) - first + 1, width, 0)
+            data = record_bytes(kind, argument, len(records) - first + 1, width, 0)
         records.append(data)
         places.append(place)
         stack.append((first, value))

@@ -7,11 +7,11 @@ the text a token stands is looked up only for a message."""
 
 from __future__ import annotations
 
-from typing import Any, NamedTuple, NoReturn, Tuple
+from typing import Any, Iterator, NamedTuple, NoReturn, Tuple
 
 from .records import (
     ADD, AND, CASTS, CONCAT, CONSTANT, KIND_NAMES, LAYOUT, MOST_RECORDS, MOST_SHIFT, MUL, NEG, NOT,
-    OR, SEXT, SHR, TRUNC, VARIABLE, XOR, ZEXT, Expression, tree_records,
+    OR, SEXT, SHR, TRUNC, VARIABLE, XOR, ZEXT, Expression, record_bytes, tree_records,
 )
 from .tokens import (
     MOST_VARIABLES, NAME, TOKEN, BadText, BadWord, clip, line_and_column, literal_value,
@@ -74,7 +74,7 @@ BOTTOM: Waiting = (-1, None, 0, 0, False)
 
 class Parsed(NamedTuple):
     """The records of a text, for each the number of the token that it comes from, and the names of
-    variables that are not called a to z or v26 to v255."""
+    variables that are not called a to z or v26 to v65535."""
 
     text: str
     width: int
@@ -103,7 +103,7 @@ class Nodes(dict[int, bytes]):
         self.width = width
 
     def __missing__(self, key: int) -> bytes:
-        self[key] = record = LAYOUT.pack(key & 15, 0, key >> 4 & 0xFFFF, self.width, 0)
+        self[key] = record = record_bytes(key & 15, 0, key >> 4 & 0xFFFF, self.width, 0)
         return record
 
 
@@ -159,6 +159,7 @@ class Parser:
         self.waiting: list[Waiting] = [BOTTOM]
         self.names: dict[int, str] = {}
         self.numbers: dict[str, int] = {}
+        self.free: Iterator[int] | None = None  # the numbers that no name has, rising
 
     def run(self) -> None:
         """An operand, with what opens before it, and then what comes behind it, by turns. In this
@@ -250,10 +251,10 @@ class Parser:
     def leaf(self, token: str, at: int) -> bytes:
         """The record of a literal or a variable. Those that are the same in every text are kept."""
         if token[:1].isdigit():
-            record = LAYOUT.pack(CONSTANT, 0, 1, self.width, self.literal(token, at))
+            record = record_bytes(CONSTANT, 0, 1, self.width, self.literal(token, at))
         elif NAME.fullmatch(token) and token.lower() not in RESERVED:
             number = self.number(token, at)
-            record = LAYOUT.pack(VARIABLE, number, 1, self.width, 0)
+            record = record_bytes(VARIABLE, number, 1, self.width, 0)
             if token != variable_text(number):
                 return record
         else:
@@ -276,7 +277,7 @@ class Parser:
         if number is None:
             if name[0] == "v" and name[1:].isdigit():
                 raise BadText(self.place(at), f'unknown name "{clip(name)}"',
-                              "v and digits are variables by number, v0 to v255")
+                              f"v and digits are variables by number, v0 to v{MOST_VARIABLES - 1}")
             if name not in self.numbers:
                 self.numbers[name] = self.free_number(name, at)
             number = self.numbers[name]
@@ -285,11 +286,13 @@ class Parser:
         return number
 
     def free_number(self, name: str, at: int) -> int:
-        taken = {variable_number(token) for token in self.tokens} | set(self.numbers.values())
-        number = next((i for i in range(MOST_VARIABLES) if i not in taken), None)
+        if self.free is None:
+            taken = {variable_number(token) for token in self.tokens}
+            self.free = (i for i in range(MOST_VARIABLES) if i not in taken)
+        number = next(self.free, None)
         if number is None:
             raise BadText(self.place(at), f'no number is left for "{clip(name)}"',
-                          f"there are {MOST_VARIABLES} variables")
+                          f"there are {MOST_VARIABLES:,} variables")
         return number
 
     def shift_right(self, at: int) -> None:
@@ -297,18 +300,18 @@ class Parser:
         self.records.pop()
         self.places.pop()
         self.sizes[-1] += 1
-        self.records.append(LAYOUT.pack(SHR, count, self.sizes[-1] & 0xFFFF, self.width, 0))
+        self.records.append(record_bytes(SHR, count, self.sizes[-1] & 0xFFFF, self.width, 0))
         self.places.append(at)
 
     def shift_left(self, at: int) -> None:
         """The count becomes the factor."""
         factor = 1 << self.take_count(at, MOST_SHIFT)
-        self.records[-1] = LAYOUT.pack(CONSTANT, 0, 1, self.width, factor)
+        self.records[-1] = record_bytes(CONSTANT, 0, 1, self.width, factor)
 
     def take_count(self, at: int, most: int) -> int:
         """The shift count is a literal."""
         size = self.sizes.pop()
-        kind, _, _, _, literal = LAYOUT.unpack(self.records[-size])
+        kind, _, _, _, _, literal = LAYOUT.unpack(self.records[-size])
         if size > 1 or kind != CONSTANT or literal > most:
             hint = ""
             if size > 1 and kind == CONSTANT:
@@ -343,7 +346,7 @@ class Parser:
             self.sizes[-1] += right
         self.sizes[-1] += 1
         size = self.sizes[-1] & 0xFFFF
-        self.records.append(LAYOUT.pack(kind, argument, size, self.width, 0))
+        self.records.append(record_bytes(kind, argument, size, self.width, 0))
         self.places.append(at)
 
     def place(self, at: int) -> int:

@@ -13,7 +13,7 @@ BINARY = frozenset((ADD, MUL, AND, OR, XOR, CONCAT))
 UNARY = frozenset((NOT, NEG, SHR, ZEXT, SEXT, TRUNC))
 CASTS = frozenset((ZEXT, SEXT, TRUNC, CONCAT))
 ARITHMETIC = frozenset((ADD, MUL, NEG))
-# the kinds whose byte 1 says something: variable number, shift count or cast width
+# the kinds whose byte 1 says something: low byte of the variable number, shift count or cast width
 WITH_ARGUMENT = frozenset((VARIABLE, SHR, ZEXT, SEXT, TRUNC))
 # the kinds that the tree of an atom may hold
 ATOM_KINDS = frozenset((CONSTANT, VARIABLE, AND, OR, XOR, NOT, SHR))
@@ -30,7 +30,8 @@ MOST_TREE_RECORDS = 3072
 FORM_BYTES = 57360
 MOST_SHIFT = 63
 
-LAYOUT = struct.Struct("<BBHBxxxQ")  # kind, argument, size, width, literal or word
+# kind, byte 1, size, width, byte 5, literal or word; byte 5 is the high byte of a variable number
+LAYOUT = struct.Struct("<BBHBBxxQ")
 
 
 class Fault(Exception):
@@ -38,7 +39,8 @@ class Fault(Exception):
 
 
 class Record(NamedTuple):
-    """A record without its width, which is the same in all records of a file."""
+    """A record without its width, which is the same in all records of a file. The argument of a
+    Variable is its number, 0 to 65535, of the others 0 to 255."""
 
     kind: int
     argument: int
@@ -83,17 +85,20 @@ def article(kind: int) -> str:
 
 
 def record_bytes(kind: int, argument: int, size: int, width: int, word: int) -> bytes:
-    return LAYOUT.pack(kind, argument, size, width, word)
+    return LAYOUT.pack(kind, argument & 255, size, width, argument >> 8, word)
 
 
 def expression_bytes(expression: Expression) -> bytes:
     width, records = expression
-    return b"".join([LAYOUT.pack(k, a, size, width, word) for k, a, size, word in records])
+    return b"".join([record_bytes(k, a, size, width, word) for k, a, size, word in records])
 
 
 def tree_records(data: bytes) -> list[Record]:
     """The records of a tree that is known to be good."""
-    return [Record(k, a, size, word) for k, a, size, _, word in LAYOUT.iter_unpack(data)]
+    return [
+        Record(kind, low | high << 8, size, word)
+        for kind, low, size, _, high, word in LAYOUT.iter_unpack(data)
+    ]
 
 
 def split_form(data: bytes) -> tuple[int, int, list[tuple[int, bytes]]]:
@@ -104,7 +109,7 @@ def split_form(data: bytes) -> tuple[int, int, list[tuple[int, bytes]]]:
         end = at + RECORD + RECORD * (data[at + 2] | data[at + 3] << 8)
         trees.append(data[at + RECORD : end])
         at = end
-    for kind, _, number, width, word in LAYOUT.iter_unpack(data[at:]):
+    for kind, _, number, width, _, word in LAYOUT.iter_unpack(data[at:]):
         if kind == SUM:
             break
         terms.append((word, trees[number]))
@@ -121,7 +126,9 @@ class Raw:
         self.kind, self.argument = chunk[0], chunk[1]
         self.size = int.from_bytes(chunk[2:4], "little")
         self.width = chunk[4]
-        self.spare = chunk[5:8]
+        self.spare = chunk[5:8]  # in a Variable the first has the high byte of its number
+        if self.kind == VARIABLE:
+            self.argument |= chunk[5] << 8
         self.word = int.from_bytes(chunk[8:16], "little")
 
     def fault(self, message: str) -> NoReturn:
@@ -134,9 +141,13 @@ class Raw:
             self.fault(f"width {self.width}; the first record has width {width}")
 
     def check_spare(self) -> None:
-        for i, byte in enumerate(self.spare):
+        high, *others = self.spare
+        if high and self.kind != VARIABLE:
+            where = f" in {article(self.kind)}" if self.kind < len(KIND_NAMES) else ""
+            self.fault(f"its byte 5 is {high} and must be 0{where}")
+        for i, byte in enumerate(others):
             if byte:
-                self.fault(f"its byte {5 + i} is {byte} and must be 0")
+                self.fault(f"its byte {6 + i} is {byte} and must be 0")
 
 
 def check_length(data: bytes, name: str, most: int) -> None:

@@ -40,11 +40,12 @@ def expression_text(records: list[Record], width: int, names: Mapping[int, str] 
 def piece(tree: bytes, width: int, names: Mapping[int, str]) -> tuple[int, str]:
     """The kind of the root and the text of a tree."""
     stack: list[Piece] = []
-    for kind, argument, _, _, literal in LAYOUT.iter_unpack(tree):
+    for kind, argument, _, _, high, literal in LAYOUT.iter_unpack(tree):
         if kind == CONSTANT:
             stack.append((kind, literal_text(literal, width), None))
         elif kind == VARIABLE:
-            stack.append((kind, names.get(argument) or variable_text(argument), None))
+            number = argument | high << 8
+            stack.append((kind, names.get(number) or variable_text(number), None))
         elif ARITY[kind] == 2:
             right = stack.pop()
             stack.append((kind, binary_text(kind, stack.pop(), right), None))

@@ -13,8 +13,8 @@ NUMBER = re.compile(
     r"(?:[uU](?:ll|LL|[lL])?|(?:ll|LL|[lL])[uU]?|[iu](?:8|16|32|64))?"  # a suffix of C or Rust
 )
 NAME = re.compile(r"[A-Za-z_][0-9A-Za-z_]*")
-FIXED_NAME = re.compile(r"[a-z]|v(?:0|[1-9][0-9]{0,2})")
-MOST_VARIABLES = 256
+FIXED_NAME = re.compile(r"[a-z]|v(?:0|[1-9][0-9]{0,4})")
+MOST_VARIABLES = 65536
 
 
 class BadWord(Exception):
@@ -99,8 +99,8 @@ def bad_literal(word: str) -> BadWord:
 
 
 def variable_number(name: str) -> int | None:
-    """The number that a name has by itself: a to z are 0 to 25, v0 to v255 are 0 to 255. Any other
-    name has none."""
+    """The number that a name has by itself: a to z are 0 to 25, v0 to v65535 are 0 to
+    65535. Any other name has none."""
     if not FIXED_NAME.fullmatch(name):
         return None
     number = ord(name) - ord("a") if len(name) == 1 else int(name[1:])

@@ -35,8 +35,8 @@ impl Expr {
         Self::leaf(width, CONSTANT, 0, value)
     }
 
-    /// The variable of a number.
-    pub fn variable(width: u8, number: u8) -> Self {
+    /// The variable of a number, any of 65,536.
+    pub fn variable(width: u8, number: u16) -> Self {
         Self::leaf(width, VARIABLE, number, 0)
     }
 
@@ -55,7 +55,7 @@ impl Expr {
         crate::expr_value(&self.bytes, vars)
     }
 
-    fn leaf(width: u8, kind: u8, argument: u8, literal: u64) -> Self {
+    fn leaf(width: u8, kind: u8, argument: u16, literal: u64) -> Self {
         let empty = Self {
             bytes: Vec::new(),
             width,
@@ -64,7 +64,7 @@ impl Expr {
     }
 
     fn unary(self, kind: u8, argument: u8) -> Self {
-        self.with_root(kind, argument, 0)
+        self.with_root(kind, u16::from(argument), 0)
     }
 
     fn binary(mut self, kind: u8, right: Self) -> Self {
@@ -72,13 +72,15 @@ impl Expr {
         self.with_root(kind, 0, 0)
     }
 
-    /// The records with a root behind them. A size that does not fit is that of an expression which
+    /// The records with a root behind them. Byte 1 has the argument; in a variable it is the low byte
+    /// of the number, and byte 5 the high one. A size that does not fit is that of an expression which
     /// is refused for its length.
-    fn with_root(mut self, kind: u8, argument: u8, literal: u64) -> Self {
+    fn with_root(mut self, kind: u8, argument: u16, literal: u64) -> Self {
         let size = ((self.bytes.len() >> RECORD_BYTES.trailing_zeros()) + 1) as u16;
-        self.bytes.extend_from_slice(&[kind, argument]);
+        let [low, high] = argument.to_le_bytes();
+        self.bytes.extend_from_slice(&[kind, low]);
         self.bytes.extend_from_slice(&size.to_le_bytes());
-        self.bytes.extend_from_slice(&[self.width, 0, 0, 0]);
+        self.bytes.extend_from_slice(&[self.width, high, 0, 0]);
         self.bytes.extend_from_slice(&literal.to_le_bytes());
         self
     }

@@ -87,7 +87,8 @@ pub struct Written {
     pub flattened: bool,
 }
 
-/// The value of an expression under an assignment; variables beyond its end are 0.
+/// The value of an expression under an assignment: variable i has word i, and variables beyond its end
+/// are 0. Of more than 65,536 words the others are not read.
 ///
 /// ```
 /// use hogzelt::{expr_value, Refusal};
@@ -98,7 +99,7 @@ pub fn expr_value(expr: impl AsRef<[u8]>, vars: &[u64]) -> Result<u64, Refusal> 
     value_by(raw::hogzelt_expr_value, expr.as_ref(), vars)
 }
 
-/// The value of a form under an assignment; variables beyond its end are 0.
+/// The value of a form under an assignment, as in [`expr_value`].
 pub fn sheet_value(sheet: impl AsRef<[u8]>, vars: &[u64]) -> Result<u64, Refusal> {
     value_by(raw::hogzelt_semilinear_value, sheet.as_ref(), vars)
 }

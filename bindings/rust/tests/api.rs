@@ -96,6 +96,58 @@ fn heads_of_a_sheet() {
     }
 }
 
+/// The number of a variable has two bytes: byte 1 of its record, and byte 5.
+#[test]
+fn variables() {
+    let v = |number| Expr::variable(8, number);
+    let hashes = [
+        (0u16, 0x517C_C1B7_2722_0A94),
+        (255, 0x7CC1_B727_220A_9501),
+        (256, 0xCE3E_78DE_492C_9F94),
+        (65_535, 0xC1B7_2722_0A95_0001_u64),
+    ];
+    let words: Vec<u64> = (0..65_536).map(|i| 3 * i + (i >> 8) + 7).collect();
+    for (number, hash) in hashes {
+        let [low, high] = number.to_le_bytes();
+        let record = [1, low, 1, 0, 8, high, 0, 0, 0, 0, 0, 0, 0, 0, 0, 0];
+        assert_eq!(v(number).as_bytes(), record);
+        let place = usize::from(number);
+        assert_eq!(v(number).value(&words), Ok(words[place] % 256));
+        assert_eq!(v(number).value(&words[..place]), Ok(0));
+        let sheet = normalize(v(number)).expect("a variable is linear");
+        assert_eq!(sheet.as_bytes()[8..16], hash.to_le_bytes());
+        assert_eq!(sheet.value(&words), Ok(words[place] % 256));
+    }
+    // v256 beside v0, which has the same low byte
+    let sum = (v(256) & number(15)) + number(2) * (v(0) & number(15));
+    let sheet = run_passes(&sum, &Pass::ALL).expect("it is linear");
+    assert_eq!(sheet.par(), 2);
+    assert_eq!(sheet.value(&words), sum.value(&words));
+    assert_eq!(sum.value(&[3]), Ok(6));
+}
+
+/// Byte 5 is 0 in all other records, bytes 6 and 7 in every one.
+#[test]
+fn bytes_that_must_be_0() {
+    let masked = Expr::variable(8, 256) & number(15);
+    let sheet = normalize(&masked).expect("it is linear");
+    for at in 5..8 {
+        for record in 0..3 {
+            let mut bytes = masked.as_bytes().to_vec();
+            bytes[record * RECORD_BYTES + at] = 2;
+            match (record, at) {
+                (0, 5) => assert_eq!(hogzelt::expr_value(&bytes, &[9; 513]), Ok(9)),
+                _ => assert_eq!(normalize(&bytes), Err(Refusal::Malformed)),
+            }
+        }
+        for record in 0..sheet.as_bytes().len() / RECORD_BYTES {
+            let mut bytes = sheet.as_bytes().to_vec();
+            bytes[record * RECORD_BYTES + at] ^= 2;
+            assert_eq!(sheet_value(&bytes, &[]), Err(Refusal::NoForm));
+        }
+    }
+}
+
 #[test]
 fn lists() {
     let sum = (a() & number(15)) + (a() & number(240));

@@ -103,28 +103,43 @@ class Operands(unittest.TestCase):
             self.assertEqual(records(text), [constant(value)], text)
 
     def test_variables(self):
-        for text, number in (("a", 0), ("v", 21), ("z", 25), ("v0", 0), ("v25", 25), ("v255", 255)):
+        for text, number in (
+            ("a", 0), ("v", 21), ("z", 25), ("v0", 0), ("v25", 25), ("v255", 255), ("v256", 256),
+            ("v999", 999), ("v10000", 10000), ("v65535", 65535),
+        ):
             self.assertEqual(records(text), [variable(number)], text)
 
     def test_names(self):
-        """Names other than a to z and v0 to v255 get the lowest numbers that are free."""
+        """Names other than a to z and v0 to v65535 get the lowest numbers that are free."""
         for text, numbers, names in (
             ("flags", [0], {0: "flags"}),
             ("flags + a", [1, 0], {1: "flags"}),
             ("X1 + x + flags + X1", [0, 23, 1, 0], {0: "X1", 1: "flags"}),
             ("v0 + v26", [0, 26], {0: "v0"}),
             ("_t + ab + v1", [0, 2, 1], {0: "_t", 2: "ab", 1: "v1"}),
+            ("ab + v65535 + a + v256", [1, 65535, 0, 256], {1: "ab"}),
         ):
             parsed = parse(text, 8)
             variables = [r.argument for r in parsed.expression.records if r.kind == VARIABLE]
             self.assertEqual((variables, parsed.names), (numbers, names), text)
 
     def test_most_names(self):
-        names = [f"n{i}" for i in range(256)]
-        self.assertEqual(len(parse(" ^ ".join(names), 8).names), 256)
-        with self.assertRaises(BadText) as caught:
-            parse(" ^ ".join([*names, "more"]), 8)
-        self.assertIn("256 variables", str(caught.exception))
+        names = [f"n{i}" for i in range(65537)]
+        parsed = parse(" ^ ".join(names[:512]), 8)
+        self.assertEqual(parsed.names, {i: f"n{i}" for i in range(512)})
+        numbers = [r.argument for r in parsed.expression.records if r.kind == VARIABLE]
+        self.assertEqual(numbers, list(range(512)))
+        for count, message in ((513, "1,025 records"), (65536, "131,071 records"),
+                               (65537, 'no number is left for "n65536"; there are 65,536 variables')):
+            with self.assertRaises(BadText) as caught:
+                parse(" ^ ".join(names[:count]), 8)
+            self.assertIn(message, str(caught.exception))
+
+    def test_names_beside_numbers(self):
+        """Numbers that the text has elsewhere are left out, over 255 too."""
+        fixed = [f"v{i}" for i in range(300) if i != 280]
+        parsed = parse(" ^ ".join(["one", "two", "three", *fixed]), 8)
+        self.assertEqual([parsed.names[i] for i in (280, 300, 301)], ["one", "two", "three"])
 
     def test_each_kind(self):
         a, b = variable(0), variable(1)
@@ -187,9 +202,10 @@ BAD = (
     ("1_000", 1, 1, "without marks between them: 1000"),
     ("0o17", 1, 1, "no octal literals: 15"),
     ("\u00e9 + a", 1, 1, "expected a literal, a variable"),
-    ("v256", 1, 1, "v0 to v255"),
-    ("v01", 1, 1, "v0 to v255"),
-    ("v999", 1, 1, "v0 to v255"),
+    ("v65536", 1, 1, "v0 to v65535"),
+    ("v01", 1, 1, "v0 to v65535"),
+    ("v99999", 1, 1, "v0 to v65535"),
+    ("v100000", 1, 1, "v0 to v65535"),
     ("18446744073709551616", 1, 1, "below 2^64"),
     ("a & 0x10000000000000000", 1, 5, "below 2^64"),
     ("9" * 5000, 1, 1, "below 2^64"),

@@ -36,8 +36,8 @@ def value(options: Options) -> int:
         parsed = read_parsed(given, options)
         data, width = parsed.data, parsed.width
         numbers = {name_of(i, parsed.names): i for i in variables_of(parsed)}
-    words = [0] * MOST_VARIABLES
     assigned = dict(read_assignment(word, numbers) for word in assignments)
+    words = [0] * (max(assigned, default=-1) + 1)
     for number, amount in assigned.items():
         words[number] = amount % (1 << width)
     try:
@@ -63,7 +63,7 @@ def read_assignment(word: str, numbers: dict[str, int]) -> tuple[int, int]:
     name, sign, amount = match.groups()
     number = numbers.get(name, variable_number(name))
     if number is None:
-        known = ", ".join(numbers) or "a to z, v0 to v255"
+        known = ", ".join(numbers) or f"a to z, v0 to v{MOST_VARIABLES - 1}"
         raise Usage(f"{word!r}: there is no variable {name} here ({known})")
     try:
         found = literal_value(amount)

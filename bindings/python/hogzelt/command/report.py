@@ -17,7 +17,7 @@ def sheet_text(sheet: Sheet, names: Mapping[int, str] = NO_NAMES) -> str:
 
 
 def variables_of(parsed: Parsed) -> list[int]:
-    return sorted({record[1] for record in parsed.records if record[0] == VARIABLE})
+    return sorted({r[1] | r[5] << 8 for r in parsed.records if r[0] == VARIABLE})
 
 
 def name_of(variable: int, names: Mapping[int, str]) -> str:

@@ -22,9 +22,9 @@ Text, its operators from the tightest to the loosest, as in C:
   x ^ y
   x | y
 Those of one row associate to the left; parentheses group. Literals are decimal, 0x.. or 0b.., below
-2^64; a suffix (15u, 0xffULL, 3u8) is left out. Variables are a to z, v0 to v255 (a is v0), and any
-other name (flags, X1), which gets a number that is free. zext(16, x), sext(16, x), trunc(4, x) and
-concat(x, y) can be written and shown, and are refused.
+2^64; a suffix (15u, 0xffULL, 3u8) is left out. Variables are a to z, v0 to v65535 (a is v0), and
+any other name (flags, X1), which gets a number that is free. zext(16, x), sext(16, x), trunc(4, x)
+and concat(x, y) can be written and shown, and are refused.
 
 A sum is a constant and numbers times atoms; an atom has only variables, literals, & | ^ ~ and >>.
 So products of variables, and & | ^ ~ >> over + - *, are refused (8). Parts without a variable are
