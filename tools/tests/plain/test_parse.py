@@ -129,8 +129,10 @@ class Operands(unittest.TestCase):
         self.assertEqual(parsed.names, {i: f"n{i}" for i in range(512)})
         numbers = [r.argument for r in parsed.expression.records if r.kind == VARIABLE]
         self.assertEqual(numbers, list(range(512)))
-        for count, message in ((513, "1,025 records"), (65536, "131,071 records"),
-                               (65537, 'no number is left for "n65536"; there are 65,536 variables')):
+        for count, message in (
+            (513, "1,025 records"), (65536, "131,071 records"),
+            (65537, 'no number is left for "n65536"; there are 65,536 variables'),
+        ):
             with self.assertRaises(BadText) as caught:
                 parse(" ^ ".join(names[:count]), 8)
             self.assertIn(message, str(caught.exception))

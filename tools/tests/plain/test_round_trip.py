@@ -112,7 +112,8 @@ class RoundTrip(unittest.TestCase):
             "a - b*c", "-(a*b)", "-a*b", "-(-a)", "~~a", "~-a", "a - -b", "(a & b) | c",
             "a & b & c", "a & (b & c)", "(a >> 3) & 1", "a >> 3 >> 2", "(a + b) >> 1", "-1",
             "65535 + 0x10000",
-            "z + v26 + v255", "v256 + v65535 - v511", "concat(a + b, zext(16, c))*2", "trunc(4, a) - sext(8, -b)",
+            "z + v26 + v255", "v256 + v65535 - v511", "concat(a + b, zext(16, c))*2",
+            "trunc(4, a) - sext(8, -b)",
         ):
             self.assertEqual(self.same(8, parse(text, 8).expression.records), text)
 
