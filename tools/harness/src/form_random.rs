@@ -96,7 +96,7 @@ fn damage(rng: &mut Prng, records: &mut Records, w: u8) {
         6 => {
             let bit = 1u8 << rng.below(8);
             match rng.below(3) {
-                0 => record.arg = record.arg % 256 | u16::from(bit) << 8,
+                0 => record.arg = (record.arg % 256) | (u16::from(bit) << 8),
                 place => record.zeros[place - 1] = bit,
             }
         }
