@@ -30,8 +30,8 @@ extern "C" {
 #endif
 
 /* The version: major * 10000 + minor * 100 + patch, and as text. */
-#define HOGZELT_VERSION 10000
-#define HOGZELT_VERSION_TEXT "1.0.0"
+#define HOGZELT_VERSION 10100
+#define HOGZELT_VERSION_TEXT "1.1.0"
 
 /* Lengths: of a record, of the longest expression, and of the result slices. */
 #define HOGZELT_RECORD_BYTES 16

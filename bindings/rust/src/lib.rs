@@ -32,7 +32,7 @@ pub use refusal::Refusal;
 pub use sheet::{Sheet, Term};
 
 /// The version: major * 10000 + minor * 100 + patch.
-pub const VERSION: u64 = 10_000;
+pub const VERSION: u64 = 10_100;
 /// The bytes of a record.
 pub const RECORD_BYTES: usize = 16;
 /// The most bytes of an expression.
