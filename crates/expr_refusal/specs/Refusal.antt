@@ -24,7 +24,7 @@ usesByte1 k = eqb k 1 || (ltb 8 k && ltb k 13)
 unfoldable pub fieldsOk : ℕ → ℕ → ℕ → Bool
 fieldsOk k a v = (eqb k 0 || eqb v 0) && (usesByte1 k || eqb a 0)
 
--- the sum of the bytes 5 to 7 that the root's kind has no use for: a variable uses byte 5
+-- those of bytes 5 to 7 that the root's kind has no use for: a variable uses byte 5
 unfoldable pub unused : List ℕ → ℕ
 unused s = when (eqb (kind s) 1) (λ _. spareHigh s) (λ _. spare s)
 

@@ -69,11 +69,11 @@ module _ (f : List ℕ) (k a n w v : ℕ) where
   byte5-record = at 5 (length span - 11) (omega (arith, length-record))
 
   pub spare-high-record : spareHigh span ≡ 0
-  unfolding spareHigh recordBytes
+  unfolding spareHigh u16 recordBytes
   spare-high-record =
       let l : ℕ = length span in
       let e : length span ≡ length f + 16 = length-record in
-      rw (at 6 (l - 10) (omega arith), at 7 (l - 9) (omega arith))
+      rw (at 6 (l - 10) (omega arith), at 7 (l - 10 + 1) (omega arith))
 
   pub spare-record : spare span ≡ 0
   unfolding spare
@@ -179,7 +179,7 @@ module _ (s : List ℕ) (big : 16 ≤ length s) where
       let a4 : getD l 4 0 ≡ getD s (n - 12) 0 = last-at 4 (n - 12) (omega arith) in
       let a5 : getD l 5 0 ≡ getD s (n - 11) 0 = last-at 5 (n - 11) (omega arith) in
       let a6 : getD l 6 0 ≡ getD s (n - 10) 0 = last-at 6 (n - 10) (omega arith) in
-      let a7 : getD l 7 0 ≡ getD s (n - 9) 0 = last-at 7 (n - 9) (omega arith) in
+      let a7 : getD l 7 0 ≡ getD s (n - 10 + 1) 0 = last-at 7 (n - 10 + 1) (omega arith) in
       let a8 : getD l 8 0 ≡ getD s (n - 8) 0 = last-at 8 (n - 8) (omega arith) in
       let a9 : getD l 9 0 ≡ getD s (n - 8 + 1) 0 = last-at 9 (n - 8 + 1) (omega arith) in
       let a10 : getD l 10 0 ≡ getD s (n - 8 + 2) 0 = last-at 10 (n - 8 + 2) (omega arith) in

@@ -30,7 +30,7 @@ module _ (w i : ℕ) where
   index-variable = omega arith
 
   pub spare-high-variable : spareHigh (variableBytes w i) ≡ 0
-  unfolding spareHigh variableBytes
+  unfolding spareHigh u16 variableBytes
   spare-high-variable = refl
 
   pub literal-variable : literal (variableBytes w i) ≡ 0
@@ -79,7 +79,7 @@ pub record VariableFields (s : List ℕ) : Type 0 where
 
 abbrev Rereads : List ℕ → Type 0
 Rereads l =
-    IsBytes l → getD l 0 0 ≡ 1 → u16 l 2 ≡ 1 → getD l 6 0 + getD l 7 0 ≡ 0 → u64 l 8 ≡ 0
+    IsBytes l → getD l 0 0 ≡ 1 → u16 l 2 ≡ 1 → u16 l 6 ≡ 0 → u64 l 8 ≡ 0
     → variableBytes (getD l 4 0) (getD l 1 0 + getD l 5 0 * 2 ^ 8) ≡ l
 
 rereads : (l : List ℕ) → length l ≡ 16 → Rereads l

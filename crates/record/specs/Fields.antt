@@ -45,11 +45,11 @@ size s = u16 s (length s - 14)
 unfoldable pub width : List ℕ → ℕ
 width s = getD s (length s - 12) 0
 
--- the sum of bytes 6 and 7 of the root, which no kind uses
+-- bytes 6 and 7 of the root, which no kind uses
 unfoldable pub spareHigh : List ℕ → ℕ
-spareHigh s = getD s (length s - 10) 0 + getD s (length s - 9) 0
+spareHigh s = u16 s (length s - 10)
 
--- the sum of bytes 5 to 7 of the root, of which a variable alone uses byte 5
+-- byte 5 of the root and the two behind it, as a sum, which is 0 where all three are; a variable alone uses byte 5
 unfoldable pub spare : List ℕ → ℕ
 spare s = byte5 s + spareHigh s
 

@@ -122,16 +122,15 @@ pub fn width(t: &[u8]) -> u8
     t[n - 12]
 }
 
-// The sum of the root's bytes 6 and 7.
+// Bytes 6 and 7 of the root.
 pub fn spare_high(t: &[u8]) -> u64
     requires { ⌜ recordLength ≤ length (now t) ⌝ }
-    ensures { λ r. ⌜ (r ≡ spareHigh (now (t .entry))) × (r < 2 ^ 9) ⌝ }
+    ensures { λ r. ⌜ (r ≡ spareHigh (now (t .entry))) × (r < 2 ^ 16) ⌝ }
 {
-    let n = t.len();
-    wide(t[n - 10]) + wide(t[n - 9])
+    read_u16(t, t.len() - 10)
 }
 
-// The sum of the root's bytes 5 to 7.
+// Byte 5 of the root and the two behind it, as a sum.
 pub fn spare(t: &[u8]) -> u64
     requires { ⌜ recordLength ≤ length (now t) ⌝ }
     ensures { λ r. ⌜ r ≡ spare (now (t .entry)) ⌝ }
