@@ -57,10 +57,12 @@ fn unused(t: &[u8]) -> u64
     requires { ⌜ recordLength ≤ length (now t) ⌝ }
     ensures { λ r. ⌜ r ≡ unused (now (t .entry)) ⌝ }
 {
+    let high = record::spare_high(t);
+    let all = record::spare(t);
     if record::kind(t) == 1 {
-        return record::spare_high(t);
+        return high;
     }
-    record::spare(t)
+    all
 }
 
 // The size field of the root is right.
