@@ -39,7 +39,7 @@ module _ (k a n w v : ℕ) (r : List ℕ) where
   width-front = refl
 
   pub spare-front : frontSpare (recordBytes k a n w v ++ r) ≡ 0
-  unfolding frontSpare u16 recordBytes
+  unfolding frontSpare recordBytes
   spare-front = refl
 
   pub word-front : v < 2 ^ 64 → frontWord (recordBytes k a n w v ++ r) ≡ v

@@ -22,9 +22,8 @@ frontNumber r = u16 r 2
 unfoldable pub frontWidth : List ℕ → ℕ
 frontWidth r = getD r 4 0
 
--- byte 5 and the two behind it, as a sum, which is 0 where all three are
 unfoldable pub frontSpare : List ℕ → ℕ
-frontSpare r = getD r 5 0 + u16 r 6
+frontSpare r = getD r 5 0 + getD r 6 0 + getD r 7 0
 
 unfoldable pub frontWord : List ℕ → ℕ
 frontWord r = u64 r 8

@@ -49,12 +49,12 @@ pub fn front_width(r: &[u8]) -> u8
     r[4]
 }
 
-// Byte 5 of the record at the front and the two behind it, as a sum.
+// The sum of bytes 5 to 7 of the record at the front.
 pub fn front_spare(r: &[u8]) -> u64
     requires { ⌜ recordLength ≤ length (now r) ⌝ }
     ensures { λ n. ⌜ n ≡ frontSpare (now (r .entry)) ⌝ }
 {
-    wide(r[5]) + record::read_u16(r, 6)
+    wide(r[5]) + wide(r[6]) + wide(r[7])
 }
 
 // Bytes 8 to 15 of the record at the front.
