@@ -52,7 +52,8 @@ fn fields_ok(k: u8, a: u8, v: u64) -> bool
     a == 0
 }
 
-// Those of bytes 5 to 7 that the root's kind has no use for.
+// Those of bytes 5 to 7 that the root's kind has no use for. Both numbers are read before the test,
+// so that it needs no jump.
 fn unused(t: &[u8]) -> u64
     requires { ⌜ recordLength ≤ length (now t) ⌝ }
     ensures { λ r. ⌜ r ≡ unused (now (t .entry)) ⌝ }
