@@ -30,8 +30,8 @@ extern "C" {
 #endif
 
 /* The version: major * 10000 + minor * 100 + patch, and as text. */
-#define HOGZELT_VERSION 10100
-#define HOGZELT_VERSION_TEXT "1.1.0"
+#define HOGZELT_VERSION 10200
+#define HOGZELT_VERSION_TEXT "1.2.0"
 
 /* Lengths: of a record, of the longest expression, and of the result slices. */
 #define HOGZELT_RECORD_BYTES 16
@@ -75,7 +75,7 @@ enum hogzelt_pass {
     HOGZELT_COMPACT = 5
 };
 
-/* What is returned. */
+/* What is returned. 7 is not used; before 1.2.0 it was a sum in a part without a variable. */
 enum hogzelt_refusal {
     HOGZELT_ACCEPTED = 0,
     HOGZELT_INPUT_LENGTH = 1,
@@ -84,7 +84,6 @@ enum hogzelt_refusal {
     HOGZELT_WIDTH = 4,
     HOGZELT_CAST = 5,
     HOGZELT_SHIFT_COUNT = 6,
-    HOGZELT_SUM_IN_CONSTANT = 7,
     HOGZELT_NONLINEAR = 8,
     HOGZELT_TABLE_FULL = 9,
     HOGZELT_NO_FORM = 10,
@@ -111,7 +110,6 @@ static inline const char *hogzelt_refusal_text(uint64_t refusal)
     case HOGZELT_WIDTH: return "a width of 0, above 64, or differing between records";
     case HOGZELT_CAST: return "a cast or a concatenation";
     case HOGZELT_SHIFT_COUNT: return "a shift count above 63";
-    case HOGZELT_SUM_IN_CONSTANT: return "arithmetic below bitwise operators without a variable";
     case HOGZELT_NONLINEAR: return "not a sum of weighted bitwise atoms";
     case HOGZELT_TABLE_FULL: return "more than 256 atoms, or more than 3,072 records in their trees";
     case HOGZELT_NO_FORM: return "not a semilinear form, or a hash that is not its tree's";
@@ -184,13 +182,15 @@ uint64_t hogzelt_compact_atom_table(const uint8_t *s, size_t s_len, uint8_t *out
 
 /*
  * The semilinear form of an expression file: its value is that of the expression, under every
- * assignment. out_len must be 57,360. Returns 0 for accepted, else the lowest refusal that applies:
+ * assignment. A part without a variable has its value at w bits where it is a summand or a factor,
+ * whatever its operators: 3 & (1 + 2) is the constant 3. out_len must be 57,360. Returns 0 for
+ * accepted, else the lowest refusal that applies:
  *   1  expr_len is 0, not a multiple of 16 or above 16,384
  *   2  out_len is not 57,360
  *   3 to 6  as for hogzelt_expr_value
- *   7  an Add, Mul or Neg anywhere below an And, Or, Xor or Not that has no variable
  *   8  not linear: a product of two factors with variables, or an And, Or, Xor, Not or shift with a
- *      variable over an Add, Mul or Neg; what has a coefficient of 0 modulo 2^w is not looked at
+ *      variable over an Add, Mul or Neg, also where this one has no variable; what has a coefficient
+ *      of 0 modulo 2^w is not looked at
  *   9  the atoms, those without a term counted, are more than 256 or their trees have more than
  *      3,072 records
  * All of out is written. Where the expression is accepted, the first *used bytes are the form, the
@@ -274,7 +274,7 @@ uint64_t hogzelt_compute_partitions(const uint8_t *s, size_t s_len, uint64_t *ou
  *    1  as for hogzelt_normalize_to_semilinear
  *    2  sheet_len is not 57,360
  *   32  calls_len is odd, a pass is none of these, or a length is above spare_len or sheet_len
- *   3 to 9  as for hogzelt_normalize_to_semilinear
+ *   3 to 6, 8, 9  as for hogzelt_normalize_to_semilinear
  * All of sheet and spare is written. Where the list is accepted, the first *used bytes of sheet are
  * the form in use after the last call, the rest is zero, and *terms is the count of its terms. Beside
  * a refusal all of sheet is zero, and so are *used and *terms. spare is left all zero.

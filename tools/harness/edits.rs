@@ -1,5 +1,6 @@
-//! The edits of the published text that make its two other builds: sorted maps, and document 01's
-//! partings on top of them. An edit replaces a text everywhere in its file.
+//! The edits of the published text that make its two other builds: sorted maps, and on top of them
+//! document 01's partings and difference 8 of docs/DIFFERENCES.md. An edit replaces a text everywhere
+//! in its file.
 
 /// A file that is edited: the module that it stands in, its folder and its name.
 pub struct File {
@@ -117,18 +118,19 @@ pub const PARTING_3: [Edit; 1] = [edit(
     ", crate::parted::ir::partings::mask_width(modmask)) & modmask",
 )];
 
-/// Parting 5 in normalising: refusals 7 and 9 (partings/parting_5.rs). In the passes refusal 9 is
-/// the harness's (src/pass.rs).
-pub const PARTING_5: [Edit; 2] = [
-    edit(
-        "semilinear_normalizer",
-        "    if !is_uniform_width(expr, &[], bitwidth) {",
-        "    crate::parted::ir::parting_5::refusal_7(expr)?;\n    \
-         if !is_uniform_width(expr, &[], bitwidth) {",
-    ),
-    edit(
-        "semilinear_normalizer",
-        "    Ok(ir)\n",
-        "    crate::parted::ir::parting_5::refusal_9(&ir)?;\n    Ok(ir)\n",
-    ),
-];
+/// Parting 5 in normalising: refusal 9 (partings/parting_5.rs). In the passes refusal 9 is the
+/// harness's (src/pass.rs).
+pub const PARTING_5: [Edit; 1] = [edit(
+    "semilinear_normalizer",
+    "    Ok(ir)\n",
+    "    crate::parted::ir::parting_5::refusal_9(&ir)?;\n    Ok(ir)\n",
+)];
+
+/// Difference 8: an Add, Mul or Neg below a variable-free And, Or, Xor or Not has its value, not 0.
+pub const DIFFERENCE_8: [Edit; 1] = [edit(
+    "semilinear_normalizer",
+    "        _ => 0,\n",
+    "        _ if crate::parted::ir::partings::held(8) => {\n            \
+         eval_constant_arith(expr, mask, mask.count_ones())\n        }\n        \
+         _ => 0,\n",
+)];

@@ -17,7 +17,7 @@ from .parser import parse
 from .records import Fault, read_expression, read_form
 from .tokens import BadText
 
-__version__ = "1.1.0"
+__version__ = "1.2.0"
 
 __all__ = [
     "OPAQUE", "SHORTENING", "BadText", "Column", "Fault", "NoLibrary", "Pass", "Refused", "Sheet",

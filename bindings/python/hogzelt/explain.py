@@ -21,7 +21,6 @@ from .tokens import clip
 
 OPERATORS = {ADD: "+", MUL: "*", AND: "&", OR: "|", XOR: "^", NOT: "~", NEG: "-", SHR: ">>"}
 NOUNS = {ADD: "a sum", MUL: "a product", NEG: "a negative"}
-BITWISE_CONSTANT = (AND, OR, XOR, NOT)
 
 
 class Reason(NamedTuple):
@@ -34,7 +33,7 @@ def explain(number: int, parsed: Parsed, accepts: Callable[[bytes], bool]) -> Re
     """The reason of a refusal of normalising; `accepts` says whether normalising takes an
     expression, so that only hints are given that help."""
     tree = Tree(parsed, accepts)
-    reasons = {5: tree.cast, 6: tree.shift_count, 7: tree.constant, 8: tree.nonlinear, 9: tree.full}
+    reasons = {5: tree.cast, 6: tree.shift_count, 8: tree.nonlinear, 9: tree.full}
     found = reasons[number]() if number in reasons else None
     return found or Reason(len(tree.records) - 1, REFUSALS[number], "")
 
@@ -63,15 +62,6 @@ class Tree:
             if record.kind == SHR and record.argument > MOST_SHIFT:
                 return Reason(i, f"a shift by {record.argument}; the most is {MOST_SHIFT}",
                               f"at width {self.width} the value is 0")
-        return None
-
-    def constant(self) -> Reason | None:
-        for i, record in enumerate(self.records):
-            facts = self.facts[i]
-            if record.kind in BITWISE_CONSTANT and not facts.variable and facts.arithmetic:
-                symbol = OPERATORS[record.kind]
-                message = f"{self.text(i)} has no variable, and {symbol} stands over arithmetic"
-                return Reason(i, message, self.literal_hint(i))
         return None
 
     def literal_hint(self, at: int) -> str:
@@ -103,17 +93,23 @@ class Tree:
         return None
 
     def over_arithmetic(self, top: int) -> Reason:
-        """A bitwise operator over arithmetic: the innermost one that has it as an operand."""
-        at = top
-        while True:
-            child = next(c for c in self.facts[at].children if self.facts[c].arithmetic)
-            if self.records[child].kind in ARITHMETIC:
-                break
-            at = child
-        record, below = self.records[at], self.records[child]
-        message = (f"{OPERATORS[record.kind]} works bit by bit, and {self.text(child)} below it is"
-                   f" {NOUNS[below.kind]}")
+        """A bitwise operator with a variable over arithmetic: the innermost one that has as an
+        operand arithmetic, or a part without a variable and with arithmetic in it."""
+        at, child = top, self.with_arithmetic(top)
+        while self.records[child].kind not in ARITHMETIC and self.facts[child].variable:
+            at, child = child, self.with_arithmetic(child)
+        inner = child
+        while self.records[inner].kind not in ARITHMETIC:
+            inner = self.with_arithmetic(inner)
+        noun = NOUNS[self.records[inner].kind]
+        what = f"is {noun}" if inner == child else f"has {noun} in it"
+        message = (f"{OPERATORS[self.records[at].kind]} works bit by bit, and {self.text(child)}"
+                   f" below it {what}")
         return Reason(at, message, self.rewritten(at, child, at == top))
+
+    def with_arithmetic(self, at: int) -> int:
+        """The first operand that has arithmetic in it."""
+        return next(c for c in self.facts[at].children if self.facts[c].arithmetic)
 
     def rewritten(self, at: int, child: int, is_top: bool) -> str:
         """What could be written instead, with the same value."""

@@ -7,9 +7,13 @@ REFUSALS = {
     4: "a width of 0, above 64, or differing between records",
     5: "a cast or a concatenation",
     6: "a shift count above 63",
-    7: "a sum or product below bitwise operators without a variable, as in 3 & (1 + 2)",
     8: "not a sum of weighted bitwise atoms, as a*b or a & (b + c)",
     9: "more than 256 atoms, or more than 3,072 records in their trees",
     10: "not a sheet, or a hash that is not its tree's",
     32: "not a list of passes",
+}
+
+# what files that `par` wrote before 1.2.0 may hold; the number is not used for anything else
+RETIRED = {
+    7: "a sum or product below bitwise operators without a variable; since 1.2.0 it is a number",
 }

@@ -1,7 +1,7 @@
 use std::error::Error;
 use std::fmt;
 
-/// Why a call is refused; the numbers are those of `include/hogzelt.h`.
+/// Why a call is refused; the numbers are those of `include/hogzelt.h`, which has no 7.
 #[derive(Clone, Copy, Debug, PartialEq, Eq, Hash)]
 #[non_exhaustive]
 pub enum Refusal {
@@ -17,8 +17,6 @@ pub enum Refusal {
     Cast = 5,
     /// A shift count above 63.
     ShiftCount = 6,
-    /// Arithmetic below bitwise operators without a variable.
-    SumInConstant = 7,
     /// Not a sum of weighted bitwise atoms.
     Nonlinear = 8,
     /// More than 256 atoms, or more than 3,072 records in their trees.
@@ -31,14 +29,13 @@ pub enum Refusal {
 
 impl Refusal {
     /// Every refusal, by rising number.
-    pub const ALL: [Refusal; 11] = [
+    pub const ALL: [Refusal; 10] = [
         Refusal::InputLength,
         Refusal::ResultLength,
         Refusal::Malformed,
         Refusal::Width,
         Refusal::Cast,
         Refusal::ShiftCount,
-        Refusal::SumInConstant,
         Refusal::Nonlinear,
         Refusal::TableFull,
         Refusal::NoForm,
@@ -77,7 +74,6 @@ impl fmt::Display for Refusal {
             Refusal::Width => "a width of 0, above 64, or differing between records",
             Refusal::Cast => "a cast or a concatenation",
             Refusal::ShiftCount => "a shift count above 63",
-            Refusal::SumInConstant => "arithmetic below bitwise operators without a variable",
             Refusal::Nonlinear => "not a sum of weighted bitwise atoms",
             Refusal::TableFull => "more than 256 atoms, or more than 3,072 records in their trees",
             Refusal::NoForm => "not a semilinear form, or a hash that is not its tree's",

@@ -17,7 +17,7 @@ fn number(value: u64) -> Expr {
 #[test]
 fn refusals() {
     let numbers: Vec<u64> = Refusal::ALL.iter().map(|r| r.number()).collect();
-    assert_eq!(numbers, [1, 2, 3, 4, 5, 6, 7, 8, 9, 10, 32]);
+    assert_eq!(numbers, [1, 2, 3, 4, 5, 6, 8, 9, 10, 32]);
     for refusal in Refusal::ALL {
         assert_eq!(Refusal::check(refusal.number()), Err(refusal));
         let error: Box<dyn Error> = refusal.into();
@@ -33,10 +33,6 @@ fn refusals() {
     assert_eq!(normalize(Expr::variable(65, 0)), Err(Refusal::Width));
     assert_eq!(normalize(a() + Expr::variable(9, 0)), Err(Refusal::Width));
     assert_eq!(normalize(a() & -number(2)), Err(Refusal::Nonlinear));
-    assert_eq!(
-        normalize(number(3) & (number(1) + number(2))),
-        Err(Refusal::SumInConstant)
-    );
     assert_eq!(run_pass(Pass::Refine, a()), Err(Refusal::NoForm));
 }
 
@@ -62,6 +58,39 @@ fn parts_of_a_sheet() {
     let constant = normalize(number(5)).expect("a number is linear");
     assert_eq!((constant.constant(), constant.par()), (5, 0));
     assert_eq!(constant.columns().expect("a sheet").classes().len(), 0);
+}
+
+/// A part without a variable is a number, whatever its operators, but not beside a variable below a
+/// bitwise operator.
+#[test]
+fn numbers_written_as_sums() {
+    let three = || number(1) + number(2);
+    let masked = || number(3) & three();
+    let minus_one = || -number(1);
+    for (expr, constant) in [
+        (masked(), 3),
+        (number(0) * masked(), 0),
+        (!three() >> 1, 126),
+        (number(8) | three(), 11),
+        (number(0) * (a() ^ masked()), 0),
+    ] {
+        let sheet = normalize(expr).expect("it is a number");
+        assert_eq!((sheet.constant(), sheet.atoms().len()), (constant, 0));
+    }
+    for (expr, coefficient) in [(masked() * a(), 3), (a() + !minus_one(), 1)] {
+        let sheet = normalize(expr).expect("it is linear");
+        assert_eq!((sheet.constant(), sheet.par()), (0, 1));
+        assert_eq!(sheet.terms()[0].coefficient, coefficient);
+        assert_eq!(sheet.atoms(), [a().as_bytes()]);
+    }
+    for expr in [
+        a() ^ masked(),
+        a() & !three(),
+        a() ^ minus_one(),
+        a() & (three() >> 1),
+    ] {
+        assert_eq!(normalize(expr), Err(Refusal::Nonlinear));
+    }
 }
 
 /// Byte 1 of heads: 4 is written, 0 to 4 are read alike, and other bytes are refused.

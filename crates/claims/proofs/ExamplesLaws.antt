@@ -14,7 +14,7 @@ use Rattle.record.specs.Decode.{leaf}
 use Rattle.expr_refusal.specs.Refusal.{lowest, usesByte1, fieldsOk, unused, sizeOk, formOk, widthOk, rootRefusal}
 use Rattle.expr_refusal.specs.Refusal.{exprRefusal}
 use Rattle.expr.specs.Hash.{mixHash, tagHash, varHash, structuralHash}
-use Rattle.expr_utils.specs.Utils.{hasKind, isArith, isBitwise, hasArith, hasConstantArith}
+use Rattle.expr_utils.specs.Utils.{hasKind, isArith, hasArith}
 use Rattle.expr.specs.Value.{unary, binary, value}
 use Rattle.expr.specs.Vars.{nextVar, supportF, support, sameVars}
 use Rattle.truth.specs.Key.{isPure, sameTable}
@@ -67,13 +67,13 @@ use Rattle.claims.specs.Example.{sameOutcome, allHold}
 use Rattle.claims.specs.Examples.{starred, tricky}
 use Rattle.claims.specs.Slips.{slips}
 use Rattle.claims.specs.Wide.{wideNormal, widePasses, wide}
-use Rattle.claims.specs.OnBytes.{onBytes, savedHeads, pastByte, refusals, orders}
+use Rattle.claims.specs.OnBytes.{onBytes, savedHeads, pastByte, writtenSums, refusals, orders}
 
 -- all that computing an example opens
 opened : Unit {0}
 unfolding trailingZeros onesIn bitAt effectiveMask reduceMask canChangeCoefficientTo bitmask modAdd modSub
     modMul modNeg eqList sizeOf recordBytes variableBytes encode mixHash tagHash varHash structuralHash hasKind isArith
-    isBitwise hasArith hasConstantArith unary binary value nextVar supportF support sameVars decomposeAnd decomposeAtom
+    hasArith unary binary value nextVar supportF support sameVars decomposeAnd decomposeAtom
     termCount atomBytes atomsBytes termBytes termsBytes sumBytes encodeForm eqTree treeRecords fitsTable at putEntry
     emptyGroup pushEntry isLive consumed work onGroup createRow maskedTree createMasked viewRow anyBasis variableBasis
     insertBasis basesOf groupOf ungrouped addCoeff settleAt settle turnsF forIn firstF firstIn formOutcome limitOutcome
@@ -127,6 +127,10 @@ past-byte-hold = refl
 saved-heads-hold : allHold savedHeads ≡ true
 unfolding openedBytes savedHeads
 saved-heads-hold = refl
+
+written-sums-hold : allHold writtenSums ≡ true
+unfolding openedBytes writtenSums
+written-sums-hold = refl
 
 refusals-hold : allHold refusals ≡ true
 unfolding openedBytes refusals

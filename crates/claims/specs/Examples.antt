@@ -9,7 +9,7 @@ use Rattle.structure_laws.specs.RecoverStructure.{recoverForm}
 use Rattle.structure_laws.specs.CoalesceTerms.{coalesceForm}
 use Rattle.claims.specs.Example.{Example, a, b, mask, row, form, normal, refusal, pass, flat, columns}
 
--- ---- the starred puzzles, in document 01's order
+-- ---- the starred puzzles, in document 01's order; 3 & (1 + 2) as request #104 has it
 
 unfoldable pub starred : List Example
 starred =
@@ -20,7 +20,7 @@ starred =
     ∷ normal 8 (Binary 3 (Constant 0) (Binary 3 a b)) 0 []
     ∷ refusal 8 (Binary 3 a b) 8
     ∷ refusal 8 (Binary 6 a (Unary 8 0 (Constant 1))) 8
-    ∷ refusal 8 (Binary 4 (Constant 3) (Binary 2 (Constant 1) (Constant 2))) 7
+    ∷ normal 8 (Binary 4 (Constant 3) (Binary 2 (Constant 1) (Constant 2))) 3 []
     ∷ normal 8 (Binary 2 (Binary 4 a b) (Binary 4 b a)) 0 (row (Binary 4 a b) 2 ∷ [])
     ∷ normal 1 (Binary 6 a (Constant 1)) 1 (row a 1 ∷ [])
     ∷ pass refineForm (form 8 0 (row (mask a 255) 16 ∷ []))

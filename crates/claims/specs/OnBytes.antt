@@ -1,6 +1,6 @@
 -- Worked examples on bytes: an expression file or the bytes of a form in, and the bytes, numbers or refusal that the
 -- definitions of the entry points give (w = 8, a is v0, b is v1). Starred puzzles of each kind, document 01's examples
--- of refusals, sheets saved with old heads, variables past 255, and two lists of calls.
+-- of refusals, sheets saved with old heads, variables past 255, literals written as sums, and two lists of calls.
 use Prim.Native.Nat.{ℕ}
 use mathlib.Core.List.{List, [], _∷_, _++_}
 use mathlib.Core.Bool.{Bool, true, false}
@@ -163,6 +163,37 @@ pastByte =
     ∷ stops compact-atom-table ((atom ++ one) ++ withByte5 sum) whole 10
     ∷ []
 
+-- ---- literals written as sums (ticket #104)
+
+-- 1 + 2, and 3 & (1 + 2)
+abbrev three : Tree
+three = Binary 2 (Constant 1) (Constant 2)
+
+abbrev masked : Tree
+masked = Binary 4 (Constant 3) three
+
+-- 8 bits, the constant c and no atom
+abbrev constant : ℕ → Form
+constant c = form 8 c []
+
+unfoldable pub writtenSums : List Example
+writtenSums =
+    -- 3 & (1 + 2); 0 × (3 & (1 + 2)); ~(1 + 2) >> 1
+    normalizes masked (constant 3)
+    ∷ normalizes (Binary 3 (Constant 0) masked) (constant 0)
+    ∷ normalizes (Unary 9 1 (Unary 7 0 three)) (constant 126)
+    -- (3 & (1 + 2)) × a; a + ~(-1)
+    ∷ normalizes (Binary 3 masked a) (sheet (row a 3 ∷ []))
+    ∷ normalizes (Binary 2 a (Unary 7 0 (Unary 8 0 (Constant 1)))) (sheet (row a 1 ∷ []))
+    -- below an operator that also has a variable: a ^ (3 & (1 + 2)); a & ~(1 + 2); a ^ (-1); a & ((1 + 2) >> 1)
+    ∷ refuses (encode 8 (Binary 6 a masked)) whole 8
+    ∷ refuses (encode 8 (Binary 4 a (Unary 7 0 three))) whole 8
+    ∷ refuses (encode 8 (Binary 6 a (Unary 8 0 (Constant 1)))) whole 8
+    ∷ refuses (encode 8 (Binary 4 a (Unary 9 1 three))) whole 8
+    -- 0 × (a ^ (3 & (1 + 2)))
+    ∷ normalizes (Binary 3 (Constant 0) (Binary 6 a masked)) (constant 0)
+    ∷ []
+
 -- ---- refusals
 
 -- 15 bytes; and a form that is none: its term has the coefficient 0
@@ -182,8 +213,7 @@ refusals =
     ∷ refuses (encode 65 (Constant 0)) whole 4
     ∷ refuses (encode 8 (Unary 12 4 a)) whole 5
     ∷ refuses (encode 8 (Unary 9 64 a)) whole 6
-    -- 3 & (1 + 2); v0 × v1
-    ∷ refuses (encode 8 (Binary 4 (Constant 3) (Binary 2 (Constant 1) (Constant 2)))) whole 7
+    -- v0 × v1
     ∷ refuses (encode 8 (Binary 3 a b)) whole 8
     -- a pass: 1 before 2, 2 before 10, and 10
     ∷ stops refine-terms fifteen short 1

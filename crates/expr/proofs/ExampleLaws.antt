@@ -3,7 +3,7 @@
 use mathlib.Core.Path.{_≡_, refl}
 use Prim.Native.Nat.{ℕ, _-_, _^_}
 use mathlib.Core.List.{List, [], _∷_, _++_}
-use mathlib.Core.Bool.{Bool, true, false, Bool·beq, _&&_}
+use mathlib.Core.Bool.{Bool, true, _&&_}
 use lib.Dec.{eqb, ltb}
 use lib.ListN.{take, replicate}
 use Rattle.record.specs.Fields.{u16, u32, u64, kind, byte1, byte5, varIndex, amount, size, width, spareHigh, spare}
@@ -18,17 +18,15 @@ use Rattle.expr_refusal.specs.Refusal.{exprRefusal}
 use Rattle.expr.specs.Value.{unary, binary, value}
 use Rattle.expr.specs.ExprValue.{exprValue}
 use Rattle.expr.specs.Hash.{varHash, structuralHash}
-use Rattle.expr_utils.specs.Utils.{hasKind, isArith, isBitwise, hasArith, hasConstantArith}
 use Rattle.expr.specs.Vars.{nextVar, supportF, support}
 
 -- a file and its refusal; an accepted file, an assignment and the value; an accepted file and its tree's hash; a tree
--- whose hash is below another's; a tree and whether refusal 7 applies; a tree and its variables
+-- whose hash is below another's; a tree and its variables
 data Row : Type 0 where
   refused : List ℕ → ℕ → Row
   valued : List ℕ → List ℕ → ℕ → Row
   hashed : List ℕ → ℕ → Row
   before : Tree → Tree → Row
-  arithmetic : Tree → Bool → Row
   holding : Tree → List ℕ → Row
 
 abbrev holds : Row → Bool
@@ -36,7 +34,6 @@ holds (refused s n) = eqb (exprRefusal s) n
 holds (valued s vars v) = eqb (exprRefusal s) 0 && eqb (exprValue s vars) v
 holds (hashed s h) = eqb (exprRefusal s) 0 && eqb (structuralHash (decode s)) h
 holds (before t u) = ltb (structuralHash t) (structuralHash u)
-holds (arithmetic t b) = Bool·beq (hasConstantArith t) b
 holds (holding t l) = eqList (support t) l
 
 abbrev allHold : List Row → Bool
@@ -58,10 +55,6 @@ root k n b1 b5 b6 v = k ∷ b1 ∷ n ∷ 0 ∷ 8 ∷ b5 ∷ b6 ∷ 0 ∷ v ∷ 0
 abbrev sum : Tree
 sum = Binary 2 (Constant 1) (Constant 2)
 
--- 3 & (1 + 2)
-abbrev masked : Tree
-masked = Binary 4 (Constant 3) sum
-
 abbrev examples : List Row
 examples =
     -- 15 bytes; one Add of size 1; a literal of width 65; Trunc of a; a >> 64
@@ -74,6 +67,9 @@ examples =
     ∷ valued xorBytes (5 ∷ []) 10
     ∷ valued (encode 8 (Constant 271)) [] 15
     ∷ valued (encode 64 (Unary 9 63 (Variable 0))) ((2 ^ 64 - 1) ∷ []) 1
+    -- 3 & (1 + 2); ~(1 + 2) >> 1
+    ∷ valued (encode 8 (Binary 4 (Constant 3) sum)) [] 3
+    ∷ valued (encode 8 (Unary 9 1 (Unary 7 0 sum))) [] 126
     -- v0, v255, v256 and v65535; byte 6 of a variable; byte 5 of a literal, of Not and of Add
     ∷ hashed (root 1 1 0 0 0 0) 0x517C_C1B7_2722_0A94
     ∷ hashed (root 1 1 255 0 0 0) 0x7CC1_B727_220A_9501
@@ -92,11 +88,6 @@ examples =
     ∷ before (Variable 0) (Variable 255)
     ∷ before (Variable 255) (Variable 65535)
     ∷ before (Variable 65535) (Variable 256)
-    -- 3 & (1 + 2); a & (1 + 2); 0 × (3 & (1 + 2)); (1 + 2) >> 1
-    ∷ arithmetic masked true
-    ∷ arithmetic (Binary 4 (Variable 0) sum) false
-    ∷ arithmetic (Binary 3 (Constant 0) masked) true
-    ∷ arithmetic (Unary 9 1 sum) false
     -- v3 + v1; v256 + v0; v65535
     ∷ holding (Binary 2 (Variable 3) (Variable 1)) (1 ∷ 3 ∷ [])
     ∷ holding (Binary 2 (Variable 256) (Variable 0)) (0 ∷ 256 ∷ [])
@@ -111,6 +102,5 @@ examples-hold : allHold examples ≡ true
 unfolding fold stepsF step u16 u32 u64 arity cut kind byte1 byte5 varIndex amount size width spareHigh spare literal
     body left right leaf sizeOf recordBytes variableBytes encode lowest usesByte1 fieldsOk unused sizeOk formOk widthOk
     rootRefusal exprRefusal
-    unary binary value exprValue varHash structuralHash hasKind isArith isBitwise hasArith hasConstantArith
-    nextVar supportF support eqList
+    unary binary value exprValue varHash structuralHash nextVar supportF support eqList
 examples-hold = refl

@@ -1,2 +1,2 @@
--- Tests of a tree (expr_utils.rs), and refusal 7.
+-- Tests of a tree (expr_utils.rs).
 pub mod Utils

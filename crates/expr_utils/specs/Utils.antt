@@ -1,7 +1,7 @@
--- Tests of a tree (expr_utils.rs 9-45; structure_recovery.rs 27-32), and refusal 7 as a test on the tree alone.
+-- Tests of a tree (expr_utils.rs 9-45; structure_recovery.rs 27-32).
 use Prim.Native.Nat.{ℕ}
-use mathlib.Core.Bool.{Bool, true, false, not, _&&_, _||_}
-use lib.Dec.{eqb, ltb}
+use mathlib.Core.Bool.{Bool, true, false, not, _||_}
+use lib.Dec.{eqb}
 use Rattle.expr_utils.specs.declared.Traits.{Traits}
 use Rattle.record.specs.Tree.{Tree}
 use Rattle.record.specs.Tree.Tree.{Constant, Variable, Unary, Binary}
@@ -30,25 +30,12 @@ isConstantSubtree t = not (hasVarDep t)
 unfoldable pub isArith : ℕ → Bool
 isArith k = eqb k 2 || (eqb k 3 || eqb k 8)
 
--- And, Or, Xor and Not
-unfoldable pub isBitwise : ℕ → Bool
-isBitwise k = ltb 3 k && ltb k 8
-
 -- the tree holds an Add, a Mul or a Neg
 unfoldable pub hasArith : Tree → Bool
 hasArith (Constant v) = false
 hasArith (Variable i) = false
 hasArith (Unary k a t) = isArith k || hasArith t
 hasArith (Binary k l r) = isArith k || (hasArith l || hasArith r)
-
--- refusal 7: an Add, Mul or Neg anywhere below a variable-free And, Or, Xor or Not
-unfoldable pub hasConstantArith : Tree → Bool
-hasConstantArith (Constant v) = false
-hasConstantArith (Variable i) = false
-hasConstantArith (Unary k a t) = (isBitwise k && (isConstantSubtree t && hasArith t)) || hasConstantArith t
-hasConstantArith (Binary k l r) =
-    (isBitwise k && (not (hasVarDep l || hasVarDep r) && (hasArith l || hasArith r)))
-    || (hasConstantArith l || hasConstantArith r)
 
 -- all of these at once, as one walk gives them
 unfoldable pub traitsOf : Tree → Traits
@@ -58,7 +45,6 @@ traitsOf t =
       literal = hasLiteral t;
       shr = hasShr t;
       arith = hasArith t;
-      refused = hasConstantArith t;
     }
 
 -- what two children hold together
@@ -69,7 +55,6 @@ joinTraits x y =
       literal = x .literal || y .literal;
       shr = x .shr || y .shr;
       arith = x .arith || y .arith;
-      refused = x .refused || y .refused;
     }
 
 -- what a root of kind k adds to what its children hold
@@ -80,5 +65,4 @@ nodeTraits k x =
       literal = x .literal;
       shr = eqb k 9 || x .shr;
       arith = isArith k || x .arith;
-      refused = (isBitwise k && (not (x .variable) && x .arith)) || x .refused;
     }

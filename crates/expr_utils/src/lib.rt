@@ -1,22 +1,20 @@
 // Tests of a tree, found together in one walk.
 ghost use mathlib.Core.Path.{_≡_};
-ghost use mathlib.Core.Bool.{true, not, _&&_, _||_};
+ghost use mathlib.Core.Bool.{true, _||_};
 ghost use Prim.Native.Nat.{ℕ, _<_, _≤_};
 ghost use lib.ListN.{length};
 ghost use Rattle.record.specs.Span.{sized};
 ghost use Rattle.record.specs.Decode.{leaf, decode};
-ghost use Rattle.expr_utils.specs.Utils.{isArith, isBitwise, isConstantSubtree, hasVarDep};
-ghost use Rattle.expr_utils.specs.Utils.{hasConstantArith, traitsOf, joinTraits, nodeTraits};
+ghost use Rattle.expr_utils.specs.Utils.{isArith, isConstantSubtree, hasVarDep};
+ghost use Rattle.expr_utils.specs.Utils.{traitsOf, joinTraits, nodeTraits};
 ghost use Rattle.base.specs.Limits.{recordLength};
 
-// What a tree holds: a variable, a literal, a Shr, an Add, Mul or Neg, and one of these three
-// below a variable-free And, Or, Xor or Not (refusal 7).
+// What a tree holds: a variable, a literal, a Shr, and an Add, Mul or Neg.
 pub struct Traits {
     pub variable: bool,
     pub literal: bool,
     pub shr: bool,
     pub arith: bool,
-    pub refused: bool,
 }
 
 pub fn either(a: bool, b: bool) -> bool
@@ -39,28 +37,6 @@ pub fn is_arith(k: u8) -> bool
     }
 }
 
-fn is_bitwise(k: u8) -> bool
-    ensures { λ r. ⌜ r ≡ isBitwise k ⌝ }
-{
-    if 3 < k {
-        return k < 8;
-    }
-    false
-}
-
-// Refusal 7 at a root of kind k.
-fn constant_arith_at(k: u8, variable: bool, arith: bool) -> bool
-    ensures { λ r. ⌜ r ≡ isBitwise k && (not variable && arith) ⌝ }
-{
-    if !is_bitwise(k) {
-        return false;
-    }
-    if variable {
-        return false;
-    }
-    arith
-}
-
 // What two children hold together.
 pub fn join_traits(x: Traits, y: Traits) -> Traits
     ensures { λ r. ⌜ r ≡ joinTraits x y ⌝ }
@@ -69,13 +45,11 @@ pub fn join_traits(x: Traits, y: Traits) -> Traits
     let literal = either(x.literal, y.literal);
     let shr = either(x.shr, y.shr);
     let arith = either(x.arith, y.arith);
-    let refused = either(x.refused, y.refused);
     Traits {
         variable: variable,
         literal: literal,
         shr: shr,
         arith: arith,
-        refused: refused,
     }
 }
 
@@ -85,14 +59,11 @@ pub fn node_traits(k: u8, x: Traits) -> Traits
 {
     let shr = either(k == 9, x.shr);
     let arith = either(is_arith(k), x.arith);
-    let here = constant_arith_at(k, x.variable, x.arith);
-    let refused = either(here, x.refused);
     Traits {
         variable: x.variable,
         literal: x.literal,
         shr: shr,
         arith: arith,
-        refused: refused,
     }
 }
 
@@ -107,7 +78,6 @@ pub fn leaf_traits(t: &[u8]) -> Traits
             literal: true,
             shr: false,
             arith: false,
-            refused: false,
         };
     }
     Traits {
@@ -115,7 +85,6 @@ pub fn leaf_traits(t: &[u8]) -> Traits
         literal: false,
         shr: false,
         arith: false,
-        refused: false,
     }
 }
 
@@ -153,13 +122,4 @@ pub fn has_var_dep(t: &[u8]) -> bool
 {
     let found = traits_of(t);
     found.variable
-}
-
-// Whether refusal 7 applies to the tree of t.
-pub fn has_constant_arith(t: &[u8]) -> bool
-    requires { ⌜ sized (now t) ≡ true ⌝ }
-    ensures { λ r. ⌜ r ≡ hasConstantArith (decode (now (t .entry))) ⌝ }
-{
-    let found = traits_of(t);
-    found.refused
 }

@@ -10,7 +10,7 @@ use Rattle.arith.specs.Bit.{bitAt}
 use Rattle.base.specs.Lists.{eqList}
 use Rattle.record.specs.Tree.{Tree, sizeOf, recordBytes, variableBytes, encode}
 use Rattle.record.specs.Tree.Tree.{Constant, Variable, Unary, Binary}
-use Rattle.expr_utils.specs.Utils.{hasKind, isArith, isBitwise, hasArith, hasConstantArith}
+use Rattle.expr_utils.specs.Utils.{hasKind, isArith, hasArith}
 use Rattle.expr.specs.Value.{unary, binary, value}
 use Rattle.expr.specs.Vars.{nextVar, supportF, support, sameVars}
 use Rattle.expr.specs.Hash.{mixHash, tagHash, varHash, structuralHash}
@@ -107,7 +107,7 @@ starred =
     ∷ gives 8 (mul (literal 0) (mul a b)) 0 []
     ∷ refuses 8 (mul a b) 8
     ∷ refuses 8 (xor a (neg (literal 1))) 8
-    ∷ refuses 8 maskedSum 7
+    ∷ gives 8 maskedSum 3 []
     -- (a & b) + (b & a); a ^ 1 of width 1
     ∷ gives 8 (add (conj a b) (conj b a)) 0 (newRow (conj a b) 2 ∷ [])
     ∷ gives 1 (xor a (literal 1)) 1 (newRow a 1 ∷ [])
@@ -135,13 +135,9 @@ others =
     -- a literal of 2 ^ 8 or more stays as it is written in an And, and is cut where it is lowered
     ∷ gives 8 (conj a (literal 271)) 0 (newRow (conj a (literal 271)) 1 ∷ [])
     ∷ gives 8 (xor (literal 271) a) 15 (newRow a 1 ∷ newRow low 254 ∷ [])
-    -- (a × 0) × b; (0 × a) >> 1; a & (1 + 2)
+    -- (a × 0) × b; (0 × a) >> 1
     ∷ refuses 8 (mul (mul a (literal 0)) b) 8
     ∷ refuses 8 (shr 1 (mul (literal 0) a)) 8
-    ∷ refuses 8 (conj a sum) 8
-    -- 0 × (3 & (1 + 2)); (1 + 2) >> 1
-    ∷ refuses 8 (mul (literal 0) maskedSum) 7
-    ∷ gives 8 (shr 1 sum) 1 []
     -- a table that fits, one that does not, also where all its atoms are unused; 8 comes before 9; a factor of 0
     ∷ refuses 8 (nested 54) 0
     ∷ refuses 8 (nested 55) 9
@@ -154,9 +150,40 @@ others =
     ∷ gives 8 (add (add low other) other) 0 (newRow low 1 ∷ newRow other 2 ∷ [])
     ∷ []
 
-examples-hold : allHold starred && allHold others ≡ true
+-- literals written as sums (request #104)
+abbrev sums : List Example
+sums =
+    -- constants: 0 × (3 & (1 + 2)); (1 + 2) >> 1; ~(1 + 2) >> 1; 3 | (1 + 2); (3 ^ -1) + 1
+    gives 8 (mul (literal 0) maskedSum) 0 []
+    ∷ gives 8 (shr 1 sum) 1 []
+    ∷ gives 8 (shr 1 (not sum)) 126 []
+    ∷ gives 8 (Binary 5 (literal 3) sum) 3 []
+    ∷ gives 8 (add (xor (literal 3) (neg (literal 1))) (literal 1)) 253 []
+    -- factors and summands: (3 & (1 + 2)) × a; a × (3 & (1 + 2)); a + ~(-1)
+    ∷ gives 8 (mul maskedSum a) 0 (newRow a 3 ∷ [])
+    ∷ gives 8 (mul a maskedSum) 0 (newRow a 3 ∷ [])
+    ∷ gives 8 (add a (not (neg (literal 1)))) 0 (newRow a 1 ∷ [])
+    -- at other widths: 3 & (1 + 2) of width 1; ~(1 + 2) >> 1 of width 64
+    ∷ gives 1 maskedSum 1 []
+    ∷ gives 64 (shr 1 (not sum)) 0x7FFF_FFFF_FFFF_FFFE []
+    -- below an operator that also has a variable: a ^ (3 & (1 + 2)); (3 & (1 + 2)) | a; a & ~(1 + 2); a & (1 + 2);
+    -- a & ((1 + 2) >> 1); ~(a & ~(1 + 2)); (a ^ (3 & (1 + 2))) >> 1
+    ∷ refuses 8 (xor a maskedSum) 8
+    ∷ refuses 8 (Binary 5 maskedSum a) 8
+    ∷ refuses 8 (conj a (not sum)) 8
+    ∷ refuses 8 (conj a sum) 8
+    ∷ refuses 8 (conj a (shr 1 sum)) 8
+    ∷ refuses 8 (not (conj a (not sum))) 8
+    ∷ refuses 8 (shr 1 (xor a maskedSum)) 8
+    -- but not under a factor 0, and not where the sum stands outside: 0 × (a ^ (3 & (1 + 2))); (a ^ 15) + (3 & (1 + 2))
+    ∷ gives 8 (mul (literal 0) (xor a maskedSum)) 0 []
+    ∷ gives 8 (mul (conj (literal 4) sum) (xor a maskedSum)) 0 []
+    ∷ gives 8 (add (xor a (literal 15)) maskedSum) 18 (newRow a 1 ∷ newRow low 254 ∷ [])
+    ∷ []
+
+examples-hold : allHold starred && (allHold others && allHold sums) ≡ true
 unfolding bitmask wrappingMul modAdd modMul modNeg bitAt eqList sizeOf recordBytes variableBytes encode
-    hasKind isArith isBitwise hasArith hasConstantArith unary binary value nextVar supportF support sameVars
+    hasKind isArith hasArith unary binary value nextVar supportF support sameVars
     mixHash tagHash varHash structuralHash termCount atomBytes atomsBytes termBytes termsBytes sumBytes encodeForm
     eqTree treeRecords fitsTable refusalOf formOutcome joinCollected collectAtom collectConstant isNot operand
     collectNot isMaskedNot collectAnd andCoeff collectMasked collectTerms bitBinary bitOf rowBits tableF table

@@ -1,6 +1,7 @@
 -- That normalising keeps the value and gives a valid form.
 pub mod AndLaws
 pub mod CollectLaws
+pub mod ConstantLaws
 pub mod EmittedLaws
 pub mod ExampleLaws
 pub mod JoinLaws

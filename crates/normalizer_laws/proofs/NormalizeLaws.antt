@@ -17,7 +17,6 @@ use Rattle.record.specs.Fields.{width}
 use Rattle.record.specs.Tree.{Tree, IsBytes}
 use Rattle.record.specs.Decode.{decode}
 use Rattle.expr_refusal.specs.Refusal.{isExpr, treeRefusal, exprRefusal}
-use Rattle.expr_utils.specs.Utils.{hasConstantArith}
 use Rattle.expr.specs.Value.{value}
 use Rattle.expr.specs.ExprValue.{exprValue}
 use Rattle.expr.proofs.ValueLaws.{value-lt}
@@ -92,48 +91,41 @@ module _ (w c : ℕ) (l : List Emitted) where
 
 -- what normalising a tree gives, by the first test that decides
 pub data TreeCase (w : ℕ) (t : Tree) : Type 0 where
-  arithmetic : hasConstantArith t ≡ true → normalizeTree w t ≡ refused 7 → TreeCase w t
-  not-linear : hasConstantArith t ≡ false → collectTerms w 1 t ≡ nonlinear → normalizeTree w t ≡ refused 8
-      → TreeCase w t
-  too-large : hasConstantArith t ≡ false → (c : ℕ) (l : List Emitted) → collectTerms w 1 t ≡ linear c l
+  not-linear : collectTerms w 1 t ≡ nonlinear → normalizeTree w t ≡ refused 8 → TreeCase w t
+  too-large : (c : ℕ) (l : List Emitted) → collectTerms w 1 t ≡ linear c l
       → fitsTable (collectedForm w c l .rows) ≡ false → normalizeTree w t ≡ refused 9 → TreeCase w t
-  written : hasConstantArith t ≡ false → (c : ℕ) (l : List Emitted) → collectTerms w 1 t ≡ linear c l
+  written : (c : ℕ) (l : List Emitted) → collectTerms w 1 t ≡ linear c l
       → fitsTable (collectedForm w c l .rows) ≡ true → normalizeTree w t ≡ formOutcome (collectedForm w c l) false
       → TreeCase w t
 
 module _ (w : ℕ) (t : Tree) where
-  pub tree-collected : hasConstantArith t ≡ false → normalizeTree w t ≡ collectedOutcome w (collectTerms w 1 t)
+  pub tree-collected : {x : Collected} → collectTerms w 1 t ≡ x → normalizeTree w t ≡ collectedOutcome w x
   unfolding normalizeTree
-  tree-collected h = simp h
+  tree-collected e = ap (collectedOutcome w) e
 
-  pub tree-seven : hasConstantArith t ≡ true → normalizeTree w t ≡ refused 7
-  unfolding normalizeTree
-  tree-seven h = simp h
-
-  pub tree-eight : hasConstantArith t ≡ false → collectTerms w 1 t ≡ nonlinear → normalizeTree w t ≡ refused 8
+  pub tree-eight : collectTerms w 1 t ≡ nonlinear → normalizeTree w t ≡ refused 8
   unfolding collectedOutcome
-  tree-eight h e = tree-collected h ∙ ap (collectedOutcome w) e
+  tree-eight e = tree-collected e
 
-  module _ (h : hasConstantArith t ≡ false) (c : ℕ) (l : List Emitted) (e : collectTerms w 1 t ≡ linear c l) where
+  module _ (c : ℕ) (l : List Emitted) (e : collectTerms w 1 t ≡ linear c l) where
     pub tree-nine : fitsTable (collectedForm w c l .rows) ≡ false → normalizeTree w t ≡ refused 9
-    tree-nine f = tree-collected h ∙ ap (collectedOutcome w) e ∙ collected-nine w c l f
+    tree-nine f = tree-collected e ∙ collected-nine w c l f
 
     pub tree-form : fitsTable (collectedForm w c l .rows) ≡ true
         → normalizeTree w t ≡ formOutcome (collectedForm w c l) false
-    tree-form f = tree-collected h ∙ ap (collectedOutcome w) e ∙ collected-form w c l f
+    tree-form f = tree-collected e ∙ collected-form w c l f
 
   pub tree-case : TreeCase w t
-  tree-case = go (hasConstantArith t) (collectTerms w 1 t) refl refl
+  tree-case = go (collectTerms w 1 t) refl
     where
-      fit : hasConstantArith t ≡ false → (c : ℕ) (l : List Emitted) → collectTerms w 1 t ≡ linear c l
+      fit : (c : ℕ) (l : List Emitted) → collectTerms w 1 t ≡ linear c l
           → (b : Bool) → fitsTable (collectedForm w c l .rows) ≡ b → TreeCase w t
-      fit h c l e true f = written h c l e f (tree-form h c l e f)
-      fit h c l e false f = too-large h c l e f (tree-nine h c l e f)
+      fit c l e true f = written c l e f (tree-form c l e f)
+      fit c l e false f = too-large c l e f (tree-nine c l e f)
 
-      go : (b : Bool) (x : Collected) → hasConstantArith t ≡ b → collectTerms w 1 t ≡ x → TreeCase w t
-      go true x h e = arithmetic h (tree-seven h)
-      go false nonlinear h e = not-linear h e (tree-eight h e)
-      go false (linear c l) h e = fit h c l e (fitsTable (collectedForm w c l .rows)) refl
+      go : (x : Collected) → collectTerms w 1 t ≡ x → TreeCase w t
+      go nonlinear e = not-linear e (tree-eight e)
+      go (linear c l) e = fit c l e (fitsTable (collectedForm w c l .rows)) refl
 
 -- ---- the bytes of an expression
 
@@ -196,10 +188,9 @@ normalize-refused s len n e = go (file-case s len)
     same f = ap refusalOf (sym e ∙ f)
 
     by-tree : normalizeToSemilinear s len ≡ normalizeTree (width s) (decode s) → TreeCase (width s) (decode s) → 0 < n
-    by-tree q (arithmetic a f) = let k = same (q ∙ f) in omega (arith, k)
-    by-tree q (not-linear a x f) = let k = same (q ∙ f) in omega (arith, k)
-    by-tree q (too-large a c l x fits f) = let k = same (q ∙ f) in omega (arith, k)
-    by-tree q (written a c l x fits f) =
+    by-tree q (not-linear x f) = let k = same (q ∙ f) in omega (arith, k)
+    by-tree q (too-large c l x fits f) = let k = same (q ∙ f) in omega (arith, k)
+    by-tree q (written c l x fits f) =
         let z : _≡_ {A = ℕ} 0 1 = ap tag (sym (q ∙ f) ∙ e) in absurd (omega (arith, z))
 
     go : FileCase s len → 0 < n
@@ -223,10 +214,9 @@ module _ (s : List ℕ) (h : IsBytes s) (len : ℕ) (bytes numbers : List ℕ)
   from-tree : exprRefusal s ≡ 0 → normalizeTree (width s) (decode s) ≡ accepted bytes numbers
       → TreeCase (width s) (decode s) → Normalized s bytes numbers
   unfolding elements numbersOf formOutcome collectedForm newRows
-  from-tree z o (arithmetic a f) = not-accepted f (omega arith) o
-  from-tree z o (not-linear a e f) = not-accepted f (omega arith) o
-  from-tree z o (too-large a c l e fits f) = not-accepted f (omega arith) o
-  from-tree z o (written a c l e fits f) =
+  from-tree z o (not-linear e f) = not-accepted f (omega arith) o
+  from-tree z o (too-large c l e fits f) = not-accepted f (omega arith) o
+  from-tree z o (written c l e fits f) =
       let w : ℕ = width s in
       let tree : treeRefusal w s ≡ 0 = accepted-tree s z in
       let root = accepted-root w s tree in

@@ -1,7 +1,9 @@
--- The refusals of normalising, both ways: which number is given exactly when (document 01, "Refusals", 1 to 9).
+-- The refusals of normalising, both ways: which number is given exactly when (document 01, "Refusals", 1 to 6, 8 and
+-- 9), and that no other is.
 use mathlib.Core.Path.{_≡_, refl, ap, sym, subst, _∙_}
 use Prim.Native.Nat.{ℕ, _%_, _^_, _≤_, _<_}
 use native.Mathlib.Omega.{arith}
+use native.Mathlib.Decide.{decLt}
 use mathlib.Core.Logic.{_↔_, _⊎_, inl, inr}
 use mathlib.Core.List.{List}
 use mathlib.Core.Bool.{Bool, true, false, not, _&&_}
@@ -15,14 +17,13 @@ use Rattle.record.specs.Tree.{Tree}
 use Rattle.record.specs.Decode.{decode}
 use Rattle.record.proofs.SpanLaws.{fold-none, fold-leaf, fold-one, fold-two, span-ind}
 use Rattle.expr_refusal.specs.Refusal.{lowest, formOk, widthOk, rootRefusal, treeRefusal, exprRefusal}
-use Rattle.expr_utils.specs.Utils.{hasConstantArith}
 use Rattle.semilinear.specs.Form.{fitsTable}
 use Rattle.base.specs.Outcome.{Outcome, refused, refusalOf}
 use Rattle.semilinear.specs.Outcome.{formOutcome}
 use Rattle.normalizer_laws.specs.Collect.{Emitted, nonlinear, linear, collectTerms}
 use Rattle.normalizer_laws.specs.Normalize.{collectedForm, normalizeTree, normalizeToSemilinear}
-use Rattle.normalizer_laws.proofs.NormalizeLaws.{TreeCase, arithmetic, not-linear, too-large, written}
-use Rattle.normalizer_laws.proofs.NormalizeLaws.{tree-seven, tree-eight, tree-nine, tree-case, FileCase}
+use Rattle.normalizer_laws.proofs.NormalizeLaws.{TreeCase, not-linear, too-large, written}
+use Rattle.normalizer_laws.proofs.NormalizeLaws.{tree-eight, tree-nine, tree-case, FileCase}
 use Rattle.normalizer_laws.proofs.NormalizeLaws.{wrong-length, wrong-slice, no-expression, expression}
 use Rattle.normalizer_laws.proofs.NormalizeLaws.{file-one, file-two, file-refused, file-tree, file-case}
 
@@ -105,51 +106,36 @@ TooLarge w t =
     (c : ℕ) × (l : List Emitted) × (collectTerms w 1 t ≡ linear c l) × (fitsTable (collectedForm w c l .rows) ≡ false)
 
 module _ (w : ℕ) (t : Tree) where
-  -- no refusal of a tree is below 7
-  tree-low : (n : ℕ) → 1 ≤ n → n < 7 → normalizeTree w t ≡ refused n → ⊥
+  -- the refusals of a tree are 8 and 9
+  tree-which : (n : ℕ) → 1 ≤ n → normalizeTree w t ≡ refused n → (8 ≤ n) × (n ≤ 9)
   unfolding refusalOf formOutcome
-  tree-low n pos h e = go (tree-case w t)
+  tree-which n pos e = go (tree-case w t)
     where
-      go : TreeCase w t → ⊥
-      go (arithmetic a f) = omega (arith, same-refusal f e)
-      go (not-linear a b f) = omega (arith, same-refusal f e)
-      go (too-large a c l b x f) = omega (arith, same-refusal f e)
-      go (written a c l b x f) = omega (arith, same-refusal f e)
+      go : TreeCase w t → (8 ≤ n) × (n ≤ 9)
+      go (not-linear b f) = (omega (arith, same-refusal f e), omega (arith, same-refusal f e))
+      go (too-large c l b x f) = (omega (arith, same-refusal f e), omega (arith, same-refusal f e))
+      go (written c l b x f) = absurd (omega (arith, same-refusal f e))
 
-  pub tree-seven-iff : (normalizeTree w t ≡ refused 7) ↔ (hasConstantArith t ≡ true)
+  pub tree-eight-iff : (normalizeTree w t ≡ refused 8) ↔ (collectTerms w 1 t ≡ nonlinear)
   unfolding refusalOf formOutcome
-  tree-seven-iff = (λ e. go e (tree-case w t), λ h. tree-seven w t h)
+  tree-eight-iff = (λ e. go e (tree-case w t), λ h. tree-eight w t h)
     where
-      go : normalizeTree w t ≡ refused 7 → TreeCase w t → hasConstantArith t ≡ true
-      go e (arithmetic a f) = a
-      go e (not-linear a b f) = absurd (omega (arith, same-refusal f e))
-      go e (too-large a c l b x f) = absurd (omega (arith, same-refusal f e))
-      go e (written a c l b x f) = absurd (omega (arith, same-refusal f e))
+      go : normalizeTree w t ≡ refused 8 → TreeCase w t → collectTerms w 1 t ≡ nonlinear
+      go e (not-linear b f) = b
+      go e (too-large c l b x f) = absurd (omega (arith, same-refusal f e))
+      go e (written c l b x f) = absurd (omega (arith, same-refusal f e))
 
-  pub tree-eight-iff : (normalizeTree w t ≡ refused 8)
-      ↔ ((hasConstantArith t ≡ false) × (collectTerms w 1 t ≡ nonlinear))
-  unfolding refusalOf formOutcome
-  tree-eight-iff = (λ e. go e (tree-case w t), λ h. tree-eight w t (h .0) (h .1))
-    where
-      go : normalizeTree w t ≡ refused 8 → TreeCase w t
-          → (hasConstantArith t ≡ false) × (collectTerms w 1 t ≡ nonlinear)
-      go e (arithmetic a f) = absurd (omega (arith, same-refusal f e))
-      go e (not-linear a b f) = (a, b)
-      go e (too-large a c l b x f) = absurd (omega (arith, same-refusal f e))
-      go e (written a c l b x f) = absurd (omega (arith, same-refusal f e))
-
-  pub tree-nine-iff : (normalizeTree w t ≡ refused 9) ↔ ((hasConstantArith t ≡ false) × TooLarge w t)
+  pub tree-nine-iff : (normalizeTree w t ≡ refused 9) ↔ TooLarge w t
   unfolding refusalOf formOutcome
   tree-nine-iff = (
     λ e. go e (tree-case w t),
-    λ h. tree-nine w t (h .0) (h .1 .0) (h .1 .1) (h .1 .2) (h .1 .3),
+    λ h. tree-nine w t (h .0) (h .1) (h .2) (h .3),
   )
     where
-      go : normalizeTree w t ≡ refused 9 → TreeCase w t → (hasConstantArith t ≡ false) × TooLarge w t
-      go e (arithmetic a f) = absurd (omega (arith, same-refusal f e))
-      go e (not-linear a b f) = absurd (omega (arith, same-refusal f e))
-      go e (too-large a c l b x f) = (a, (c, l, b, x))
-      go e (written a c l b x f) = absurd (omega (arith, same-refusal f e))
+      go : normalizeTree w t ≡ refused 9 → TreeCase w t → TooLarge w t
+      go e (not-linear b f) = absurd (omega (arith, same-refusal f e))
+      go e (too-large c l b x f) = (c, l, b, x)
+      go e (written c l b x f) = absurd (omega (arith, same-refusal f e))
 
 -- ---- the bytes of an expression
 
@@ -159,10 +145,10 @@ Reached s len = (exprRefusal s ≡ 0) × (len ≡ 57360)
 
 module _ (s : List ℕ) (len : ℕ) where
   -- a refusal of 7 or more is the tree's
-  from-seven : (n : ℕ) → 7 ≤ n → normalizeToSemilinear s len ≡ refused n
+  of-tree : (n : ℕ) → 7 ≤ n → normalizeToSemilinear s len ≡ refused n
       → Reached s len × (normalizeTree (width s) (decode s) ≡ refused n)
   unfolding refusalOf
-  from-seven n h e = go (file-case s len)
+  of-tree n h e = go (file-case s len)
     where
       low : (exprRefusal s ≡ 1) ⊎ Range (exprRefusal s) → exprRefusal s ≡ n → ⊥
       low (inl a) f = omega arith
@@ -175,6 +161,9 @@ module _ (s : List ℕ) (len : ℕ) where
       go (no-expression a b c f) = absurd (low (expr-range s) (same-refusal f e))
       go (expression z k f) = ((z, k), sym f ∙ e)
 
+  not-low : (n : ℕ) → 1 ≤ n → n < 7 → normalizeTree (width s) (decode s) ≡ refused n → ⊥
+  not-low n pos h e = omega (arith, tree-which (width s) (decode s) n pos e .0)
+
   pub refused-one-iff : (normalizeToSemilinear s len ≡ refused 1) ↔ (exprRefusal s ≡ 1)
   unfolding refusalOf
   refused-one-iff = (λ e. go e (file-case s len), λ h. file-one s len h)
@@ -183,7 +172,7 @@ module _ (s : List ℕ) (len : ℕ) where
       go e (wrong-length a f) = a
       go e (wrong-slice a b f) = absurd (omega (arith, same-refusal f e))
       go e (no-expression a b c f) = same-refusal f e
-      go e (expression z k f) = absurd (tree-low (width s) (decode s) 1 (omega arith) (omega arith) (sym f ∙ e))
+      go e (expression z k f) = absurd (not-low 1 (omega arith) (omega arith) (sym f ∙ e))
 
   pub refused-two-iff : (normalizeToSemilinear s len ≡ refused 2)
       ↔ ((exprRefusal s ≡ 1 → ⊥) × (len ≡ 57360 → ⊥))
@@ -200,7 +189,7 @@ module _ (s : List ℕ) (len : ℕ) where
       go e (wrong-length a f) = absurd (omega (arith, same-refusal f e))
       go e (wrong-slice a b f) = (a, b)
       go e (no-expression a b c f) = absurd (low (expr-range s) (same-refusal f e))
-      go e (expression z k f) = absurd (tree-low (width s) (decode s) 2 (omega arith) (omega arith) (sym f ∙ e))
+      go e (expression z k f) = absurd (not-low 2 (omega arith) (omega arith) (sym f ∙ e))
 
   -- refusals 3 to 6
   pub refused-expr-iff : (n : ℕ) → 3 ≤ n → n < 7
@@ -215,25 +204,33 @@ module _ (s : List ℕ) (len : ℕ) where
       go e (wrong-length a f) = absurd (omega (arith, same-refusal f e))
       go e (wrong-slice a b f) = absurd (omega (arith, same-refusal f e))
       go e (no-expression a b c f) = (same-refusal f e, c)
-      go e (expression z k f) = absurd (tree-low (width s) (decode s) n (omega arith) high (sym f ∙ e))
+      go e (expression z k f) = absurd (not-low n (omega arith) high (sym f ∙ e))
 
-  -- refusals 7 to 9 are those of the tree
-  from-tree : {P : Type 0} (n : ℕ) → 7 ≤ n → (normalizeTree (width s) (decode s) ≡ refused n) ↔ P
+  -- 7 is the refusal of no file
+  pub refused-not-seven : normalizeToSemilinear s len ≡ refused 7 → ⊥
+  refused-not-seven e =
+      omega (arith, tree-which (width s) (decode s) 7 (omega arith) (of-tree 7 (omega arith) e .1) .0)
+
+  -- and neither is one above 9
+  pub refused-at-most-nine : (n : ℕ) → normalizeToSemilinear s len ≡ refused n → n ≤ 9
+  refused-at-most-nine n e = go (decLt 9 n)
+    where
+      go : Dec (9 < n) → n ≤ 9
+      go (yes h) = tree-which (width s) (decode s) n (omega arith) (of-tree n (omega arith) e .1) .1
+      go (no h) = omega arith
+
+  -- refusals 8 and 9 are those of the tree
+  from-tree : {P : Type 0} (n : ℕ) → 8 ≤ n → (normalizeTree (width s) (decode s) ≡ refused n) ↔ P
       → (normalizeToSemilinear s len ≡ refused n) ↔ (Reached s len × P)
   from-tree n h iff = (
-    λ e. (from-seven n h e .0, iff .0 (from-seven n h e .1)),
+    λ e. (of-tree n (omega arith) e .0, iff .0 (of-tree n (omega arith) e .1)),
     λ p. file-tree s len (p .0 .0) (p .0 .1) ∙ iff .1 (p .1),
   )
 
-  pub refused-seven-iff : (normalizeToSemilinear s len ≡ refused 7)
-      ↔ (Reached s len × (hasConstantArith (decode s) ≡ true))
-  refused-seven-iff = from-tree 7 (omega arith) (tree-seven-iff (width s) (decode s))
-
   pub refused-eight-iff : (normalizeToSemilinear s len ≡ refused 8)
-      ↔ (Reached s len
-      × ((hasConstantArith (decode s) ≡ false) × (collectTerms (width s) 1 (decode s) ≡ nonlinear)))
+      ↔ (Reached s len × (collectTerms (width s) 1 (decode s) ≡ nonlinear))
   refused-eight-iff = from-tree 8 (omega arith) (tree-eight-iff (width s) (decode s))
 
   pub refused-nine-iff : (normalizeToSemilinear s len ≡ refused 9)
-      ↔ (Reached s len × ((hasConstantArith (decode s) ≡ false) × TooLarge (width s) (decode s)))
+      ↔ (Reached s len × TooLarge (width s) (decode s))
   refused-nine-iff = from-tree 9 (omega arith) (tree-nine-iff (width s) (decode s))

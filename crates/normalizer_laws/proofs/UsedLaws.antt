@@ -18,7 +18,7 @@ use Rattle.semilinear.specs.Outcome.{formOutcome}
 use Rattle.semilinear.specs.Answers.{GivesForm}
 use Rattle.semilinear.proofs.FormLaws.{length-form, term-count-le}
 use Rattle.normalizer_laws.specs.Normalize.{collectedForm, normalizeTree, normalizeToSemilinear}
-use Rattle.normalizer_laws.proofs.NormalizeLaws.{TreeCase, arithmetic, not-linear, too-large, written}
+use Rattle.normalizer_laws.proofs.NormalizeLaws.{TreeCase, not-linear, too-large, written}
 use Rattle.normalizer_laws.proofs.NormalizeLaws.{tree-case, FileCase, wrong-length, wrong-slice}
 use Rattle.normalizer_laws.proofs.NormalizeLaws.{no-expression, expression, file-case}
 
@@ -61,10 +61,9 @@ module _ (s : List ℕ) (len : ℕ) (r : Answer) (out : List ℕ)
 
   by-tree : len ≡ 57360 → normalizeToSemilinear s len ≡ normalizeTree (width s) (decode s)
       → TreeCase (width s) (decode s) → UsedWithin len r
-  by-tree k e (arithmetic a f) = refuses 7 (omega arith) (e ∙ f)
-  by-tree k e (not-linear a b f) = refuses 8 (omega arith) (e ∙ f)
-  by-tree k e (too-large a c l b x f) = refuses 9 (omega arith) (e ∙ f)
-  by-tree k e (written a c l b x f) =
+  by-tree k e (not-linear b f) = refuses 8 (omega arith) (e ∙ f)
+  by-tree k e (too-large c l b x f) = refuses 9 (omega arith) (e ∙ f)
+  by-tree k e (written c l b x f) =
       used-form (normalizeToSemilinear s len) len r out given (collectedForm (width s) c l) x k (e ∙ f)
 
   by-file : FileCase s len → UsedWithin len r

@@ -1,8 +1,7 @@
 -- The descent of the normaliser (semilinear_normalizer.rs 285-432, `collect_terms`): a constant and weighted atoms in
 -- the order in which the Rust makes them, or nonlinear. It does not depend on the atom table. The pointer-keyed cache
--- and the two evaluators of constants (122-171) have no definition of their own: a variable-free subtree that is a
--- constant or a factor has its value at w bits (difference 3), and refusal 7 keeps out where the Rust's evaluators
--- differ from it.
+-- and the two evaluators of constants (122-171) have no definition of their own: a variable-free subtree that becomes a
+-- constant or a factor has its value at w bits (differences 3 and 8).
 use Prim.Native.Nat.{ℕ}
 use mathlib.Core.List.{List, [], _∷_, _++_}
 use mathlib.Core.Bool.{Bool, false, not, _&&_, _||_}

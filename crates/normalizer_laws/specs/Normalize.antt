@@ -1,4 +1,5 @@
--- What normalising gives (document 01, "The sheet" and refusals 1 to 9; semilinear_normalizer.rs 438-486).
+-- What normalising gives (document 01, "The sheet" and refusals 1 to 6, 8 and 9; semilinear_normalizer.rs 438-486).
+-- Refusal 7 is not given any more (request #104).
 use Prim.Native.Nat.{ℕ}
 use mathlib.Core.List.{List, []}
 use mathlib.Core.Bool.{false, not}
@@ -8,7 +9,6 @@ use Rattle.record.specs.Fields.{width}
 use Rattle.record.specs.Tree.{Tree}
 use Rattle.record.specs.Decode.{decode}
 use Rattle.expr_refusal.specs.Refusal.{exprRefusal}
-use Rattle.expr_utils.specs.Utils.{hasConstantArith}
 use Rattle.semilinear.specs.Form.{Form}
 use Rattle.base.specs.Outcome.{Outcome, refused}
 use Rattle.semilinear.specs.PassOutcome.{limitOutcome}
@@ -25,9 +25,9 @@ unfoldable pub collectedOutcome : ℕ → Collected → Outcome
 collectedOutcome w nonlinear = refused 8
 collectedOutcome w (linear c l) = limitOutcome (collectedForm w c l) false
 
--- of a tree of any size, at w bits; 7 is a test on the tree alone
+-- of a tree of any size, at w bits
 unfoldable pub normalizeTree : ℕ → Tree → Outcome
-normalizeTree w t = when (hasConstantArith t) (λ _. refused 7) (λ _. collectedOutcome w (collectTerms w 1 t))
+normalizeTree w t = collectedOutcome w (collectTerms w 1 t)
 
 -- of the bytes s of an expression, with a result slice of len bytes
 unfoldable pub normalizeToSemilinear : List ℕ → ℕ → Outcome

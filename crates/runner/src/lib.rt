@@ -173,7 +173,7 @@ fn run_from(calls: &[u64], used: usize, terms: u64, sheet: &mut [u8], spare: &mu
     }
 }
 
-// Normalises into sheet, and runs the list; or a refusal: 1, 2, 32, 3 to 9.
+// Normalises into sheet, and runs the list; or a refusal: 1, 2, 32, 3 to 6, 8 and 9.
 pub fn run_passes(expr: &[u8], calls: &[u64], sheet: &mut [u8], spare: &mut [u8]) -> Answer
     ensures { λ r. ⌜ GivesForm (runPasses (now (expr .entry)) (now (calls .entry)) (length (now (sheet .entry)))
         (length (now (spare .entry)))) (length (now (sheet .entry))) r (now (sheet .exit)) ⌝ }

@@ -1,5 +1,5 @@
 -- Normalising a whole accepted file (normalizer_laws/specs/Normalize.antt): the descent from its root with the
--- coefficient 1 collects what the definition says, and the refusals 7 and 8 are found where they are defined.
+-- coefficient 1 collects what the definition says, and refusal 8 is found where it is defined.
 use mathlib.Core.Path.{_≡_, refl, ap, ap₂, sym, _∙_}
 use Prim.Native.Nat.{ℕ, _+_, _*_, _^_, _≤_, _<_, min}
 use native.Mathlib.Omega.{arith}
@@ -18,7 +18,6 @@ use Rattle.base.proofs.PutLaws.{take-put}
 use Rattle.record.proofs.SizedLaws.{sized-length}
 use Rattle.expr_utils.specs.declared.Traits.{Traits}
 use Rattle.expr_refusal.specs.Refusal.{treeRefusal, exprRefusal}
-use Rattle.expr_utils.specs.Utils.{hasConstantArith, traitsOf}
 use Rattle.expr_refusal.proofs.RefusalLaws.{accepted-root, sized-accepted}
 use Rattle.expr.proofs.AcceptLaws.{accept-expr}
 use Rattle.expr.proofs.ExprValueLaws.{accepted-tree, accepted-length}
@@ -35,16 +34,10 @@ use Rattle.descent.specs.Spots.{spotsIn, collectedIn, SpotsOk, Collects, Ready}
 use Rattle.ways.specs.Sides.{treeAt, AtSpot}
 use Rattle.normalizer_laws.specs.Normalize.{collectedOutcome, normalizeTree, normalizeToSemilinear}
 use Rattle.normalizer_laws.proofs.EmittedLaws.{GoodCollected, collect-good}
-use Rattle.normalizer_laws.proofs.NormalizeLaws.{tree-collected, tree-seven, file-tree}
+use Rattle.normalizer_laws.proofs.NormalizeLaws.{tree-collected, file-tree}
 use Rattle.ways.proofs.MarksLaws.{length-marks}
 use Rattle.ways.proofs.SpanOfLaws.{size-sized}
 use Rattle.descent.proofs.SpotsLaws.{collected-linear, collected-nonlinear}
-
--- refusal 7 as the walk over the marks finds it
-pub refused-is : {t : Tree} {at : ℕ} {before after : List ℕ} {r : Traits} → Marked t at before after r
-    → r .refused ≡ hasConstantArith t
-unfolding traitsOf
-refused-is m = ap (λ (x : Traits). x .refused) (m .traits)
 
 -- what is collected from nothing on
 from-nothing : (w : ℕ) (hw : w ≤ 64) (x : Collected) → GoodCollected w hw x → joinCollected w (linear 0 []) x ≡ x
@@ -98,16 +91,9 @@ module _ (w : ℕ) (t : List ℕ) (h : IsBytes t) (ok : treeRefusal w t ≡ 0) w
         room = omega (arith, whole-size);
       })
 
-  -- ---- refusal 7
-
-  pub gives-seven : hasConstantArith (decode t) ≡ true → {n : ℕ} → n ≡ 57360 → (r : Answer) {e : List ℕ}
-      → GivesForm (refused 7) n r e → GivesForm (normalizeTree w (decode t)) 57360 r e
-  gives-seven c en r {e} g = gives-same (tree-seven w (decode t) c) 57360 r e (rw en at g)
-
   -- ---- what the descent collects
 
-  module _ (plain : hasConstantArith (decode t) ≡ false) {d : Descent} (start : d ≡ nothing) {before after : List ℕ}
-      {r : Descent}
+  module _ {d : Descent} (start : d ≡ nothing) {before after : List ℕ} {r : Descent}
       (all : Collects w t (sizeOf (treeAt t whole)) (collectTerms w 1 (treeAt t whole)) before d after r) where
     collected-whole : collectedIn t after r ≡ collectTerms w 1 (decode t)
     unfolding spotsIn
@@ -121,7 +107,7 @@ module _ (w : ℕ) (t : List ℕ) (h : IsBytes t) (ok : treeRefusal w t ≡ 0) w
         ∙ from-nothing w hw (collectTerms w 1 (decode t)) (collect-good w hw (decode t) (accept-expr w t h ok) 1 one)
 
     outcome-of : {x : Collected} → collectedIn t after r ≡ x → normalizeTree w (decode t) ≡ collectedOutcome w x
-    outcome-of e = tree-collected w (decode t) plain ∙ ap (collectedOutcome w) (sym collected-whole ∙ e)
+    outcome-of e = tree-collected w (decode t) (sym collected-whole ∙ e)
 
     pub gives-eight : r .linear ≡ false → {n : ℕ} → n ≡ 57360 → (a : Answer) {e : List ℕ}
         → GivesForm (refused 8) n a e → GivesForm (normalizeTree w (decode t)) 57360 a e

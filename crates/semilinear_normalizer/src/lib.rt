@@ -40,7 +40,7 @@ const SHORT_INDEX: usize = index::ENTRY_WORDS * SHORT_RECORDS;
 
 const LONG_INDEX: usize = index::ENTRY_WORDS * limits::ATOM_LIMIT;
 
-// The form of the accepted expression t, written to a slice of 57,360 bytes; or 7, 8 or 9. All
+// The form of the accepted expression t, written to a slice of 57,360 bytes; or 8 or 9. All
 // room to work in is lent: a mark and five words for each record, a tree's bytes, and eleven words
 // for each atom, of which there are at most 256 and at most one for each record.
 pub fn normalize_tree(
@@ -56,10 +56,7 @@ pub fn normalize_tree(
     ensures { λ r. ⌜ GivesForm (normalizeTree w (decode (now (t .entry)))) formBytes r
         (now (out .exit)) ⌝ }
 {
-    let traits = marks::mark_traits(t, marks, 0);
-    if traits.refused {
-        return outcome::refuse(out, 7);
-    }
+    marks::mark_traits(t, marks, 0);
     let whole = Spot {
         coeff: 1,
         start: 0,
@@ -102,7 +99,7 @@ fn normalize_long(t: &[u8], w: u8, out: &mut [u8]) -> Answer
     normalize_tree(t, w, &mut marks, &mut spots, &mut tree, &mut index, out)
 }
 
-// The semilinear form of the expression t, written to out; or a refusal: 1 to 9. Corresponds to
+// The semilinear form of the expression t, written to out; or a refusal: 1 to 6, 8 or 9. Corresponds to
 // `normalize_to_semilinear`.
 pub fn normalize_to_semilinear(t: &[u8], out: &mut [u8]) -> Answer
     ensures { λ r. ⌜ GivesForm (normalizeToSemilinear (now (t .entry)) (length (now (out .entry))))

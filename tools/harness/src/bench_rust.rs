@@ -1,7 +1,7 @@
 //! The published Rust with reading and writing: from the bytes of an expression to the bytes of its
 //! form, and the values of both. The published sources read and write no bytes and have no evaluator
 //! of whole expressions: reading and writing are the harness's, in one walk each, and a value is that
-//! of the stand-in `compiled`. Refusal 7 is not looked for.
+//! of the stand-in `compiled`.
 
 use std::sync::Arc;
 

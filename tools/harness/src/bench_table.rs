@@ -153,8 +153,8 @@ input bytes. The result slice of 57,360 bytes, or 16,448 words, is not cleared b
 bytes and of the library writes all of it. What a call of the Rust allocates and drops is in its time. \"Rust alone\" is
 the published function on a tree or a form that is there; a pass changes a copy of the form, which is in its time. The
 published sources have no evaluator, so there the values are those of the harness's recursive one. \"Rust with bytes\"
-also reads the bytes, with the checks of document 01 except refusal 7, and writes the result's; an atom that it reads for
-a pass has its variables and no truth table. `run_passes` has the five passes in order, twice; the Rust with bytes makes
+also reads the bytes, with the checks of document 01, and writes the result's; an atom that it reads for a
+pass has its variables and no truth table. `run_passes` has the five passes in order, twice; the Rust with bytes makes
 the same calls, each from bytes to bytes, the Rust alone on one form. The stack is the library's, the most over the inputs.
 ";
 

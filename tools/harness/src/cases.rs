@@ -15,13 +15,15 @@ use crate::record::{
 };
 use crate::{
     edges, form_edges, form_limits, form_random, list, list_cases, masks, normal_cases,
-    number_cases, pass_cases, published,
+    number_cases, pass_cases, published, sum_cases,
 };
 
 /// The seed of the vector file: the letters of "hogzelt".
 pub const SEED: u64 = 0x0068_6F67_7A65_6C74;
 /// Added to the seed for variables of two bytes, so that the other random cases stay as they are.
 pub const NUMBER_SEED: u64 = 20;
+/// The same for numbers that are written as sums.
+const SUM_SEED: u64 = 40;
 
 const RANDOM_TREES: usize = 700;
 const RANDOM_ALL_KINDS: usize = 200;
@@ -63,6 +65,13 @@ pub fn entries() -> Vec<Entry> {
         all.extend(list_entries(rng, family));
     }
     all.extend(number_entries(&mut Prng::new(SEED + NUMBER_SEED)));
+    let rng = &mut Prng::new(SEED + SUM_SEED);
+    for family in &sum_cases::NORMAL {
+        all.extend(normal_entries(rng, family));
+    }
+    for family in &sum_cases::LISTS {
+        all.extend(list_entries(rng, family));
+    }
     all
 }
 

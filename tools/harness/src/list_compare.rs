@@ -15,6 +15,7 @@ use crate::numbers;
 use crate::pass::PASSES;
 use crate::prng::Prng;
 use crate::refusal::{OF_LISTS, RESULT_LENGTH, TABLE_FULL};
+use crate::sum_cases;
 use crate::written::Written;
 
 const FUNCTION: &str = "hogzelt_run_passes";
@@ -65,7 +66,7 @@ impl Counts {
 }
 
 const HEAD: &str = "\
-| family | lists | accepted | 1 | 2 | 32 | 3 to 9 | calls | refining changed | recovering | coalescing | flattening \
+| family | lists | accepted | 1 | 2 | 32 | 3 to 6, 8, 9 | calls | refining changed | recovering | coalescing | flattening \
 | compacting | calls refused by 2 | by 9 |
 |---|---|---|---|---|---|---|---|---|---|---|---|---|---|---|";
 
@@ -86,7 +87,8 @@ pub fn run() -> Result<(), String> {
     let mut all = Counts::default();
     let mut faults = Differences::none(&[]);
     println!("{HEAD}");
-    for family in FAMILIES.iter().chain(&number_cases::LISTS) {
+    let families = FAMILIES.iter().chain(&number_cases::LISTS);
+    for family in families.chain(&sum_cases::LISTS) {
         let mut counts = Counts::default();
         for case in (family.make)(rng, family.compared) {
             let wanted = list::answer(&case);

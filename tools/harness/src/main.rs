@@ -88,6 +88,9 @@ mod refusal;
 mod slip_tests;
 #[cfg(feature = "library")]
 mod stack;
+mod sum_cases;
+#[cfg(test)]
+mod sum_tests;
 #[cfg(test)]
 mod tests;
 mod written;

@@ -87,7 +87,7 @@ pub fn examples() -> Vec<Case> {
         mul(n(16), and(a(), n(255))),
         add(and(a(), n(15)), and(a(), n(240))),
         and(a(), n(15)),
-        // refusal 7 is a test on the tree alone
+        // sums below operators, with a variable and without
         mul(n(0), and(n(3), sum())),
         and(a(), not(sum())),
         and(a(), sum()),

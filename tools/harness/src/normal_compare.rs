@@ -1,6 +1,6 @@
 //! Normalising by the static library beside the model, always, and beside the published Rust, where
-//! it has an answer: the build with document 01's partings must give the same, and each difference
-//! from the build with sorted maps alone is named by its parting.
+//! it has an answer: the build with the differences must give the same, and each difference from the
+//! build with sorted maps alone is named by its number.
 
 use crate::cases::SEED;
 use crate::differences::{Differences, Input};
@@ -14,21 +14,23 @@ use crate::normal_cases::{Case, FAMILIES};
 use crate::normal_model;
 use crate::number_cases;
 use crate::numbers;
+use crate::parted::ir::partings;
 use crate::prng::Prng;
 use crate::published;
 use crate::record::split;
-use crate::refusal::{NONLINEAR, OF_NORMALIZE, SUM_IN_CONSTANT, TABLE_FULL};
+use crate::refusal::{NONLINEAR, OF_NORMALIZE, TABLE_FULL};
+use crate::sum_cases;
 use crate::written::{self, Written};
 use crate::{parted, sorted};
 
 /// The name of a difference between the sources as they stand and with sorted maps.
-const MAP_ORDERS: &str = "parting 4, orders of maps";
+const MAP_ORDERS: &str = "difference 4, orders of maps";
 
 /// Inputs of more records are not printed.
 const SHOWN_RECORDS: usize = 8;
 
-/// What the cases of a family came to: those accepted, those of two terms or more among them, and
-/// those of each refusal.
+/// What the cases of a family came to: those accepted, those of each refusal of normalising, and
+/// those of two terms or more.
 #[derive(Clone, Copy, Default)]
 struct Counts {
     outcomes: [usize; 1 + OF_NORMALIZE.len()],
@@ -37,7 +39,9 @@ struct Counts {
 
 impl Counts {
     fn add(&mut self, answer: &Written) {
-        self.outcomes[answer.refusal as usize] += 1;
+        let refused = OF_NORMALIZE.iter().position(|r| *r == answer.refusal);
+        assert!(refused.is_some() || answer.refusal == 0);
+        self.outcomes[refused.map_or(0, |at| 1 + at)] += 1;
         self.two_terms += usize::from(answer.terms > 1);
     }
 
@@ -75,13 +79,14 @@ pub fn run() -> Result<(), String> {
     let rng = &mut Prng::new(SEED + 2);
     let mut all = Counts::default();
     let mut faults = Differences::none(&[]);
-    let mut partings = Differences::none(&[MAP_ORDERS]);
-    println!("| hogzelt_normalize_to_semilinear | inputs | accepted | of two terms or more | 1 | 2 | 3 | 4 | 5 | 6 | 7 | 8 | 9 |");
-    println!("|---|---|---|---|---|---|---|---|---|---|---|---|---|");
-    for family in FAMILIES.iter().chain(&number_cases::NORMAL) {
+    let mut named = Differences::none(&[MAP_ORDERS]);
+    println!("| hogzelt_normalize_to_semilinear | inputs | accepted | of two terms or more | 1 | 2 | 3 | 4 | 5 | 6 | 8 | 9 |");
+    println!("|---|---|---|---|---|---|---|---|---|---|---|---|");
+    let families = FAMILIES.iter().chain(&number_cases::NORMAL);
+    for family in families.chain(&sum_cases::NORMAL) {
         let mut counts = Counts::default();
         for case in (family.make)(rng, family.compared) {
-            let wanted = check(&case, &mut faults, &mut partings);
+            let wanted = check(&case, &mut faults, &mut named);
             if !keeps_value(rng, &case, &wanted) {
                 faults.add("no valid form of the expression's value", &case);
             }
@@ -91,8 +96,8 @@ pub fn run() -> Result<(), String> {
         all.plus(&counts);
     }
     println!("{}", all.line("all"));
-    println!("where the build with sorted maps alone gives another answer, by parting:");
-    partings.show(SHOWN_RECORDS);
+    println!("where the build with sorted maps alone gives another answer, by difference:");
+    named.show(SHOWN_RECORDS);
     faults.show(usize::MAX);
     println!(
         "hogzelt_normalize_to_semilinear: {} differences",
@@ -102,7 +107,7 @@ pub fn run() -> Result<(), String> {
 }
 
 /// The model's answer. Differences from it are noted.
-fn check(case: &Case, faults: &mut Differences<Case>, partings: &mut Differences<Case>) -> Written {
+fn check(case: &Case, faults: &mut Differences<Case>, named: &mut Differences<Case>) -> Written {
     let wanted = normal_model::answer(&case.file, case.length);
     if library::normalized(&case.file, case.length) != wanted {
         faults.add("the library differs from the model", case);
@@ -112,26 +117,46 @@ fn check(case: &Case, faults: &mut Differences<Case>, partings: &mut Differences
     }
     let records = split(&case.file);
     if written(parted::bridge::normalized(&records)) != wanted {
-        faults.add("the Rust with the partings differs from the model", case);
+        faults.add("the Rust with the differences differs from the model", case);
     }
     let sorted = sorted::bridge::normalized(&records);
     if published::normalized(&records) != sorted {
-        partings.add(MAP_ORDERS, case);
+        named.add(MAP_ORDERS, case);
     }
-    let nonlinear = sorted == Err(NONLINEAR);
-    if written(sorted) != wanted {
-        match (wanted.refusal, nonlinear) {
-            (SUM_IN_CONSTANT, false) => {
-                partings.add("parting 5, refusal 7, accepted by the Rust", case)
-            }
-            (SUM_IN_CONSTANT, true) => {
-                partings.add("parting 5, refusal 7, the Rust's NonLinearInput", case)
-            }
-            (TABLE_FULL, false) => partings.add("parting 5, refusal 9, accepted by the Rust", case),
-            _ => faults.add("the Rust with sorted maps differs, for no parting", case),
+    let rust = written(sorted.clone());
+    if rust != wanted {
+        // the Rust with refusal 9, and sums below constants read as 0
+        let without = partings::with(partings::ALL, || parted::bridge::normalized(&records));
+        match name(&wanted, &sorted, &without) {
+            Some(name) => named.add(name, case),
+            None => faults.add("the Rust with sorted maps differs, for no difference", case),
         }
     }
     wanted
+}
+
+/// The difference that makes the Rust's answer another one than the wanted, by what both are. The Rust
+/// without difference 8 has refusal 9, or is the Rust with sorted maps.
+fn name(
+    wanted: &Written,
+    sorted: &Result<Form, u64>,
+    without: &Result<Form, u64>,
+) -> Option<&'static str> {
+    if without != sorted && *without != Err(TABLE_FULL) {
+        return None;
+    }
+    if written(without.clone()) == *wanted {
+        return (wanted.refusal == TABLE_FULL)
+            .then_some("difference 5, refusal 9, accepted by the Rust");
+    }
+    Some(match (wanted.refusal, sorted.is_ok()) {
+        (0, true) => "difference 8, accepted by both",
+        (0, false) => "difference 8, the Rust's NonLinearInput is accepted",
+        (NONLINEAR, true) => "difference 8, refusal 8, accepted by the Rust",
+        (TABLE_FULL, true) => "difference 8, refusal 9, accepted by the Rust",
+        (TABLE_FULL, false) => "difference 8, refusal 9, the Rust's NonLinearInput",
+        _ => return None,
+    })
 }
 
 /// Whether what is accepted is a valid form, of the expression's value under a random assignment.

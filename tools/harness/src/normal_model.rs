@@ -1,4 +1,4 @@
-//! Document 01's normalising ("The sheet", "Refusals" 1 to 9), written from the document, with the
+//! Document 01's normalising ("The sheet", "Refusals" 1 to 6, 8 and 9), written from the document, with the
 //! descent that it takes from the Rust told in its own way: a list of what is still to be taken
 //! apart. The atoms go one after the other into a table without limits (normal_table.rs).
 
@@ -8,7 +8,7 @@ use crate::normal_table;
 use crate::record::{
     binary, literal, split, Record, Records, ADD, AND, MUL, NEG, NOT, OR, VARIABLE, XOR,
 };
-use crate::refusal::{INPUT_LENGTH, NONLINEAR, RESULT_LENGTH, SUM_IN_CONSTANT, TABLE_FULL};
+use crate::refusal::{INPUT_LENGTH, NONLINEAR, RESULT_LENGTH, TABLE_FULL};
 use crate::written::{self, Written};
 
 /// All that normalising gives for the bytes of an expression and a result slice of `length` bytes.
@@ -30,9 +30,6 @@ fn normalized(file: &[u8], length: usize) -> Result<Form, u64> {
         return Err(refusal);
     }
     let tree = split(file);
-    if sum_in_constant(&tree) {
-        return Err(SUM_IN_CONSTANT);
-    }
     let collected = collected(&tree).ok_or(NONLINEAR)?;
     let form = normal_table::form(collected, tree[0].width);
     match form.fits() {
@@ -47,14 +44,6 @@ fn has_variable(tree: &[Record]) -> bool {
 
 fn has_sum(tree: &[Record]) -> bool {
     tree.iter().any(|r| matches!(r.kind, ADD | MUL | NEG))
-}
-
-/// Whether an Add, Mul or Neg stands below an And, Or, Xor or Not that has no variable.
-fn sum_in_constant(tree: &[Record]) -> bool {
-    tree.iter().enumerate().any(|(at, root)| {
-        let span = &tree[at + 1 - usize::from(root.size)..at];
-        matches!(root.kind, AND | OR | XOR | NOT) && !has_variable(span) && has_sum(span)
-    })
 }
 
 /// A coefficient below 2^w and a tree.

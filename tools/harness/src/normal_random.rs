@@ -29,7 +29,7 @@ pub fn number(rng: &mut Prng, w: u8) -> Records {
 }
 
 /// A bitwise tree of up to `most` records, with literals and shifts.
-fn bitwise(rng: &mut Prng, most: usize, w: u8) -> Records {
+pub fn bitwise(rng: &mut Prng, most: usize, w: u8) -> Records {
     let count = 1 + rng.below(most);
     random::expression(rng, count, w, Kinds::Atom)
 }
@@ -50,7 +50,7 @@ pub fn pure(rng: &mut Prng, records: usize, variables: usize, w: u8) -> Records 
 }
 
 /// A tree without variables and, half of the time, without Add, Mul and Neg.
-fn constant(rng: &mut Prng, most: usize, w: u8) -> Records {
+pub fn constant(rng: &mut Prng, most: usize, w: u8) -> Records {
     let count = 1 + rng.below(most);
     let kinds = match rng.one_in(2) {
         true => Kinds::Atom,

@@ -1,4 +1,5 @@
-//! Document 01's refusals by number ("Refusals"), and which of them each function gives.
+//! Document 01's refusals by number ("Refusals"), and which of them each function gives. No function
+//! gives 7, which document 01 has; its number stays unused.
 
 pub const INPUT_LENGTH: u64 = 1;
 pub const RESULT_LENGTH: u64 = 2;
@@ -6,14 +7,13 @@ pub const MALFORMED: u64 = 3;
 pub const WIDTH: u64 = 4;
 pub const CAST: u64 = 5;
 pub const SHIFT_COUNT: u64 = 6;
-pub const SUM_IN_CONSTANT: u64 = 7;
 pub const NONLINEAR: u64 = 8;
 pub const TABLE_FULL: u64 = 9;
 pub const NO_FORM: u64 = 10;
 /// A list of calls that is none.
 pub const NO_LIST: u64 = 32;
 
-/// The names of 0, which is no refusal, and of each refusal.
+/// The names of 0, which is no refusal, and of each refusal, 7 among them.
 const NAMES: [&str; 11] = [
     "accepted",
     "refusal 1",
@@ -40,7 +40,6 @@ pub const OF_NORMALIZE: &[u64] = &[
     WIDTH,
     CAST,
     SHIFT_COUNT,
-    SUM_IN_CONSTANT,
     NONLINEAR,
     TABLE_FULL,
 ];
@@ -57,7 +56,6 @@ pub const OF_LISTS: &[u64] = &[
     WIDTH,
     CAST,
     SHIFT_COUNT,
-    SUM_IN_CONSTANT,
     NONLINEAR,
     TABLE_FULL,
 ];

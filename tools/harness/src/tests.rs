@@ -176,7 +176,7 @@ fn normalised_forms_of_the_rust() {
 }
 
 /// The constant and the terms of a form as document 01 writes them.
-fn terms_text(file: &[u8]) -> String {
+pub fn terms_text(file: &[u8]) -> String {
     let written = normal_model::answer(file, RESULT_BYTES);
     if written.refusal != 0 {
         return format!("refusal {}", written.refusal);
@@ -190,7 +190,8 @@ fn terms_text(file: &[u8]) -> String {
     text
 }
 
-/// The starred puzzles of document 01 about normalising, and the examples of refusals 2 and 7 to 9.
+/// The starred puzzles of document 01 about normalising, `3 & (1 + 2)` as the customer's request #104 has
+/// it, and the examples of refusals 2, 8 and 9.
 #[test]
 fn normalising_of_the_document() {
     let (a, b) = (|| variable(8, 0), || variable(8, 1));
@@ -207,7 +208,7 @@ fn normalising_of_the_document() {
         (binary(MUL, n(0), product()), "0"),
         (product(), "refusal 8"),
         (binary(XOR, a(), unary(NEG, 0, n(1))), "refusal 8"),
-        (both(n(3), binary(ADD, n(1), n(2))), "refusal 7"),
+        (both(n(3), binary(ADD, n(1), n(2))), "3"),
         (
             binary(ADD, both(a(), b()), both(b(), a())),
             "0, 2·(v0 & v1)",

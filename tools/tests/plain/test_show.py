@@ -141,7 +141,14 @@ class Answers(unittest.TestCase):
                          "term 1    0xfe (-2) * (atom 1)")
 
     def test_refusals(self):
-        for number in range(1, 11):
+        numbers = [*range(1, 7), 8, 9, 10]
+        for number in numbers:
             line = show_answer(read_answer(b"R %d\n" % number))
             self.assertEqual(line, [f"refusal {number}: {REFUSALS[number]}"])
-        self.assertEqual(sorted(REFUSALS), [*range(1, 11), 32])
+        self.assertEqual(sorted(REFUSALS), [*numbers, 32])
+
+    def test_refusal_of_before(self):
+        """What `par` wrote before 1.2.0 for a sum below bitwise operators is still read."""
+        line, = show_answer(read_answer(b"R 7\n"))
+        self.assertEqual(line, "refusal 7: a sum or product below bitwise operators without a variable;"
+                               " since 1.2.0 it is a number")

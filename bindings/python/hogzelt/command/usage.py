@@ -27,8 +27,10 @@ any other name (flags, X1), which gets a number that is free. zext(16, x), sext(
 and concat(x, y) can be written and shown, and are refused.
 
 A sum is a constant and numbers times atoms; an atom has only variables, literals, & | ^ ~ and >>.
-So products of variables, and & | ^ ~ >> over + - *, are refused (8). Parts without a variable are
-cut to one literal by --fold: x & -2 is then read as x & 254 at width 8.
+So products of variables, and & | ^ ~ >> over a variable and + - *, are refused (8). A part without
+a variable is a number, as 3 & (1 + 2), wherever it is added or multiplied; beside a variable below
+& | ^ it must be written without + - *, or cut to one literal by --fold: x & -2 is then read as
+x & 254 at width 8.
 
 Exit status: 0 done; 1 a text is bad or something is refused; 2 wrong usage, or a file or the
 library is missing. HOGZELT_SO names the shared object of the library. In a checkout it is made

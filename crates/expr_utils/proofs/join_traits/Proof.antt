@@ -16,9 +16,6 @@ either-requires-3 c κs = search needs
 either-requires-4 : tie.Need-either-requires-4
 either-requires-4 c κs = search needs
 
-either-requires-5 : tie.Need-either-requires-5
-either-requires-5 c κs = search needs
-
 returns : tie.Need-returns
 unfolding joinTraits
 returns c = cc
@@ -31,5 +28,4 @@ join-traits-spec =
     either-requires-2
     either-requires-3
     either-requires-4
-    either-requires-5
     returns)

@@ -13,23 +13,9 @@ is-arith-requires c κs = search needs
 either-requires-2 : tie.Need-either-requires-2
 either-requires-2 c κs = search needs
 
-constant-arith-at-requires : tie.Need-constant-arith-at-requires
-constant-arith-at-requires c κs = search needs
-
-either-requires-3 : tie.Need-either-requires-3
-either-requires-3 c κs = search needs
-
 returns : tie.Need-returns
 unfolding nodeTraits
 returns c = cc
 
 pub node-traits-spec : {M : Type 1} → statement M
-node-traits-spec =
-    tie.close
-    (tie.spec
-    either-requires
-    is-arith-requires
-    either-requires-2
-    constant-arith-at-requires
-    either-requires-3
-    returns)
+node-traits-spec = tie.close (tie.spec either-requires is-arith-requires either-requires-2 returns)

@@ -4,9 +4,8 @@ use native.Mathlib.Omega.{arith}
 use borrow.Author.Tests.{not-true, not-false}
 use lib.Seq.{length-take-le}
 use Rattle.expr_refusal.proofs.RefusalLaws.{accepted-big, sized-accepted}
-use Rattle.semilinear_normalizer.proofs.WholeTreeLaws.{refused-is, whole-at, whole-ready, gives-seven}
-use Rattle.semilinear_normalizer.proofs.WholeTreeLaws.{gives-eight, gives-collected, spots-whole, count-whole}
-use Rattle.semilinear_normalizer.proofs.WholeTreeLaws.{index-whole}
+use Rattle.semilinear_normalizer.proofs.WholeTreeLaws.{whole-at, whole-ready, gives-eight, gives-collected}
+use Rattle.semilinear_normalizer.proofs.WholeTreeLaws.{spots-whole, count-whole, index-whole}
 use borrow.Author.Needs.{needs}
 use Rattle.semilinear_normalizer.proofs.normalize_tree.Statement.{statement}
 use Rattle.semilinear_normalizer.proofs.normalize_tree.Tie as tie
@@ -16,29 +15,9 @@ mark-traits-requires c κs =
     let at-start = c .before .before .before .before .before .before .before in
     record { whole = sized-accepted _ _ (at-start .pre .accepted); room = omega (arith, at-start .pre .marked) }
 
-refuse-requires : tie.Need-refuse-requires
-refuse-requires c κs = search needs
-
-same-length : tie.Need-same-length
-same-length c = search needs
-
-same-length-2 : tie.Need-same-length-2
-same-length-2 c = search needs
-
-returns : tie.Need-returns
-returns c =
-    let at-refuse = c .before .before in
-    let at-if = at-refuse .before .before in
-    let at-marks = at-if .before .before .before in
-    let at-known = at-marks .before .before .before .before .before .before .before in
-    let at-start = at-known .before in
-    gives-seven _ _ (λ i. at-known .shared-slice-known .given i .fits) (at-start .pre .accepted)
-    (sym (refused-is (at-marks .mark-traits .ensures)) ∙ at-if .if1 .taken)
-    (at-start .pre .written) (at-refuse .refuse .result) (at-refuse .refuse .ensures)
-
 size-requires : tie.Need-size-requires
 size-requires c κs =
-    let at-start = c .before .before .before .before .before .before .before .before .before .before .before in
+    let at-start = c .before .before .before .before .before .before .before .before .before .before in
     accepted-big _ _ (at-start .pre .accepted)
 
 start-requires : tie.Need-start-requires
@@ -50,13 +29,13 @@ slice-reshare-prefix-collect-terms c = search needs
 slice-aggregate-collect-terms : tie.Need-slice-aggregate-collect-terms
 slice-aggregate-collect-terms c =
     let at-size = c .before .before in
-    let at-marked = at-size .before .before .before in
+    let at-marked = at-size .before .before in
     let at-start = at-marked .before .before .before .before .before .before .before .before .before in
     sym (length-take-le _ _ (omega (arith, at-size .size .ensures .0, at-start .pre .marked, at-marked .marks .given)))
 
 collect-terms-requires : tie.Need-collect-terms-requires
 collect-terms-requires c κs =
-    let at-marks = c .before .before .before .before .before .before .before in
+    let at-marks = c .before .before .before .before .before .before in
     let at-known = at-marks .before .before .before .before .before .before .before in
     let at-start = at-known .before in
     let at-nothing = c .before .before in (
@@ -66,59 +45,61 @@ collect-terms-requires c κs =
           (at-start .pre .collected) (at-nothing .start .ensures),
     )
 
-refuse-requires-2 : tie.Need-refuse-requires-2
-refuse-requires-2 c κs = search needs
+refuse-requires : tie.Need-refuse-requires
+refuse-requires c κs = search needs
+
+same-length : tie.Need-same-length
+same-length c = search needs
+
+same-length-2 : tie.Need-same-length-2
+same-length-2 c = search needs
 
 same-length-3 : tie.Need-same-length-3
 same-length-3 c = search needs
+
+returns : tie.Need-returns
+returns c =
+    let at-refuse = c .before .before in
+    let at-if = at-refuse .before .before in
+    let at-all = at-if .before .before .before .before in
+    let at-nothing = at-all .before .before .before in
+    let at-marks = at-nothing .before .before .before .before in
+    let at-known = at-marks .before .before .before .before .before .before .before in
+    let at-start = at-known .before in
+    gives-eight _ _ (λ i. at-known .shared-slice-known .given i .fits) (at-start .pre .accepted)
+    (at-nothing .start .ensures) (at-all .collect-terms .ensures) (not-true _ (at-if .if1 .taken))
+    (at-start .pre .written) (at-refuse .refuse .result) (at-refuse .refuse .ensures)
+
+write-form-requires : tie.Need-write-form-requires
+write-form-requires c κs =
+    let at-all = c .before .before .before .before .before .before .before .before in
+    let at-nothing = at-all .before .before .before in
+    let at-marks = at-nothing .before .before .before .before in
+    let at-known = at-marks .before .before .before .before .before .before .before in
+    let at-start = at-known .before in
+    let nothing = at-nothing .start .ensures in
+    let pre = at-start .pre in (
+      record {
+        spots-ok =
+            spots-whole _ _ (λ i. at-known .shared-slice-known .given i .fits) (pre .accepted) nothing
+            (at-all .collect-terms .ensures);
+        inside =
+            count-whole _ _ (λ i. at-known .shared-slice-known .given i .fits) (pre .accepted) nothing
+            (at-all .collect-terms .ensures) (pre .collected);
+        room = pre .built;
+        long = pre .long;
+        entries =
+            index-whole _ _ (λ i. at-known .shared-slice-known .given i .fits) (pre .accepted) nothing
+            (at-all .collect-terms .ensures) (pre .entries);
+      },
+      pre .written,
+    )
 
 same-length-4 : tie.Need-same-length-4
 same-length-4 c = search needs
 
 same-length-5 : tie.Need-same-length-5
 same-length-5 c = search needs
-
-returns-2 : tie.Need-returns-2
-returns-2 c =
-    let at-refuse = c .before .before in
-    let at-if2 = at-refuse .before .before in
-    let at-all = at-if2 .before .before .before .before in
-    let at-nothing = at-all .before .before .before in
-    let at-if1 = at-nothing .before .before in
-    let at-marks = at-if1 .before .before .before in
-    let at-known = at-marks .before .before .before .before .before .before .before in
-    let at-start = at-known .before in
-    gives-eight _ _ (λ i. at-known .shared-slice-known .given i .fits) (at-start .pre .accepted)
-    (sym (refused-is (at-marks .mark-traits .ensures)) ∙ at-if1 .if1 .left)
-    (at-nothing .start .ensures) (at-all .collect-terms .ensures) (not-true _ (at-if2 .if2 .taken))
-    (at-start .pre .written) (at-refuse .refuse2 .result) (at-refuse .refuse2 .ensures)
-
-write-form-requires : tie.Need-write-form-requires
-write-form-requires c κs =
-    let at-all = c .before .before .before .before .before .before .before .before in
-    let at-nothing = at-all .before .before .before in
-    let at-if1 = at-nothing .before .before in
-    let at-marks = at-if1 .before .before .before in
-    let at-known = at-marks .before .before .before .before .before .before .before in
-    let at-start = at-known .before in
-    let plain = sym (refused-is (at-marks .mark-traits .ensures)) ∙ at-if1 .if1 .left in
-    let nothing = at-nothing .start .ensures in
-    let pre = at-start .pre in (
-      record {
-        spots-ok =
-            spots-whole _ _ (λ i. at-known .shared-slice-known .given i .fits) (pre .accepted) plain nothing
-            (at-all .collect-terms .ensures);
-        inside =
-            count-whole _ _ (λ i. at-known .shared-slice-known .given i .fits) (pre .accepted) plain nothing
-            (at-all .collect-terms .ensures) (pre .collected);
-        room = pre .built;
-        long = pre .long;
-        entries =
-            index-whole _ _ (λ i. at-known .shared-slice-known .given i .fits) (pre .accepted) plain nothing
-            (at-all .collect-terms .ensures) (pre .entries);
-      },
-      pre .written,
-    )
 
 same-length-6 : tie.Need-same-length-6
 same-length-6 c = search needs
@@ -129,25 +110,17 @@ same-length-7 c = search needs
 same-length-8 : tie.Need-same-length-8
 same-length-8 c = search needs
 
-same-length-9 : tie.Need-same-length-9
-same-length-9 c = search needs
-
-same-length-10 : tie.Need-same-length-10
-same-length-10 c = search needs
-
-returns-3 : tie.Need-returns-3
-returns-3 c =
+returns-2 : tie.Need-returns-2
+returns-2 c =
     let at-form = c .before .before .before .before .before .before in
-    let at-if2 = at-form .before .before .before .before .before in
-    let at-all = at-if2 .before .before .before .before in
+    let at-if = at-form .before .before .before .before .before in
+    let at-all = at-if .before .before .before .before in
     let at-nothing = at-all .before .before .before in
-    let at-if1 = at-nothing .before .before in
-    let at-marks = at-if1 .before .before .before in
+    let at-marks = at-nothing .before .before .before .before in
     let at-known = at-marks .before .before .before .before .before .before .before in
     let at-start = at-known .before in
     gives-collected _ _ (λ i. at-known .shared-slice-known .given i .fits) (at-start .pre .accepted)
-    (sym (refused-is (at-marks .mark-traits .ensures)) ∙ at-if1 .if1 .left)
-    (at-nothing .start .ensures) (at-all .collect-terms .ensures) (not-false _ (at-if2 .if2 .left))
+    (at-nothing .start .ensures) (at-all .collect-terms .ensures) (not-false _ (at-if .if1 .left))
     (at-form .write-form .result) (at-form .write-form .ensures)
 
 pub normalize-tree-spec : {M : Type 1} → statement M
@@ -155,24 +128,20 @@ normalize-tree-spec =
     tie.close
     (tie.spec
     mark-traits-requires
-    refuse-requires
-    same-length
-    same-length-2
-    returns
     size-requires
     start-requires
     slice-reshare-prefix-collect-terms
     slice-aggregate-collect-terms
     collect-terms-requires
-    refuse-requires-2
+    refuse-requires
+    same-length
+    same-length-2
     same-length-3
+    returns
+    write-form-requires
     same-length-4
     same-length-5
-    returns-2
-    write-form-requires
     same-length-6
     same-length-7
     same-length-8
-    same-length-9
-    same-length-10
-    returns-3)
+    returns-2)
