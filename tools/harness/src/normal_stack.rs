@@ -88,6 +88,17 @@ fn shapes() -> Vec<(&'static str, Records)> {
         ("nested Not", nested(&[NOT], depth, leaf(0))),
         ("nested Shr", nested(&[SHR], depth, leaf(0))),
         ("nested Not and Shr", nested(&[NOT, SHR], depth, leaf(0))),
+        (
+            "nested Not and Neg of a literal",
+            nested(&[NOT, NEG], depth, literal(64, 3)),
+        ),
+        (
+            "left chain of Add, nested Not and Neg of a literal in it",
+            left_chain(ADD, 256, |i| match i {
+                0 => nested(&[NOT, NEG], depth - 511, literal(64, 3)),
+                _ => leaf(i),
+            }),
+        ),
         ("left chain of Add", left_chain(ADD, 512, leaf)),
         ("right chain of Add", right_chain(ADD, 512, leaf)),
         (
