@@ -37,14 +37,13 @@ hasArith (Variable i) = false
 hasArith (Unary k a t) = isArith k || hasArith t
 hasArith (Binary k l r) = isArith k || (hasArith l || hasArith r)
 
--- all of these at once, as one walk gives them
+-- a variable, a literal and a Shr at once, as one walk finds them
 unfoldable pub traitsOf : Tree → Traits
 traitsOf t =
     record {
       variable = hasVarDep t;
       literal = hasLiteral t;
       shr = hasShr t;
-      arith = hasArith t;
     }
 
 -- what two children hold together
@@ -54,7 +53,6 @@ joinTraits x y =
       variable = x .variable || y .variable;
       literal = x .literal || y .literal;
       shr = x .shr || y .shr;
-      arith = x .arith || y .arith;
     }
 
 -- what a root of kind k adds to what its children hold
@@ -64,5 +62,4 @@ nodeTraits k x =
       variable = x .variable;
       literal = x .literal;
       shr = eqb k 9 || x .shr;
-      arith = isArith k || x .arith;
     }

@@ -9,12 +9,11 @@ ghost use Rattle.expr_utils.specs.Utils.{isArith, isConstantSubtree, has
 ghost use Rattle.expr_utils.specs.Utils.{traitsOf, joinTraits, nodeTraits};
 ghost use Rattle.base.specs.Limits.{recordLength};
 
-// What a tree holds: a variable, a literal, a Shr, and an Add, Mul or Neg.
+// What a tree holds: a variable, a literal, a Shr.
 pub struct Traits {
     pub variable: bool,
     pub literal: bool,
     pub shr: bool,
-    pub arith: bool,
 }
 
 pub fn either(a: bool, b: bool) -> bool
@@ -38,37 +37,33 @@ pub fn is_arith(k: u8) -> bool
 }
 
 // What two children hold together.
-pub fn join_traits(x: Traits, y: Traits) -> Traits
+fn join_traits(x: Traits, y: Traits) -> Traits
     ensures { λ r. ⌜ r ≡ joinTraits x y ⌝ }
 {
     let variable = either(x.variable, y.variable);
     let literal = either(x.literal, y.literal);
     let shr = either(x.shr, y.shr);
-    let arith = either(x.arith, y.arith);
     Traits {
         variable: variable,
         literal: literal,
         shr: shr,
-        arith: arith,
     }
 }
 
 // What a root of kind k adds to what its children hold.
-pub fn node_traits(k: u8, x: Traits) -> Traits
+fn node_traits(k: u8, x: Traits) -> Traits
     ensures { λ r. ⌜ r ≡ nodeTraits k x ⌝ }
 {
     let shr = either(k == 9, x.shr);
-    let arith = either(is_arith(k), x.arith);
     Traits {
         variable: x.variable,
         literal: x.literal,
         shr: shr,
-        arith: arith,
     }
 }
 
 // What a root without children holds.
-pub fn leaf_traits(t: &[u8]) -> Traits
+fn leaf_traits(t: &[u8]) -> Traits
     requires { ⌜ recordLength ≤ length (now t) ⌝ }
     ensures { λ r. ⌜ r ≡ traitsOf (leaf (now (t .entry))) ⌝ }
 {
@@ -77,14 +72,12 @@ pub fn leaf_traits(t: &[u8]) -> Traits
             variable: false,
             literal: true,
             shr: false,
-            arith: false,
         };
     }
     Traits {
         variable: true,
         literal: false,
         shr: false,
-        arith: false,
     }
 }
 

@@ -16,7 +16,6 @@ use Rattle.record.specs.Decode.{decode}
 use Rattle.base.specs.Put.{put}
 use Rattle.base.proofs.PutLaws.{take-put}
 use Rattle.record.proofs.SizedLaws.{sized-length}
-use Rattle.expr_utils.specs.declared.Traits.{Traits}
 use Rattle.expr_refusal.specs.Refusal.{treeRefusal, exprRefusal}
 use Rattle.expr_refusal.proofs.RefusalLaws.{accepted-root, sized-accepted}
 use Rattle.expr.proofs.AcceptLaws.{accept-expr}
@@ -64,7 +63,7 @@ module _ (w : ℕ) (t : List ℕ) (h : IsBytes t) (ok : treeRefusal w t ≡ 0) w
   whole-size : sizeOf (treeAt t whole) ≡ size t
   whole-size = ap (λ (s : List ℕ). sizeOf (decode s)) whole-span ∙ sym (size-sized t (sized-accepted w t ok))
 
-  pub whole-at : {m before after : List ℕ} {r : Traits} {n : ℕ} → Marked (decode t) 0 before after r
+  pub whole-at : {m before after : List ℕ} {r n : ℕ} → Marked (decode t) 0 before after r
       → size t ≤ length before → n ≡ size t → m ≡ take n after → AtSpot w t m whole
   whole-at {m} {before} {after} {r} {n} marked room en em =
       let count : length (marksOf (decode t)) ≡ size t =

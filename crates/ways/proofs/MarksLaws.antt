@@ -1,19 +1,23 @@
 -- Laws of specs/Marks.antt: a tree has as many marks as records, its own mark is the last, and its children's marks
--- stand before it; the two tests of a mark; and that a mark put at one place is a set element.
+-- stand before it; the two tests of a mark; a root's mark from its children's; and that a mark put at one place is a set
+-- element.
 use mathlib.Core.Path.{_≡_, refl, sym, ap, _∙_}
 use Prim.Native.Nat.{ℕ, suc, _+_, _-_, _≤_, _<_}
 use native.Mathlib.Omega.{arith}
 use native.Mathlib.Numerals.{add-one}
 use mathlib.Core.List.{List, [], _∷_, _++_, append-assoc}
-use mathlib.Core.Bool.{Bool, true, false}
+use mathlib.Core.Bool.{Bool, true, false, _||_}
 use lib.ListN.{length, getD, take, drop, set, length-append, List·getD-append}
+use lib.Bits.{bitOr}
 use lib.Seq.{take-at, drop-at, getD-at, getD-append-add, set-split, append-snoc}
+use borrow.Author.Tests.{ne-eqb}
 use Rattle.record.specs.Tree.{Tree, sizeOf}
 use Rattle.record.specs.Tree.Tree.{Constant, Variable, Unary, Binary}
+use Rattle.base.specs.Choice.{when}
 use Rattle.base.specs.Put.{put}
 use Rattle.record.proofs.EncodeLaws.{sizeOf-pos}
-use Rattle.expr_utils.specs.Utils.{hasVarDep, hasArith}
-use Rattle.ways.specs.Marks.{markNumber, markOf, markVariable, markArith, marksOf}
+use Rattle.expr_utils.specs.Utils.{hasKind, hasVarDep, isArith, hasArith}
+use Rattle.ways.specs.Marks.{markNumber, markOf, rootMark, markVariable, markArith, marksOf}
 
 pub length-marks : (t : Tree) → length (marksOf t) ≡ sizeOf t
 unfolding marksOf sizeOf
@@ -104,6 +108,47 @@ mark-variable t = number-variable (hasVarDep t) (hasArith t)
 pub mark-arith : (t : Tree) → markArith (markOf t) ≡ hasArith t
 unfolding markOf
 mark-arith t = number-arith (hasVarDep t) (hasArith t)
+
+-- the mark of a root from those of its children
+number-or : (a b c d : Bool) → bitOr (markNumber a b) (markNumber c d) ≡ markNumber (a || c) (b || d)
+unfolding markNumber
+number-or true true true true = refl
+number-or true true true false = refl
+number-or true true false true = refl
+number-or true true false false = refl
+number-or true false true true = refl
+number-or true false true false = refl
+number-or true false false true = refl
+number-or true false false false = refl
+number-or false true true true = refl
+number-or false true true false = refl
+number-or false true false true = refl
+number-or false true false false = refl
+number-or false false true true = refl
+number-or false false true false = refl
+number-or false false false true = refl
+number-or false false false false = refl
+
+number-root : (h a b : Bool)
+    → when h (λ _. bitOr (markNumber a b) 2) (λ _. markNumber a b) ≡ markNumber a (h || b)
+unfolding markNumber
+number-root true true true = refl
+number-root true true false = refl
+number-root true false true = refl
+number-root true false false = refl
+number-root false a b = refl
+
+pub mark-one : (k a : ℕ) (t : Tree) → 2 ≤ k → rootMark k (markOf t) ≡ markOf (Unary k a t)
+unfolding rootMark markOf hasKind hasArith
+mark-one k a t h = simp (ne-eqb k 1 (omega arith)) (number-root (isArith k) (hasVarDep t) (hasArith t))
+
+pub mark-two : (k : ℕ) (l r : Tree) → 2 ≤ k → rootMark k (bitOr (markOf l) (markOf r)) ≡ markOf (Binary k l r)
+unfolding rootMark markOf hasKind hasArith
+mark-two k l r h =
+    simp (ne-eqb k 1 (omega arith))
+    (ap (λ (m : ℕ). when (isArith k) (λ _. bitOr m 2) (λ _. m))
+    (number-or (hasVarDep l) (hasArith l) (hasVarDep r) (hasArith r))
+    ∙ number-root (isArith k) (hasVarDep l || hasVarDep r) (hasArith l || hasArith r))
 
 -- one element put
 pub put-one : (d : List ℕ) (i x : ℕ) → i < length d → set d i x ≡ put d i (x ∷ [])

@@ -6,14 +6,14 @@ use mathlib.Core.List.{List, [], _∷_, _++_}
 use mathlib.Core.Bool.{Bool, true}
 use lib.ListN.{length}
 use lib.Dec.{eqb, ltb}
+use lib.Bits.{bitOr}
 use Rattle.base.specs.Choice.{when}
 use Rattle.record.specs.Fields.{size}
 use Rattle.record.specs.Span.{sized}
 use Rattle.record.specs.Tree.{Tree}
 use Rattle.record.specs.Tree.Tree.{Constant, Variable, Unary, Binary}
 use Rattle.base.specs.Put.{put}
-use Rattle.expr_utils.specs.declared.Traits.{Traits}
-use Rattle.expr_utils.specs.Utils.{hasVarDep, hasArith, traitsOf}
+use Rattle.expr_utils.specs.Utils.{hasVarDep, isArith, hasArith}
 
 -- 1 for a variable, and 2 more for an Add, a Mul or a Neg
 unfoldable pub markNumber : Bool → Bool → ℕ
@@ -22,6 +22,10 @@ markNumber variable arith = when variable (λ _. 1) (λ _. 0) + when arith (λ _
 -- the mark of a tree's root
 unfoldable pub markOf : Tree → ℕ
 markOf t = markNumber (hasVarDep t) (hasArith t)
+
+-- the mark of a root of kind k over children whose marks have the bits of m
+unfoldable pub rootMark : ℕ → ℕ → ℕ
+rootMark k m = when (isArith k) (λ _. bitOr m 2) (λ _. m)
 
 -- the mark says that there is a variable
 unfoldable pub markVariable : ℕ → Bool
@@ -43,7 +47,7 @@ pub record MarkRoom (t : List ℕ) (at : ℕ) (marks : List ℕ) : Type 0 where
   pub whole : sized t ≡ true
   pub room : at + size t ≤ length marks
 
--- the marks of the tree t are put from `at` on, and r is what it holds
-pub record Marked (t : Tree) (at : ℕ) (before after : List ℕ) (r : Traits) : Type 0 where
-  pub traits : r ≡ traitsOf t
+-- the marks of the tree t are put from `at` on, and r is its own
+pub record Marked (t : Tree) (at : ℕ) (before after : List ℕ) (r : ℕ) : Type 0 where
+  pub own : r ≡ markOf t
   pub written : after ≡ put before at (marksOf t)

@@ -1,6 +1,6 @@
-//! Document 01's normalising ("The sheet", "Refusals" 1 to 6, 8 and 9), written from the document, with the
-//! descent that it takes from the Rust told in its own way: a list of what is still to be taken
-//! apart. The atoms go one after the other into a table without limits (normal_table.rs).
+//! Document 01's normalising ("The sheet", "Refusals" 1 to 6, 8 and 9), written from the document,
+//! with the descent that it takes from the Rust told in its own way: a list of what is still to be
+//! taken apart. The atoms go one after the other into a table without limits (normal_table.rs).
 
 use crate::form::{Form, RESULT_BYTES};
 use crate::model;

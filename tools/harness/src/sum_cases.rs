@@ -1,5 +1,5 @@
-//! Expressions whose numbers are written as sums below bitwise operators, as `3 & (1 + 2)`: worked ones,
-//! random ones, and lists of passes run from them.
+//! Expressions whose numbers are written as sums below bitwise operators, as `3 & (1 + 2)`: worked
+//! ones, random ones, and lists of passes run from them.
 
 use crate::family::{family, Family};
 use crate::form::RESULT_BYTES;

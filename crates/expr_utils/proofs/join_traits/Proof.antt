@@ -13,19 +13,9 @@ either-requires-2 c κs = search needs
 either-requires-3 : tie.Need-either-requires-3
 either-requires-3 c κs = search needs
 
-either-requires-4 : tie.Need-either-requires-4
-either-requires-4 c κs = search needs
-
 returns : tie.Need-returns
 unfolding joinTraits
 returns c = cc
 
 pub join-traits-spec : {M : Type 1} → statement M
-join-traits-spec =
-    tie.close
-    (tie.spec
-    either-requires
-    either-requires-2
-    either-requires-3
-    either-requires-4
-    returns)
+join-traits-spec = tie.close (tie.spec either-requires either-requires-2 either-requires-3 returns)

@@ -7,15 +7,9 @@ use Rattle.expr_utils.proofs.node_traits.Tie as tie
 either-requires : tie.Need-either-requires
 either-requires c κs = search needs
 
-is-arith-requires : tie.Need-is-arith-requires
-is-arith-requires c κs = search needs
-
-either-requires-2 : tie.Need-either-requires-2
-either-requires-2 c κs = search needs
-
 returns : tie.Need-returns
 unfolding nodeTraits
 returns c = cc
 
 pub node-traits-spec : {M : Type 1} → statement M
-node-traits-spec = tie.close (tie.spec either-requires is-arith-requires either-requires-2 returns)
+node-traits-spec = tie.close (tie.spec either-requires returns)

@@ -8,7 +8,6 @@ use Rattle.record.specs.Fields.{size}
 use Rattle.record.proofs.SizedLaws.{sized-big}
 use Rattle.record.proofs.DecodeLaws.{child-body, child-left, child-right}
 use Rattle.record.proofs.PlaceLaws.{root-whole, root-number, right-whole, right-number}
-use Rattle.expr_utils.specs.Utils.{nodeTraits}
 use Rattle.ways.proofs.SpanOfLaws.{size-two}
 use Rattle.ways.proofs.MarkedLaws.{size-pos, marked-leaf, marked-one, marked-two}
 use borrow.Fn.Kinds.{In}
@@ -16,9 +15,6 @@ use borrow.Fn.PlainCycle.{Measures, is, falls, and}
 use Rattle.ways.proofs.marks.mark_traits.Reads as mark-traits
 use Rattle.ways.proofs.marks.mark_traits.Kinds as mark-traits-kinds
 use Rattle.ways.proofs.marks.+mark_traits.Lts-mark_traits as mark-traits-lts
-use Rattle.expr_utils.proofs.join_traits.Reads as join-traits-reads
-use Rattle.expr_utils.proofs.leaf_traits.Reads as leaf-traits-reads
-use Rattle.expr_utils.proofs.node_traits.Reads as node-traits-reads
 use Rattle.record.proofs.body.Reads as body-reads
 use Rattle.record.proofs.cut.Reads as cut-reads
 use Rattle.record.proofs.kind.Reads as kind-reads
@@ -26,7 +22,9 @@ use Rattle.record.proofs.left.Reads as left-reads
 use Rattle.record.proofs.number_of.Reads as number-of-reads
 use Rattle.record.proofs.right.Reads as right-reads
 use Rattle.record.proofs.root_arity.Reads as root-arity-reads
+use Rattle.ways.proofs.marks.leaf_mark.Reads as leaf-mark-reads
 use Rattle.ways.proofs.marks.put_mark.Reads as put-mark-reads
+use Rattle.ways.proofs.marks.root_mark.Reads as root-mark-reads
 use Rattle.ways.proofs.marks.+mark_traits.{statement}
 use Rattle.ways.proofs.marks.+mark_traits.Tie.{close}
 
@@ -45,8 +43,8 @@ abbrev claims : ℕ → mark-traits-lts.Claims
 claims t = (
   root-arity-reads.Asked,
   root-arity-reads.Learnt,
-  leaf-traits-reads.Asked,
-  leaf-traits-reads.Learnt,
+  leaf-mark-reads.Asked,
+  leaf-mark-reads.Learnt,
   put-mark-reads.Asked,
   put-mark-reads.Learnt,
   kind-reads.Asked,
@@ -57,25 +55,23 @@ claims t = (
   body-reads.Learnt,
   mark-traits-below t,
   mark-traits.Post,
-  node-traits-reads.Asked,
-  node-traits-reads.Learnt,
+  root-mark-reads.Asked,
+  root-mark-reads.Learnt,
   left-reads.Asked,
   left-reads.Learnt,
   cut-reads.Asked,
   cut-reads.Learnt,
   right-reads.Asked,
   right-reads.Learnt,
-  join-traits-reads.Asked,
-  join-traits-reads.Learnt,
 )
 
 mark-traits-root-arity-requires : (t : ℕ)
     → mark-traits-lts.Need-root-arity-requires (claims t) (mark-traits-at t) mark-traits.Post
 mark-traits-root-arity-requires t c κs = sized-big _ (c .before .before .pre .1 .whole)
 
-mark-traits-leaf-traits-requires : (t : ℕ)
-    → mark-traits-lts.Need-leaf-traits-requires (claims t) (mark-traits-at t) mark-traits.Post
-mark-traits-leaf-traits-requires t c κs = sized-big _ (c .before .before .before .before .pre .1 .whole)
+mark-traits-leaf-mark-requires : (t : ℕ)
+    → mark-traits-lts.Need-leaf-mark-requires (claims t) (mark-traits-at t) mark-traits.Post
+mark-traits-leaf-mark-requires t c κs = sized-big _ (c .before .before .before .before .pre .1 .whole)
 
 mark-traits-put-mark-requires : (t : ℕ)
     → mark-traits-lts.Need-put-mark-requires (claims t) (mark-traits-at t) mark-traits.Post
@@ -94,7 +90,7 @@ mark-traits-returns t c =
     marked-leaf (now (at-start .args .t)) (at-start .pre .1 .whole) (at-if1 .before .root-arity .ensures)
     (at-start .args .at) (now (at-start .args .marks)) (at-start .pre .1 .room)
     (at-mark .put-mark .ensures .0) (at-if1 .if1 .taken)
-    (at-mark .before .before .leaf-traits .ensures) (at-mark .put-mark .ensures .1)
+    (at-mark .before .before .leaf-mark .ensures) (at-mark .put-mark .ensures .1)
 
 mark-traits-kind-requires : (t : ℕ)
     → mark-traits-lts.Need-kind-requires (claims t) (mark-traits-at t) mark-traits.Post
@@ -131,9 +127,9 @@ mark-traits-mark-traits-requires t c κs =
       record { whole = r .ok; room = omega (arith, r .falls, at-start .pre .1 .room) },
     )
 
-mark-traits-node-traits-requires : (t : ℕ)
-    → mark-traits-lts.Need-node-traits-requires (claims t) (mark-traits-at t) mark-traits.Post
-mark-traits-node-traits-requires t c κs = tt
+mark-traits-root-mark-requires : (t : ℕ)
+    → mark-traits-lts.Need-root-mark-requires (claims t) (mark-traits-at t) mark-traits.Post
+mark-traits-root-mark-requires t c κs = tt
 
 mark-traits-put-mark-requires-2 : (t : ℕ)
     → mark-traits-lts.Need-put-mark-requires-2 (claims t) (mark-traits-at t) mark-traits.Post
@@ -163,7 +159,7 @@ mark-traits-returns-2 t c =
     (at-mark .put-mark2 .ensures .0) (at-kind .kind .ensures)
     (omega (arith, last, pos)) (at-if2 .if2 .taken)
     (at-below .before .before .body .ensures) (at-below .mark-traits .ensures)
-    (at-mark .before .before .node-traits .ensures) (at-mark .put-mark2 .ensures .1)
+    (at-mark .before .before .root-mark .ensures) (at-mark .put-mark2 .ensures .1)
 
 mark-traits-left-requires : (t : ℕ)
     → mark-traits-lts.Need-left-requires (claims t) (mark-traits-at t) mark-traits.Post
@@ -236,18 +232,14 @@ mark-traits-mark-traits-requires-3 t c κs =
       },
     )
 
-mark-traits-join-traits-requires : (t : ℕ)
-    → mark-traits-lts.Need-join-traits-requires (claims t) (mark-traits-at t) mark-traits.Post
-mark-traits-join-traits-requires t c κs = tt
-
-mark-traits-node-traits-requires-2 : (t : ℕ)
-    → mark-traits-lts.Need-node-traits-requires-2 (claims t) (mark-traits-at t) mark-traits.Post
-mark-traits-node-traits-requires-2 t c κs = tt
+mark-traits-root-mark-requires-2 : (t : ℕ)
+    → mark-traits-lts.Need-root-mark-requires-2 (claims t) (mark-traits-at t) mark-traits.Post
+mark-traits-root-mark-requires-2 t c κs = tt
 
 mark-traits-put-mark-requires-3 : (t : ℕ)
     → mark-traits-lts.Need-put-mark-requires-3 (claims t) (mark-traits-at t) mark-traits.Post
 mark-traits-put-mark-requires-3 t c κs =
-    let at-second = c .before .before .before .before .before in
+    let at-second = c .before .before .before .before in
     let at-first = at-second .before .before .before .before .before .before .before in
     let at-number = at-first .before .before .before .before in
     let at-start = at-number .before .before .before .before .before .before in
@@ -262,8 +254,7 @@ mark-traits-same-length-3 t c = search needs
 mark-traits-returns-3 : (t : ℕ) → mark-traits-lts.Need-returns-3 (claims t) (mark-traits-at t) mark-traits.Post
 mark-traits-returns-3 t c =
     let at-mark = c .before .before in
-    let at-join = at-mark .before .before .before in
-    let at-second = at-join .before .before .before in
+    let at-second = at-mark .before .before .before .before .before in
     let at-right = at-second .before .before in
     let at-first = at-right .before .before .before .before .before in
     let at-if2 = at-first .before .before .before in
@@ -284,15 +275,14 @@ mark-traits-returns-3 t c =
     (at-first .mark-traits2 .ensures)
     (ap (λ (n : ℕ). at-start .args .at + n) middle)
     (at-second .mark-traits3 .ensures)
-    (at-mark .before .before .node-traits2 .ensures ∙ ap (nodeTraits _) (at-join .join-traits .ensures))
-    (at-mark .put-mark3 .ensures .1)
+    (at-mark .before .before .root-mark2 .ensures) (at-mark .put-mark3 .ensures .1)
 
 pub +mark-traits-spec : {M : Type 1} → statement M
 +mark-traits-spec = close μ-mark-traits λ t. mark-traits-lts.spec (claims t)
     (mark-traits-at t)
     mark-traits.Post
     (mark-traits-root-arity-requires t)
-    (mark-traits-leaf-traits-requires t)
+    (mark-traits-leaf-mark-requires t)
     (mark-traits-put-mark-requires t)
     (mark-traits-same-length t)
     (mark-traits-returns t)
@@ -302,7 +292,7 @@ pub +mark-traits-spec : {M : Type 1} → statement M
     (mark-traits-add-last t)
     (mark-traits-body-requires t)
     (mark-traits-mark-traits-requires t)
-    (mark-traits-node-traits-requires t)
+    (mark-traits-root-mark-requires t)
     (mark-traits-put-mark-requires-2 t)
     (mark-traits-same-length-2 t)
     (mark-traits-returns-2 t)
@@ -313,8 +303,7 @@ pub +mark-traits-spec : {M : Type 1} → statement M
     (mark-traits-add-middle t)
     (mark-traits-right-requires t)
     (mark-traits-mark-traits-requires-3 t)
-    (mark-traits-join-traits-requires t)
-    (mark-traits-node-traits-requires-2 t)
+    (mark-traits-root-mark-requires-2 t)
     (mark-traits-put-mark-requires-3 t)
     (mark-traits-same-length-3 t)
     (mark-traits-returns-3 t)
