@@ -5,8 +5,8 @@
  * number of threads may call at a time. Nothing is allocated; what a call needs beside its results is
  * on its stack. That is measured, not proved, and at most, rounded up to a KiB, on the longest inputs:
  *
- *   hogzelt_normalize_to_semilinear    272 KiB      hogzelt_refine_terms            378 KiB
- *   hogzelt_run_passes                 272 KiB      hogzelt_recover_structure       389 KiB
+ *   hogzelt_normalize_to_semilinear    256 KiB      hogzelt_refine_terms            378 KiB
+ *   hogzelt_run_passes                 256 KiB      hogzelt_recover_structure       389 KiB
  *   hogzelt_expr_value                 129 KiB      hogzelt_coalesce_terms          364 KiB
  *   hogzelt_semilinear_value           385 KiB      hogzelt_flatten_complex_atoms   387 KiB
  *   hogzelt_compute_partitions         357 KiB      hogzelt_compact_atom_table      337 KiB

@@ -12,7 +12,7 @@ from typing import Iterable, NamedTuple, Sequence
 from .library import load
 from .parser import parse
 from .records import FORM_BYTES, HEAD, SUM, TERM, Form, read_form, split_form
-from .refusals import REFUSALS
+from .refusals import meaning
 from .render import sum_text
 
 COLUMN_WORDS = 16448
@@ -23,7 +23,7 @@ class Refused(Exception):
     """The library refused a call; `number` is that of include/hogzelt.h."""
 
     def __init__(self, number: int) -> None:
-        super().__init__(f"refusal {number}: {REFUSALS.get(number, 'unknown')}")
+        super().__init__(f"refusal {number}: {meaning(number)}")
         self.number = number
 
 

@@ -15,7 +15,7 @@ from .records import (
     ADD, AND, ARITHMETIC, CASTS, KIND_NAMES, MOST_ATOMS, MOST_SHIFT, MOST_TREE_RECORDS, MUL, NEG,
     NOT, OR, SHR, XOR,
 )
-from .refusals import REFUSALS
+from .refusals import meaning
 from .render import expression_text, literal_text
 from .tokens import clip
 
@@ -35,7 +35,7 @@ def explain(number: int, parsed: Parsed, accepts: Callable[[bytes], bool]) -> Re
     tree = Tree(parsed, accepts)
     reasons = {5: tree.cast, 6: tree.shift_count, 8: tree.nonlinear, 9: tree.full}
     found = reasons[number]() if number in reasons else None
-    return found or Reason(len(tree.records) - 1, REFUSALS[number], "")
+    return found or Reason(len(tree.records) - 1, meaning(number), "")
 
 
 class Tree:

@@ -13,7 +13,12 @@ REFUSALS = {
     32: "not a list of passes",
 }
 
-# what files that `par` wrote before 1.2.0 may hold; the number is not used for anything else
+# what a library before 1.2.0 gives, and a file that its `par` wrote may hold; the number has no
+# other use
 RETIRED = {
     7: "a sum or product below bitwise operators without a variable; since 1.2.0 it is a number",
 }
+
+
+def meaning(number: int) -> str:
+    return REFUSALS.get(number) or RETIRED.get(number, "unknown")

@@ -9,7 +9,7 @@ from .records import (
     AND, ARITY, CASTS, CONSTANT, MOST_SHIFT, OR, SHR, VARIABLE, XOR, Answer, Atom, Expression, Form,
     Record, Refusal, expression_bytes,
 )
-from .refusals import REFUSALS, RETIRED
+from .refusals import meaning
 from .render import (
     NO_NAMES, bits_text, expression_text, factor_text, mask_text, signed, sum_text,
 )
@@ -81,8 +81,7 @@ def show_form(form: Form, names: Mapping[int, str] = NO_NAMES) -> list[str]:
 def show_answer(answer: Answer | Refusal, width: int | None = None) -> list[str]:
     """What `par` printed; it says nothing of the width, so that one must be given for signs."""
     if isinstance(answer, Refusal):
-        meaning = REFUSALS.get(answer.number) or RETIRED[answer.number]
-        return [f"refusal {answer.number}: {meaning}"]
+        return [f"refusal {answer.number}: {meaning(answer.number)}"]
 
     def number(value: int) -> str:
         return number_line(value, width) if width else mask_text(value, 64)
