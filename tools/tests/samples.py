@@ -123,6 +123,22 @@ WORKED = {
 }
 
 
+def any_text(
+    source: random.Random, depth: int, width: int, names: tuple[str, ...] = ("a", "b")
+) -> str:
+    """A text of any operators, linear or not, over variables of these names."""
+    if depth == 0:
+        return source.choice((*names, str(source.getrandbits(width)), str(source.randrange(4))))
+    left = any_text(source, depth - 1, width, names)
+    choice = source.randrange(10)
+    if choice < 2:
+        return f"{source.choice('~-')}({left})"
+    if choice < 4:
+        return f"({left}) {source.choice(('<<', '>>'))} {source.randrange(width)}"
+    right = any_text(source, source.randrange(depth), width, names)
+    return f"({left}) {source.choice('+-*&|^')} ({right})"
+
+
 def random_records(source: random.Random, width: int, most: int) -> list[Record]:
     """The records of a random tree, of any kind and any fields that a well-formed file can have."""
     literals = (0, 1, 15, (1 << width) - 1, 1 << (width - 1), (1 << width) % 2**64, 2**64 - 1)

@@ -7,7 +7,7 @@ import random
 from hogzelt import Refused, normalize, run_passes, shorten, value
 
 from calling import Calls
-from samples import Evaluator
+from samples import Evaluator, any_text
 
 # width, text, the sum
 SUMS = (
@@ -35,17 +35,8 @@ NONLINEAR = (
 
 
 def number(source, depth, width):
-    """A text without a variable, of any operators."""
-    if depth == 0:
-        return str(source.choice((source.getrandbits(width), source.randrange(5))))
-    left = number(source, depth - 1, width)
-    choice = source.randrange(10)
-    if choice < 2:
-        return f"{source.choice('~-')}({left})"
-    if choice < 3:
-        return f"(({left}) >> {source.randrange(width)})"
-    right = number(source, source.randrange(depth), width)
-    return f"({left}) {source.choice('+-*&|^')} ({right})"
+    """A text without a variable."""
+    return any_text(source, depth, width, ())
 
 
 class Sums(Calls):

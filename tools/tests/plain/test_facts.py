@@ -9,21 +9,7 @@ from hogzelt.parser import parse
 from hogzelt.records import ARITY, CONSTANT, VARIABLE
 from hogzelt.render import expression_text
 
-from samples import Evaluator
-
-
-def any_text(source, depth, width):
-    """A text of any operators, linear or not, over two variables."""
-    if depth == 0:
-        return source.choice(("a", "b", str(source.getrandbits(width)), str(source.randrange(4))))
-    left = any_text(source, depth - 1, width)
-    choice = source.randrange(10)
-    if choice < 2:
-        return f"{source.choice('~-')}({left})"
-    if choice < 4:
-        return f"({left}) {source.choice(('<<', '>>'))} {source.randrange(width)}"
-    right = any_text(source, source.randrange(depth), width)
-    return f"({left}) {source.choice('+-*&|^')} ({right})"
+from samples import Evaluator, any_text
 
 
 class Facts(unittest.TestCase):
