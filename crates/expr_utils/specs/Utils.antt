@@ -1,6 +1,6 @@
 -- Tests of a tree (expr_utils.rs 9-45; structure_recovery.rs 27-32).
 use Prim.Native.Nat.{ℕ}
-use mathlib.Core.Bool.{Bool, true, false, not, _||_}
+use mathlib.Core.Bool.{Bool, false, not, _||_}
 use lib.Dec.{eqb}
 use Rattle.expr_utils.specs.declared.Traits.{Traits}
 use Rattle.record.specs.Tree.{Tree}

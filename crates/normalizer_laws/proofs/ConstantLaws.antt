@@ -2,7 +2,7 @@
 -- a factor by that value, whatever stands in it. An Add, a Mul or a Neg below an And, Or, Xor, Not or Shr that has a
 -- variable is nonlinear, whether it stands beside the variable or over it.
 use mathlib.Core.Path.{_≡_, refl, ap, sym, _∙_}
-use Prim.Native.Nat.{ℕ, _*_, _%_, _^_, _≤_}
+use Prim.Native.Nat.{ℕ, _%_, _^_, _≤_}
 use native.Mathlib.Omega.{arith}
 use native.Mathlib.Nat.{mod-eq-of-lt, zero-mul, zero-mod}
 use native.Mathlib.Decide.{ℕ-discrete}
@@ -84,29 +84,26 @@ module _ (w : ℕ) where
     abbrev Factor : Tree → Type 0
     Factor x = collectTerms w c x ≡ collectTerms w (modMul c (value w [] m) w) t
 
-    zero-factor : (x : Tree) → c ≡ 0 → Factor x
-    zero-factor x z =
-        ap (λ (n : ℕ). collectTerms w n x) z
-        ∙ collect-none x
-        ∙ sym (collect-none t)
-        ∙ ap (λ (n : ℕ). collectTerms w n t)
-        (sym (ap (λ (n : ℕ). modMul n (value w [] m) w) z ∙ mul-none (value w [] m)))
+    -- under the coefficient 0 both are nothing
+    but-none : (x : Tree) → ((c ≡ 0 → ⊥) → Factor x) → Factor x
+    but-none x h = go (ℕ-discrete c 0)
+      where
+        go : Dec (c ≡ 0) → Factor x
+        go (yes z) =
+            ap (λ (n : ℕ). collectTerms w n x) z
+            ∙ collect-none x
+            ∙ sym (collect-none t)
+            ∙ ap (λ (n : ℕ). collectTerms w n t)
+            (sym (ap (λ (n : ℕ). modMul n (value w [] m) w) z ∙ mul-none (value w [] m)))
+        go (no n) = h n
 
     pub collect-factor-left : Factor (Binary 3 m t)
     unfolding collectTerms
-    collect-factor-left = go (ℕ-discrete c 0)
-      where
-        go : Dec (c ≡ 0) → Factor (Binary 3 m t)
-        go (yes z) = zero-factor (Binary 3 m t) z
-        go (no n) = simp (ne-eqb c 0 n, closed, open-side)
+    collect-factor-left = but-none (Binary 3 m t) (λ n. simp (ne-eqb c 0 n, closed, open-side))
 
     pub collect-factor-right : Factor (Binary 3 t m)
     unfolding collectTerms
-    collect-factor-right = go (ℕ-discrete c 0)
-      where
-        go : Dec (c ≡ 0) → Factor (Binary 3 t m)
-        go (yes z) = zero-factor (Binary 3 t m) z
-        go (no n) = simp (ne-eqb c 0 n, closed, open-side)
+    collect-factor-right = but-none (Binary 3 t m) (λ n. simp (ne-eqb c 0 n, closed, open-side))
 
   -- ---- arithmetic below an operator that has a variable
 

@@ -11,7 +11,7 @@ use lib.Seq.{take-all}
 use lib.Pow.{pow-pos, pow-mono}
 use Rattle.arith.proofs.WidthLaws.{mod-add}
 use Rattle.record.specs.Fields.{size, width}
-use Rattle.record.specs.Tree.{Tree, sizeOf, IsBytes}
+use Rattle.record.specs.Tree.{sizeOf, IsBytes}
 use Rattle.record.specs.Decode.{decode}
 use Rattle.base.specs.Put.{put}
 use Rattle.base.proofs.PutLaws.{take-put}
@@ -19,7 +19,6 @@ use Rattle.record.proofs.SizedLaws.{sized-length}
 use Rattle.expr_refusal.specs.Refusal.{treeRefusal, exprRefusal}
 use Rattle.expr_refusal.proofs.RefusalLaws.{accepted-root, sized-accepted}
 use Rattle.expr.proofs.AcceptLaws.{accept-expr}
-use Rattle.expr.proofs.ExprValueLaws.{accepted-tree, accepted-length}
 use Rattle.semilinear.specs.declared.outcome.Answer.{Answer}
 use Rattle.base.specs.Outcome.{refused}
 use Rattle.semilinear.specs.Answers.{GivesForm}

@@ -99,8 +99,8 @@ fn normalize_long(t: &[u8], w: u8, out: &mut [u8]) -> Answer
     normalize_tree(t, w, &mut marks, &mut spots, &mut tree, &mut index, out)
 }
 
-// The semilinear form of the expression t, written to out; or a refusal: 1 to 6, 8 or 9. Corresponds to
-// `normalize_to_semilinear`.
+// The semilinear form of the expression t, written to out; or a refusal: 1 to 6, 8 or 9.
+// Corresponds to `normalize_to_semilinear`.
 pub fn normalize_to_semilinear(t: &[u8], out: &mut [u8]) -> Answer
     ensures { λ r. ⌜ GivesForm (normalizeToSemilinear (now (t .entry)) (length (now (out .entry))))
         (length (now (out .entry))) r (now (out .exit)) ⌝ }

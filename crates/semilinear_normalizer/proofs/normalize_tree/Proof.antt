@@ -1,5 +1,5 @@
 -- `normalize_tree` meets its contract: the marks, the descent from the root, and the form of what it collected.
-use mathlib.Core.Path.{refl, sym, _∙_}
+use mathlib.Core.Path.{refl, sym}
 use native.Mathlib.Omega.{arith}
 use borrow.Author.Tests.{not-true, not-false}
 use lib.Seq.{length-take-le}

@@ -1,5 +1,5 @@
 -- `mark_traits` meets its contract: the equation of the fold at a root without, with one and with two children.
-use mathlib.Core.Path.{refl, ap, _∙_}
+use mathlib.Core.Path.{refl, ap}
 use Prim.Native.Nat.{ℕ, _+_, _-_, _<_}
 use native.Mathlib.Omega.{arith}
 use denote.Ref.{now}
