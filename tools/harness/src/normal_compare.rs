@@ -123,11 +123,13 @@ fn check(case: &Case, faults: &mut Differences<Case>, named: &mut Differences<Ca
     if published::normalized(&records) != sorted {
         named.add(MAP_ORDERS, case);
     }
-    let rust = written(sorted.clone());
-    if rust != wanted {
-        // the Rust with refusal 9, and sums below constants read as 0
-        let without = partings::with(partings::ALL, || parted::bridge::normalized(&records));
-        match name(&wanted, &sorted, &without) {
+    // with refusal 9 and sums below constants read as 0
+    let without = partings::with(partings::ALL, || parted::bridge::normalized(&records));
+    if without != sorted && without != Err(TABLE_FULL) {
+        faults.add("let go, difference 8 leaves another answer", case);
+    }
+    if written(sorted.clone()) != wanted {
+        match name(&wanted, &sorted, without) {
             Some(name) => named.add(name, case),
             None => faults.add("the Rust with sorted maps differs, for no difference", case),
         }
@@ -135,17 +137,14 @@ fn check(case: &Case, faults: &mut Differences<Case>, named: &mut Differences<Ca
     wanted
 }
 
-/// The difference that makes the Rust's answer another one than the wanted, by what both are. The Rust
-/// without difference 8 has refusal 9, or is the Rust with sorted maps.
+/// The difference that makes the Rust's answer another one than the wanted, by what both are and what
+/// the Rust gives without difference 8.
 fn name(
     wanted: &Written,
     sorted: &Result<Form, u64>,
-    without: &Result<Form, u64>,
+    without: Result<Form, u64>,
 ) -> Option<&'static str> {
-    if without != sorted && *without != Err(TABLE_FULL) {
-        return None;
-    }
-    if written(without.clone()) == *wanted {
+    if written(without) == *wanted {
         return (wanted.refusal == TABLE_FULL)
             .then_some("difference 5, refusal 9, accepted by the Rust");
     }
