@@ -10,13 +10,13 @@
  *   hogzelt_expr_value                 129 KiB      hogzelt_coalesce_terms          364 KiB
  *   hogzelt_semilinear_value           385 KiB      hogzelt_flatten_complex_atoms   387 KiB
  *   hogzelt_compute_partitions         357 KiB      hogzelt_compact_atom_table      337 KiB
- *   the three mask functions             1 KiB
+ *   hogzelt_best_week                    1 KiB      the three mask functions          1 KiB
  *
  * Every pointer must be valid for its length: expr for expr_len bytes, s for s_len bytes, vars for
  * vars_len words, out for out_len bytes (for out_len words of 64 bits in hogzelt_compute_partitions),
- * calls for calls_len words, sheet for sheet_len and spare for spare_len bytes, value, used, terms,
- * flattened and classes for one word. A pointer with length 0 must not be null and must be aligned.
- * What is written to must overlap neither the inputs nor one another.
+ * calls for calls_len words, sheet for sheet_len, spare for spare_len and run for run_len bytes, value,
+ * used, terms, flattened, classes, found, total and day for one word. A pointer with length 0 must not
+ * be null and must be aligned. What is written to must overlap neither the inputs nor one another.
  */
 #ifndef HOGZELT_H
 #define HOGZELT_H
@@ -30,8 +30,8 @@ extern "C" {
 #endif
 
 /* The version: major * 10000 + minor * 100 + patch, and as text. */
-#define HOGZELT_VERSION 10200
-#define HOGZELT_VERSION_TEXT "1.2.0"
+#define HOGZELT_VERSION 10300
+#define HOGZELT_VERSION_TEXT "1.3.0"
 
 /* Lengths: of a record, of the longest expression, and of the result slices. */
 #define HOGZELT_RECORD_BYTES 16
@@ -40,6 +40,7 @@ extern "C" {
 #define HOGZELT_COLUMN_WORDS 16448   /* out_len of hogzelt_compute_partitions */
 #define HOGZELT_MOST_ATOMS 256
 #define HOGZELT_MOST_TREE_RECORDS 3072
+#define HOGZELT_RUN_BYTES 65536      /* run_len, at most */
 
 /*
  * Byte 0 of the records of an expression, and of a form. The number of a variable, 0 to 65,535, has its
@@ -87,6 +88,8 @@ enum hogzelt_refusal {
     HOGZELT_NONLINEAR = 8,
     HOGZELT_TABLE_FULL = 9,
     HOGZELT_NO_FORM = 10,
+    HOGZELT_NO_RUN = 20,
+    HOGZELT_DAYS_NOT_RISING = 21,
     HOGZELT_NO_LIST = 32
 };
 
@@ -113,6 +116,8 @@ static inline const char *hogzelt_refusal_text(uint64_t refusal)
     case HOGZELT_NONLINEAR: return "not a sum of weighted bitwise atoms";
     case HOGZELT_TABLE_FULL: return "more than 256 atoms, or more than 3,072 records in their trees";
     case HOGZELT_NO_FORM: return "not a semilinear form, or a hash that is not its tree's";
+    case HOGZELT_NO_RUN: return "not a run: a wrong length, or a non-zero byte that must be 0";
+    case HOGZELT_DAYS_NOT_RISING: return "a day that is not above the one before";
     case HOGZELT_NO_LIST: return "not a list of passes";
     default: return "no refusal of this library";
     }
@@ -282,6 +287,20 @@ uint64_t hogzelt_compute_partitions(const uint8_t *s, size_t s_len, uint64_t *ou
 uint64_t hogzelt_run_passes(const uint8_t *expr, size_t expr_len, const uint64_t *calls,
                             size_t calls_len, uint8_t *sheet, size_t sheet_len, uint8_t *spare,
                             size_t spare_len, uint64_t *used, uint64_t *terms);
+
+/*
+ * The best seven days of a run. A run is at most 4,096 records of 16 bytes, one for each day that was
+ * played: the day in bytes 0 to 3, its par in bytes 4 and 5 and the moves in bytes 6 and 7, each
+ * little-endian, and zeros behind. Among the seven neighbouring records whose days are consecutive
+ * *total is the lowest total of moves minus par, and *day the first day of the earliest seven that have
+ * it. *found is 1 where there are such seven; where there are none *found, *total and *day are 0.
+ * Returns 0 for accepted, else the first refusal that applies:
+ *   20  run_len is not a multiple of 16 or above 65,536, or one of the bytes 8 to 15 of a record is not 0
+ *   21  a day that is not above the one before
+ * Beside a refusal *found, *total and *day are 0. A run of length 0 is accepted.
+ */
+uint64_t hogzelt_best_week(const uint8_t *run, size_t run_len, uint64_t *found, int64_t *total,
+                           uint64_t *day);
 
 #ifdef __cplusplus
 }

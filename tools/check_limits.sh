@@ -1,6 +1,7 @@
 #!/usr/bin/env bash
 # Holds each limit to its one place: a number of crates/base/specs/Limits.antt (for code crates/base/src/limits.rt)
-# stands nowhere else in src or specs. Prints one line and ends with 0, or a line for each fault and ends with 1.
+# stands nowhere else in src or specs, and the records of a run only in crates/best_week/specs/Run.antt (for code
+# src/run.rt there). Prints one line and ends with 0, or a line for each fault and ends with 1.
 #
 # Left out: comments and `use` lines; powers (2 ^ 16); the programs' texts; `vectors` and `stored`, which are a test; `claims`, whose
 # examples have coefficients and masks. 16 and 256 have other meanings too, which are listed below with their places.
@@ -21,6 +22,8 @@ function other(file, line, n) {
     if (n == 256 && file == "crates/passes/src/main.rt") return 1
     # pairs of the entries of a group
     if (n == 65536 && line ~ /Step(Ready|ped) w 65536/) return 1
+    # the records of a run, in its place
+    if (n == 4096 && line ~ /RUN_RECORDS: usize = 4096|^runRecords = 4096/) return 1
     # how far apart the words of a loop may stand; the folds of links
     if (n == 16 && line ~ /step ≤ 16/) return 1
     if (n == 1024 && line ~ /FOLDS: usize = 1024|^folds = 1024/) return 1
@@ -41,7 +44,7 @@ function other(file, line, n) {
         gsub(/[^0-9]/, "", word)
         n = word + 0
         count++
-        if (n != 16 && n != 256 && n != 1024 && n != 3072 && n != 16384 && n != 16448 && n != 57360 && n != 65536) continue
+        if (n != 16 && n != 256 && n != 1024 && n != 3072 && n != 4096 && n != 16384 && n != 16448 && n != 57360 && n != 65536) continue
         if (other(FILENAME, line, n)) continue
         printf "check_limits: %s:%d: %d stands here; its name is in crates/base\n", FILENAME, FNR, n > "/dev/stderr"
         faults++

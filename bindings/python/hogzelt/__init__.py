@@ -16,12 +16,13 @@ from .calls import (
 from .parser import parse
 from .records import Fault, read_expression, read_form
 from .tokens import BadText
+from .week import Played, Week, best_week, run_bytes
 
-__version__ = "1.2.0"
+__version__ = "1.3.0"
 
 __all__ = [
-    "OPAQUE", "SHORTENING", "BadText", "Column", "Fault", "NoLibrary", "Pass", "Refused", "Sheet",
-    "can_change_coefficient_to", "can_change_mask_to", "columns", "normalize", "parse",
-    "read_expression", "read_form", "reduce_mask", "run_pass", "run_passes", "shorten",
-    "value",
+    "OPAQUE", "SHORTENING", "BadText", "Column", "Fault", "NoLibrary", "Pass", "Played", "Refused",
+    "Sheet", "Week", "best_week", "can_change_coefficient_to", "can_change_mask_to", "columns",
+    "normalize", "parse", "read_expression", "read_form", "reduce_mask", "run_bytes", "run_pass",
+    "run_passes", "shorten", "value",
 ]

@@ -4,7 +4,7 @@ from __future__ import annotations
 
 import ctypes
 import os
-from ctypes import POINTER, c_bool, c_char_p, c_size_t, c_uint8, c_uint32, c_uint64
+from ctypes import POINTER, c_bool, c_char_p, c_int64, c_size_t, c_uint8, c_uint32, c_uint64
 
 from .build import NoLibrary, checkout, shared_object
 
@@ -27,6 +27,7 @@ SIGNATURES = {
     "hogzelt_run_passes": [
         c_char_p, c_size_t, WORDS, c_size_t, BYTES, c_size_t, BYTES, c_size_t, NUMBER, NUMBER,
     ],
+    "hogzelt_best_week": [c_char_p, c_size_t, NUMBER, POINTER(c_int64), NUMBER],
 }
 TESTS = ("hogzelt_can_change_mask_to", "hogzelt_can_change_coefficient_to")
 

@@ -25,14 +25,16 @@ mod expr;
 pub mod raw;
 mod refusal;
 mod sheet;
+mod week;
 
 pub use columns::{Class, Columns, OPAQUE};
 pub use expr::Expr;
 pub use refusal::Refusal;
 pub use sheet::{Sheet, Term};
+pub use week::{best_week, run_bytes, Played, Week};
 
 /// The version: major * 10000 + minor * 100 + patch.
-pub const VERSION: u64 = 10_100;
+pub const VERSION: u64 = 10_300;
 /// The bytes of a record.
 pub const RECORD_BYTES: usize = 16;
 /// The most bytes of an expression.
@@ -41,6 +43,8 @@ pub const EXPR_BYTES: usize = 16_384;
 pub const FORM_BYTES: usize = 57_360;
 /// The length in words of a result slice that takes columns.
 pub const COLUMN_WORDS: usize = 16_448;
+/// The most bytes of a run.
+pub const RUN_BYTES: usize = 65_536;
 
 /// A pass over a form, by its number in a list of calls.
 #[derive(Clone, Copy, Debug, PartialEq, Eq, Hash)]

@@ -70,6 +70,13 @@ extern "C" {
         used: *mut u64,
         terms: *mut u64,
     ) -> u64;
+    pub fn hogzelt_best_week(
+        run: *const u8,
+        run_len: usize,
+        found: *mut u64,
+        total: *mut i64,
+        day: *mut u64,
+    ) -> u64;
     pub fn hogzelt_reduce_mask(coeff: u64, mask: u64, w: u32) -> u64;
     pub fn hogzelt_can_change_mask_to(coeff: u64, old_mask: u64, new_mask: u64, w: u32) -> bool;
     pub fn hogzelt_can_change_coefficient_to(

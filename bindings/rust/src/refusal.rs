@@ -23,13 +23,17 @@ pub enum Refusal {
     TableFull = 9,
     /// Not a semilinear form, or a hash that is not its tree's.
     NoForm = 10,
+    /// Not a run: a length that is not a multiple of 16 or too great, or a non-zero byte that must be 0.
+    NoRun = 20,
+    /// A day that is not above the one before.
+    DaysNotRising = 21,
     /// Not a list of passes.
     NoList = 32,
 }
 
 impl Refusal {
     /// Every refusal, by rising number.
-    pub const ALL: [Refusal; 10] = [
+    pub const ALL: [Refusal; 12] = [
         Refusal::InputLength,
         Refusal::ResultLength,
         Refusal::Malformed,
@@ -39,6 +43,8 @@ impl Refusal {
         Refusal::Nonlinear,
         Refusal::TableFull,
         Refusal::NoForm,
+        Refusal::NoRun,
+        Refusal::DaysNotRising,
         Refusal::NoList,
     ];
 
@@ -77,6 +83,8 @@ impl fmt::Display for Refusal {
             Refusal::Nonlinear => "not a sum of weighted bitwise atoms",
             Refusal::TableFull => "more than 256 atoms, or more than 3,072 records in their trees",
             Refusal::NoForm => "not a semilinear form, or a hash that is not its tree's",
+            Refusal::NoRun => "not a run: a wrong length, or a non-zero byte that must be 0",
+            Refusal::DaysNotRising => "a day that is not above the one before",
             Refusal::NoList => "not a list of passes",
         })
     }

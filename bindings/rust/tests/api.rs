@@ -1,8 +1,9 @@
 //! The types: refusals as errors, allocated and lent results, the parts of a sheet.
 
 use hogzelt::{
-    columns, normalize, normalize_into, run_calls_into, run_pass, run_pass_into, run_passes,
-    sheet_value, Call, Expr, Pass, Refusal, EXPR_BYTES, FORM_BYTES, OPAQUE, RECORD_BYTES,
+    best_week, columns, normalize, normalize_into, run_bytes, run_calls_into, run_pass,
+    run_pass_into, run_passes, sheet_value, Call, Expr, Pass, Played, Refusal, Week, EXPR_BYTES,
+    FORM_BYTES, OPAQUE, RECORD_BYTES, RUN_BYTES, VERSION,
 };
 use std::error::Error;
 
@@ -17,7 +18,7 @@ fn number(value: u64) -> Expr {
 #[test]
 fn refusals() {
     let numbers: Vec<u64> = Refusal::ALL.iter().map(|r| r.number()).collect();
-    assert_eq!(numbers, [1, 2, 3, 4, 5, 6, 8, 9, 10, 32]);
+    assert_eq!(numbers, [1, 2, 3, 4, 5, 6, 8, 9, 10, 20, 21, 32]);
     for refusal in Refusal::ALL {
         assert_eq!(Refusal::check(refusal.number()), Err(refusal));
         let error: Box<dyn Error> = refusal.into();
@@ -238,4 +239,59 @@ fn opaque_columns() {
         (255, &[OPAQUE, 2][..])
     );
     assert_eq!(found.as_words(), [255, OPAQUE, 2]);
+}
+
+#[test]
+fn version() {
+    let parts = env!("CARGO_PKG_VERSION").split('.');
+    let number = parts.fold(0, |sum, part| {
+        100 * sum + part.parse::<u64>().expect("a number")
+    });
+    assert_eq!(VERSION, number);
+}
+
+/// Days from `first` on, all of one par.
+fn days(first: u32, par: u16, moves: &[u16]) -> Vec<Played> {
+    (first..=u32::MAX)
+        .zip(moves)
+        .map(|(day, &moves)| Played { day, par, moves })
+        .collect()
+}
+
+#[test]
+fn weeks() {
+    let best = |played: &[Played]| best_week(run_bytes(played.iter().copied()));
+    let week = |total, day| Ok(Some(Week { total, day }));
+    assert_eq!(best(&[]), Ok(None));
+    assert_eq!(best(&days(0, 3, &[1; 7])), week(-14, 0));
+    assert_eq!(best(&days(0, 3, &[1; 6])), Ok(None));
+    assert_eq!(best(&days(0, 0, &[5, 5, 5, 5, 5, 5, 5, 1, 9])), week(31, 1));
+    let last = u32::MAX - 6;
+    assert_eq!(best(&days(last, 65_535, &[0; 7])), week(-458_745, last));
+    assert_eq!(best(&days(0, 4, &[4; 7])), week(0, 0));
+    assert_eq!(best(&days(0, 1, &[0; 4_096])), week(-7, 0));
+    let mut gap = days(0, 0, &[1; 6]);
+    gap.extend(days(7, 0, &[1; 6]));
+    assert_eq!(best(&gap), Ok(None));
+}
+
+#[test]
+fn runs_that_are_refused() {
+    let twice = run_bytes([days(5, 0, &[1]), days(5, 0, &[1])].concat());
+    assert_eq!(best_week(&twice), Err(Refusal::DaysNotRising));
+    for place in 8..16 {
+        let mut spoiled = twice.clone();
+        spoiled[place] = 1;
+        assert_eq!(best_week(spoiled), Err(Refusal::NoRun));
+    }
+    for length in [
+        1,
+        15,
+        RUN_BYTES - 1,
+        RUN_BYTES + 1,
+        RUN_BYTES + RECORD_BYTES,
+    ] {
+        assert_eq!(best_week(vec![0; length]), Err(Refusal::NoRun));
+    }
+    assert_eq!(best_week(vec![0; RUN_BYTES]), Err(Refusal::DaysNotRising));
 }

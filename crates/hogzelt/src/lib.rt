@@ -14,6 +14,7 @@ ghost use Rattle.structure_laws.specs.CoalesceTerms.{coalesceTerms};
 ghost use Rattle.structure_laws.specs.FlattenComplexAtoms.{flattenComplexAtoms};
 ghost use Rattle.partition_laws.specs.Partition.{computePartitions};
 ghost use Rattle.runner.specs.RunPasses.{runPasses};
+ghost use Rattle.best_week.specs.BestWeek.{IsBestWeek};
 
 // The value of an expression under an assignment; returns the refusal, 0 where it is accepted.
 #[no_mangle]
@@ -213,4 +214,23 @@ pub extern "C" fn hogzelt_run_passes(
     *used = ran.used;
     *terms = ran.terms;
     ran.refusal
+}
+
+// The best seven days of a run: 1 in found where there are such, their total and the first day.
+// Returns the refusal, 0 where the run is accepted.
+#[no_mangle]
+pub extern "C" fn hogzelt_best_week(
+    run: &[u8],
+    found: &mut u64,
+    total: &mut i64,
+    day: &mut u64,
+) -> u64
+    ensures { λ r. ⌜ IsBestWeek (now (run .entry)) r (now (found .exit)) (now (total .exit)) (now (day .exit)) ⌝ }
+{
+    let best = best_week::best_week(run);
+    let sum = best.total;
+    *found = best.found;
+    *total = sum;
+    *day = best.day;
+    best.refusal
 }

@@ -93,6 +93,12 @@ mod sum_cases;
 mod sum_tests;
 #[cfg(test)]
 mod tests;
+#[cfg(any(feature = "library", test))]
+mod week;
+#[cfg(feature = "library")]
+mod week_compare;
+#[cfg(test)]
+mod week_tests;
 mod written;
 
 use std::io::{ErrorKind, Write};
@@ -116,6 +122,8 @@ fn main() -> ExitCode {
         ["compare", "passes"] => pass_compare::run(),
         #[cfg(feature = "library")]
         ["compare", "lists"] => list_compare::run(),
+        #[cfg(feature = "library")]
+        ["compare", "weeks"] => week_compare::run(),
         #[cfg(feature = "library")]
         ["stack"] => stack::run(),
         #[cfg(feature = "library")]

@@ -1,5 +1,5 @@
-//! Document 01's refusals by number ("Refusals"), and which of them each function gives. No function
-//! gives 7, which document 01 has; its number stays unused.
+//! Document 01's refusals by number ("Refusals") and those of document 02, and which of them each
+//! function gives. No function gives 7, which document 01 has; its number stays unused.
 
 pub const INPUT_LENGTH: u64 = 1;
 pub const RESULT_LENGTH: u64 = 2;
@@ -10,6 +10,11 @@ pub const SHIFT_COUNT: u64 = 6;
 pub const NONLINEAR: u64 = 8;
 pub const TABLE_FULL: u64 = 9;
 pub const NO_FORM: u64 = 10;
+/// A run of days: its length or a byte that must be 0, and the order of the days.
+#[cfg_attr(not(any(feature = "library", test)), allow(dead_code))]
+pub const NO_RUN: u64 = 20;
+#[cfg_attr(not(any(feature = "library", test)), allow(dead_code))]
+pub const DAYS_NOT_RISING: u64 = 21;
 /// A list of calls that is none.
 pub const NO_LIST: u64 = 32;
 

@@ -22,6 +22,7 @@ use crate::record::{
     balanced, bytes, left_chain, left_turns, nested, right_chain, right_turns, unary, variable,
     Records, ADD, AND, MAX_RECORDS, NEG, NOT, RECORD_BYTES, SHR, XOR,
 };
+use crate::week_compare;
 
 const VARS: [u64; 3] = [1, 2, 3];
 
@@ -34,7 +35,8 @@ pub fn run() -> Result<(), String> {
         .max(form_stacks()?)
         .max(normal_stack::stacks()?)
         .max(list_stack::stacks()?)
-        .max(pass_stack::stacks()?);
+        .max(pass_stack::stacks()?)
+        .max(week_compare::stacks()?);
     println!("stack, most: {most} bytes");
     if most > STACK_BAR {
         return Err(format!(
@@ -44,6 +46,7 @@ pub fn run() -> Result<(), String> {
     expression_times();
     form_times();
     pass_stack::times();
+    week_compare::times();
     normal_stack::times()
 }
 

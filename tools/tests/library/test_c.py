@@ -4,7 +4,7 @@ import os
 import re
 import subprocess
 
-from hogzelt import build, records, refusals
+from hogzelt import build, records, refusals, week
 from hogzelt.calls import COLUMN_WORDS, OPAQUE, Pass
 
 from calling import Calls
@@ -27,7 +27,7 @@ class Installed(Calls):
         self.env = dict(os.environ)
         self.env.setdefault("HOGZELT_LIB", os.path.join(ROOT, build.ARCHIVE))
         out = self.sh(os.path.join(ROOT, "tools", "install.sh"), self.prefix)
-        self.assertEqual(out, f"hogzelt 1.2.0: {os.path.realpath(self.prefix)}\n")
+        self.assertEqual(out, f"hogzelt 1.3.0: {os.path.realpath(self.prefix)}\n")
 
     def sh(self, *words, **env):
         done = subprocess.run(words, cwd=self.folder, env={**self.env, **env}, check=False,
@@ -41,7 +41,7 @@ class Installed(Calls):
         self.assertEqual(found, [
             "include/hogzelt.h", "lib/cmake/hogzelt/hogzelt-config-version.cmake",
             "lib/cmake/hogzelt/hogzelt-config.cmake", "lib/libhogzelt.a", "lib/libhogzelt.so",
-            "lib/libhogzelt.so.1", "lib/libhogzelt.so.1.2.0", "lib/pkgconfig/hogzelt.pc"])
+            "lib/libhogzelt.so.1", "lib/libhogzelt.so.1.3.0", "lib/pkgconfig/hogzelt.pc"])
         self.assertIn("usage", self.refused("install.sh"))
         self.assertIn("usage", self.refused("install.sh", "--help"))
 
@@ -97,6 +97,7 @@ class Header(Calls):
             ("EXPR_BYTES", records.RECORD * records.MOST_RECORDS), ("COLUMN_WORDS", COLUMN_WORDS),
             ("MOST_ATOMS", records.MOST_ATOMS), ("OPAQUE", OPAQUE),
             ("MOST_TREE_RECORDS", records.MOST_TREE_RECORDS),
+            ("RUN_BYTES", records.RECORD * week.MOST_RECORDS),
         ):
             self.assertEqual(named[name], value, name)
         listed = self.text.partition("enum hogzelt_refusal {")[2].partition("}")[0]

@@ -32,6 +32,7 @@ TABLE = {
     "normalize": Command("look", ("width", "file", "output"), ("fold",)),
     "write": Command("look", ("width", "file", "output"), ("fold",)),
     "show": Command("look", ("width", "file"), ("text",)),
+    "week": Command("week", ("file", "output"), ("quiet",)),
 }
 
 

@@ -8,6 +8,7 @@ usage: hogzelt shorten -w WIDTH TEXT             a sum of few terms, by a list o
        hogzelt normalize -w WIDTH TEXT           the tangle and the normalised sheet
        hogzelt write -w WIDTH -o FILE TEXT       text to a tangle file
        hogzelt show FILE                         a tangle, a sheet or what par printed, as text
+       hogzelt week FILE                         the best seven days of a player
        hogzelt --version
 
 'hogzelt COMMAND --help' says more. In place of TEXT, -f FILE or - (standard input) takes a text, a
@@ -161,5 +162,21 @@ coefficients are shown in hexadecimal, the last two with their signed reading be
 Examples:
   tools/hogzelt show examples/xor15.tangle
   tools/hogzelt show --text examples/xor15.tangle
+""",
+    "week": """\
+usage: hogzelt week [-q] [-o FILE] [FILE]             FILE may be - for standard input
+
+Prints the seven neighbouring days with the lowest total of moves minus par, the earliest where some
+have the same total. FILE is text, a line for each day that was played: the day's number, its par and
+the moves, with blanks, tabs or commas between. Blank lines, lines that begin with # and a first line
+of names (day, par, moves) are left out. The days must rise; there are at most 4,096. The bytes of a
+run, 16 for each day, are taken too.
+
+  -q, --quiet         print only the total and the first day, or none
+  -o, --output FILE   also write the run's bytes to FILE; one that is there is replaced
+
+Examples:
+  tools/hogzelt week examples/season.txt
+  printf '%s 3 1\\n' 0 1 2 3 4 5 6 | tools/hogzelt week -
 """,
 }
