@@ -291,11 +291,11 @@ uint64_t hogzelt_run_passes(const uint8_t *expr, size_t expr_len, const uint64_t
 /*
  * The best seven days of a run. A run is at most 4,096 records of 16 bytes, one for each day that was
  * played: the day in bytes 0 to 3, its par in bytes 4 and 5 and the moves in bytes 6 and 7, each
- * little-endian, and zeros behind. Among the seven neighbouring records whose days are consecutive
- * *total is the lowest total of moves minus par, and *day the first day of the earliest seven that have
- * it. *found is 1 where there are such seven; where there are none *found, *total and *day are 0.
+ * little-endian, and zeros behind. Of all seven neighbouring records whose days are consecutive,
+ * *total is the lowest total of moves minus par, and *day the first day of the earliest seven that
+ * have it. *found is 1 where there are such seven; else *found, *total and *day are 0.
  * Returns 0 for accepted, else the first refusal that applies:
- *   20  run_len is not a multiple of 16 or above 65,536, or one of the bytes 8 to 15 of a record is not 0
+ *   20  run_len is not a multiple of 16 or above 65,536, or a byte 8 to 15 of a record is not 0
  *   21  a day that is not above the one before
  * Beside a refusal *found, *total and *day are 0. A run of length 0 is accepted.
  */

@@ -10,7 +10,7 @@ REFUSALS = {
     8: "not a sum of weighted bitwise atoms, as a*b or a & (b + c)",
     9: "more than 256 atoms, or more than 3,072 records in their trees",
     10: "not a sheet, or a hash that is not its tree's",
-    20: "not a run: a length that is not a multiple of 16 or above 65,536, or a non-zero byte that must be 0",
+    20: "not a run: a wrong length, or a non-zero byte that must be 0",
     21: "a day that is not above the one before",
     32: "not a list of passes",
 }

@@ -52,8 +52,8 @@ def read_run(data: bytes) -> list[Played]:
 
 
 def best_week(run: bytes | Iterable[tuple[int, int, int]]) -> Week | None:
-    """The seven neighbouring records with consecutive days that have the lowest total of moves minus
-    par, the earliest where some have the same; None where there are no such seven."""
+    """The seven neighbouring records with consecutive days that have the lowest total of moves
+    minus par, the earliest where some have the same; None where there are no such seven."""
     data = bytes(run) if isinstance(run, (bytes, bytearray, memoryview)) else run_bytes(run)
     found, total, day = c_uint64(), c_int64(), c_uint64()
     refusal = engine().library.hogzelt_best_week(

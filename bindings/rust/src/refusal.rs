@@ -23,7 +23,8 @@ pub enum Refusal {
     TableFull = 9,
     /// Not a semilinear form, or a hash that is not its tree's.
     NoForm = 10,
-    /// Not a run: a length that is not a multiple of 16 or too great, or a non-zero byte that must be 0.
+    /// Not a run: a length that is not a multiple of 16 or too great, or a non-zero byte that
+    /// must be 0.
     NoRun = 20,
     /// A day that is not above the one before.
     DaysNotRising = 21,

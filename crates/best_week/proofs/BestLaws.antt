@@ -15,7 +15,8 @@ use Rattle.base.proofs.BoolLaws.{false-true, and-true}
 use Rattle.best_week.specs.Run.{records, day, noneIn, runRefusal}
 use Rattle.best_week.specs.BestWeek.{weekDays, isWeek, weekTotal, isLower, isLowest, bestAt, hasWeek}
 use Rattle.best_week.specs.BestWeek.{bestTotal, bestDay}
-use Rattle.best_week.specs.Walk.{IsBest, BestUpTo, takeWeek}
+use Rattle.best_week.specs.Told.{IsBest}
+use Rattle.best_week.specs.Walk.{BestUpTo, takeWeek}
 use Rattle.best_week.specs.declared.best.Best.{Best}
 use Rattle.best_week.proofs.SearchLaws.{first-is, first-none, none-of, none-fails}
 use Rattle.best_week.proofs.WeekLaws.{both-true, second-false, week-inside, lower-true, lower-false, lower-of}

@@ -8,7 +8,8 @@ use lib.IntN.{ℤ, pos}
 use Rattle.base.specs.Outcome.{flagNumber}
 use Rattle.best_week.specs.Run.{records, day, runRefusal}
 use Rattle.best_week.specs.BestWeek.{isWeek, weekTotal, hasWeek, bestAt, IsBestWeek}
-use Rattle.best_week.specs.Walk.{IsBest, BestUpTo}
+use Rattle.best_week.specs.Told.{IsBest, Told}
+use Rattle.best_week.specs.Walk.{BestUpTo}
 use Rattle.best_week.specs.declared.best.Best.{Best}
 use Rattle.best_week.proofs.BestLaws.{best-at, best-at-none, week-found, total-found, total-none}
 use Rattle.best_week.proofs.BestLaws.{week-missing, week-refused, day-found, day-none, best-is, best-none, best-inside, no-best}
@@ -49,14 +50,6 @@ gives-week s {x = x} e z c up f t d =
     }
 
 -- ---- what a caller is told
-
--- zeros beside a refusal; zeros where no seven records have consecutive days; else 1, and the total and the first day
--- of the earliest of those that have the lowest total
-pub record Told (s : List ℕ) (refusal found : ℕ) (total : ℤ) (first : ℕ) : Type 0 where
-  pub refused : (refusal ≡ 0 → ⊥) → (found ≡ 0) × (total ≡ pos 0) × (first ≡ 0)
-  pub none : refusal ≡ 0 → found ≡ 0 → ((j : ℕ) → isWeek s j ≡ false) × (total ≡ pos 0) × (first ≡ 0)
-  pub week : refusal ≡ 0 → (found ≡ 0 → ⊥) → (found ≡ 1)
-      × (a : ℕ) × IsBest s (records s) a × (total ≡ weekTotal s a) × (first ≡ day s a)
 
 pub told : (s : List ℕ) (refusal found : ℕ) (total : ℤ) (first : ℕ) → IsBestWeek s refusal found total first
     → Told s refusal found total first

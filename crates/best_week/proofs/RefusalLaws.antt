@@ -13,6 +13,7 @@ use Rattle.base.specs.Loop.{firstIn}
 use Rattle.record.specs.Fields.{u16, u32, u64}
 use Rattle.base.proofs.BoolLaws.{and-true}
 use Rattle.best_week.specs.Run.{runRecords, records, day, rest, noneIn, filled, falls, wellFormed, runRefusal}
+use Rattle.best_week.specs.Told.{Rises}
 use Rattle.best_week.proofs.SearchLaws.{first-none, none-at, none-fails}
 use Rattle.best_week.proofs.WeekLaws.{both-true, second-false}
 
@@ -128,13 +129,6 @@ module _ (s : List ℕ) (n : ℕ) where
         byte-at (n + 4 + 2) (n + 6) (omega arith) (h 6 (lit< tt)),
         byte-at (n + 4 + 2 + 1) (n + 7) (omega arith) (h 7 (lit< tt)),
       )
-
--- whole records, at most 4,096, with zeros in bytes 8 to 15 and days that rise
-pub record Rises (s : List ℕ) : Type 0 where
-  pub few : length s ≤ recordLength * runRecords
-  pub whole : length s % recordLength ≡ 0
-  pub zeros : (i : ℕ) → i < records s → (k : ℕ) → k < 8 → getD s (recordLength * i + 8 + k) 0 ≡ 0
-  pub rising : (i : ℕ) → 1 ≤ i → i < records s → day s (i - 1) < day s i
 
 module _ (s : List ℕ) where
   zeros-of : (i : ℕ) → filled s i ≡ false → (k : ℕ) → k < 8 → getD s (recordLength * i + 8 + k) 0 ≡ 0

@@ -5,10 +5,11 @@ use mathlib.Core.List.{List}
 use mathlib.Core.Bool.{true, false, not, _&&_}
 use lib.ListN.{length}
 use lib.IntN.{ℤ}
-use lib.Signed.{ltZ, _<ℤ_, _≤ℤ_}
+use lib.Signed.{ltZ}
 use Rattle.base.specs.Choice.{when}
 use Rattle.base.specs.Limits.{recordLength}
 use Rattle.best_week.specs.BestWeek.{weekDays, follows, isWeek, totalOf, weekTotal}
+use Rattle.best_week.specs.Told.{IsBest}
 use Rattle.best_week.specs.declared.streak.Streak.{Streak}
 use Rattle.best_week.specs.declared.best.Best.{Best}
 
@@ -24,13 +25,6 @@ pub record StreakAt (s : List ℕ) (i : ℕ) (x : Streak) : Type 0 where
   pub linked : (j : ℕ) → i < j + x .days → j < i → follows s j ≡ true
   pub broken : x .days < weekDays → x .days < i → follows s (i - x .days) ≡ false
   pub sum : x .total ≡ totalOf s (i - x .days) (x .days)
-
--- from a on is the best of the weeks within the first i records, the earliest of those with the lowest total
-pub record IsBest (s : List ℕ) (i a : ℕ) : Type 0 where
-  pub week : isWeek s a ≡ true
-  pub inside : a + weekDays ≤ i
-  pub lowest : (j : ℕ) → j + weekDays ≤ i → isWeek s j ≡ true → weekTotal s a ≤ℤ weekTotal s j
-  pub earliest : (j : ℕ) → j < a → isWeek s j ≡ true → weekTotal s a <ℤ weekTotal s j
 
 -- x is of the best week within the first i records, or says that there is none
 pub record BestUpTo (s : List ℕ) (i : ℕ) (x : Best) : Type 0 where

@@ -1,5 +1,5 @@
-"""The best seven days: the cases of the request, refusals and their order, random runs beside a direct
-computation, and the command."""
+"""The best seven days: the cases of the request, refusals and their order, random runs beside a
+direct computation, and the command."""
 
 import os
 import random
@@ -79,9 +79,9 @@ class Runs(Calls):
         back = run_bytes([(5, 0, 0), (4, 0, 0)])
         longest = run_bytes(days(0, 1, *[0] * MOST))
         self.assertEqual(answer(longest), (0, 1, -7, 0))
-        refusals = [(20, week[:15]), (20, b"\0"), (20, week + b"\0" * 15), (20, longest + week[:16]),
-                    (20, b"\0" * 65552), (21, twice), (21, back), (21, run_bytes([(5, 1, 1)] * 2)),
-                    (20, twice + b"\0"), (21, b"\0" * 32), (21, b"\0" * 65536)]
+        refusals = [(20, week[:15]), (20, b"\0"), (20, week + b"\0" * 15), (20, b"\0" * 65552),
+                    (20, longest + week[:16]), (20, twice + b"\0"), (21, twice), (21, back),
+                    (21, run_bytes([(5, 1, 1)] * 2)), (21, b"\0" * 32), (21, b"\0" * 65536)]
         for place in range(8, 16):
             spoiled = bytearray(twice)
             spoiled[-16 + place] = 1
@@ -140,6 +140,7 @@ class Command(Calls):
         self.assertEqual(self.week(text, "-q")[0], "-14 0\n")
         self.assertEqual(self.week("")[0], "no 7 consecutive days among 0 days\n")
         self.assertEqual(self.week("1 2 3\n", "--quiet")[0], "none\n")
+        self.assertEqual(self.week('"Day";"Par";"Moves"\n1;2;3;\n', "-q")[0], "none\n")
         again = "".join(f"{i} 0 {moves}\n" for i, moves in enumerate((5, 5, 5, 5, 5, 5, 5, 1, 9)))
         self.assertEqual(self.week(again)[0], "days 1 to 7: total 31 (moves 31, par 0)\n")
 
@@ -157,6 +158,7 @@ class Command(Calls):
         for text, wanted in (
             ("1 2\n", "line 1: a line has a day, its par and the moves, and this has 2 words"),
             ("1 2 3 4\n", "this has 4 words"),
+            ("1, , 3\n", "this has 2 words"),
             ("\n1 2 x\n", "line 2: moves is a number from 0 to 65535, not 'x'"),
             ("4294967296 2 3\n", "day is a number from 0 to 4294967295, not '4294967296'"),
             ("1 65536 3\n", "par is a number from 0 to 65535"),

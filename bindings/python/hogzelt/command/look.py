@@ -16,9 +16,7 @@ from ..tokens import MOST_VARIABLES, BadWord, literal_value, located, variable_n
 from .files import write_whole
 from .options import Options, Usage
 from .report import name_of, variables_of
-from .source import (
-    Given, read_bytes, read_given, read_parsed, read_sheet, refusing, run, sort_of,
-)
+from .source import Given, read_file, read_given, read_parsed, read_sheet, refusing, run
 
 ASSIGNING = re.compile(r"\s*[A-Za-z_][0-9A-Za-z_]*\s*=(?!=)")
 ASSIGNMENT = re.compile(r"\s*([A-Za-z_][0-9A-Za-z_]*)\s*=\s*(-?)\s*(\S+)\s*")
@@ -86,14 +84,7 @@ def columns(options: Options) -> int:
 
 def show(options: Options) -> int:
     """A tangle, a sheet, a text or what par printed, for people."""
-    words, named = options.words, options.get("file")
-    if len(words) + (named is not None) > 1:
-        raise Usage("one file at a time (hogzelt show --help)")
-    if not words and named is None and sys.stdin.isatty():
-        raise Usage("say which file to show (hogzelt show --help)")
-    name = named or (words[0] if words else "-")
-    data = read_bytes(name)
-    given = Given(sort_of(data), "standard input" if name == "-" else name, data)
+    given = read_file(options, "show")
     try:
         lines = shown(given, options)
     except Fault as bad:

@@ -89,6 +89,18 @@ def read_given(options: Options, command: str) -> Given:
     return Given("text", None, words[0].encode("utf-8", "surrogateescape"))
 
 
+def read_file(options: Options, command: str) -> Given:
+    """The one file that a command is given, by itself or by -f, or standard input."""
+    words, named = options.words, options.get("file")
+    if len(words) + (named is not None) > 1:
+        raise Usage(f"one file at a time (hogzelt {command} --help)")
+    if not words and named is None and sys.stdin.isatty():
+        raise Usage(f"say which file to read (hogzelt {command} --help)")
+    name = named or (words[0] if words else "-")
+    data = read_bytes(name)
+    return Given(sort_of(data), "standard input" if name == "-" else name, data)
+
+
 def read_bytes(name: str) -> bytes:
     if name == "-":
         return sys.stdin.buffer.read()

@@ -166,11 +166,11 @@ Examples:
     "week": """\
 usage: hogzelt week [-q] [-o FILE] [FILE]             FILE may be - for standard input
 
-Prints the seven neighbouring days with the lowest total of moves minus par, the earliest where some
-have the same total. FILE is text, a line for each day that was played: the day's number, its par and
-the moves, with blanks, tabs or commas between. Blank lines, lines that begin with # and a first line
-of names (day, par, moves) are left out. The days must rise; there are at most 4,096. The bytes of a
-run, 16 for each day, are taken too.
+Prints the seven consecutive days with the lowest total of moves minus par, the earliest where some
+have the same total. FILE is text, a line for each day that was played: the number of the day, its
+par and the moves, with blanks, tabs, commas or semicolons between. Blank lines, lines that begin
+with # and a first line of names (day, par, moves) are left out. The days must rise, and there are
+at most 4,096. The bytes of a run, 16 for each day, are taken too.
 
   -q, --quiet         print only the total and the first day, or none
   -o, --output FILE   also write the run's bytes to FILE; one that is there is replaced

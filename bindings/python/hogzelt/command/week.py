@@ -3,7 +3,6 @@
 from __future__ import annotations
 
 import re
-import sys
 from typing import Sequence
 
 from ..calls import Refused
@@ -13,15 +12,15 @@ from ..week import (
     MOST_DAY, MOST_MOVES, WEEK_DAYS, Played, Week, best_week, explain_run, read_run, run_bytes,
 )
 from .files import write_whole
-from .options import Options, Usage
-from .source import Given, read_bytes
+from .options import Options
+from .source import Given, read_file
 
 FIELDS = (("day", MOST_DAY), ("par", MOST_MOVES), ("moves", MOST_MOVES))
 
 
 def week(options: Options) -> int:
     """The best week of a text, a line for each day, or of the bytes of a run."""
-    given = read_run_source(options)
+    given = read_file(options, "week")
     if b"\0" in given.data:
         data, lines = given.data, None
     else:
@@ -33,27 +32,17 @@ def week(options: Options) -> int:
         raise Fault(f"{given.label}{refusal_text(bad.number, data, lines)}") from None
     output = options.get("output")
     if output:
-        write_whole(output, data, options.get("file") or (options.words or [None])[0])
+        write_whole(output, data, given.name)
     print(quiet_text(found) if "quiet" in options else week_text(found, read_run(data)))
     return 0
-
-
-def read_run_source(options: Options) -> Given:
-    words, named = options.words, options.get("file")
-    if len(words) + (named is not None) > 1:
-        raise Usage("one file at a time (hogzelt week --help)")
-    if not words and named is None and sys.stdin.isatty():
-        raise Usage("say which file has the days (hogzelt week --help)")
-    name = named or (words[0] if words else "-")
-    return Given("run", "standard input" if name == "-" else name, read_bytes(name))
 
 
 def read_lines(given: Given) -> tuple[list[Played], list[int]]:
     """The days of a text, and the number of the line of each."""
     played, lines = [], []
     for number, line in enumerate(given.text.splitlines(), 1):
-        words = re.split(r"[\s,;]+", line.strip())
-        if words == [""] or line.lstrip().startswith("#") or is_heading(words, played):
+        words = re.findall(r"[^\s,;]+", line)
+        if not line.strip() or line.lstrip().startswith("#") or is_heading(words, played):
             continue
         try:
             played.append(read_words(words))
@@ -65,12 +54,14 @@ def read_lines(given: Given) -> tuple[list[Played], list[int]]:
 
 def is_heading(words: Sequence[str], played: Sequence[Played]) -> bool:
     """The names of the columns, before the first day."""
-    return not played and [word.strip('"').lower() for word in words] == [name for name, _ in FIELDS]
+    names = [word.strip('"').lower() for word in words]
+    return not played and names == [name for name, _ in FIELDS]
 
 
 def read_words(words: Sequence[str]) -> Played:
     if len(words) != len(FIELDS):
-        raise Fault(f"a line has a day, its par and the moves, and this has {counted(len(words), 'word')}")
+        found = counted(len(words), "word")
+        raise Fault(f"a line has a day, its par and the moves, and this has {found}")
     return Played(*(read_number(word, *field) for word, field in zip(words, FIELDS)))
 
 
