@@ -12,8 +12,8 @@ from .records import RECORD, RECORD_POWER
 
 WEEK_DAYS = 7
 MOST_RECORDS = 4096
-MOST_DAY = 2**32 - 1
-MOST_MOVES = 2**16 - 1
+# what a record holds, each with the greatest number that it can be
+FIELDS = (("day", 2**32 - 1), ("par", 2**16 - 1), ("moves", 2**16 - 1))
 PACKED = struct.Struct("<IHH8x")
 
 
@@ -34,16 +34,14 @@ class Week(NamedTuple):
 
 def run_bytes(played: Iterable[tuple[int, int, int]]) -> bytes:
     """The bytes of a run: 16 for each day, with its par and moves."""
-    return b"".join(record_bytes(*each) for each in played)
+    return b"".join(played_bytes(Played(*each)) for each in played)
 
 
-def record_bytes(day: int, par: int, moves: int) -> bytes:
-    for name, number, most in (
-        ("day", day, MOST_DAY), ("par", par, MOST_MOVES), ("moves", moves, MOST_MOVES),
-    ):
+def played_bytes(played: Played) -> bytes:
+    for number, (name, most) in zip(played, FIELDS):
         if not 0 <= number <= most:
             raise ValueError(f"{name} is a number from 0 to {most}, not {number}")
-    return PACKED.pack(day, par, moves)
+    return PACKED.pack(*played)
 
 
 def read_run(data: bytes) -> list[Played]:

@@ -8,14 +8,10 @@ from typing import Sequence
 from ..calls import Refused
 from ..records import Fault
 from ..show import counted
-from ..week import (
-    MOST_DAY, MOST_MOVES, WEEK_DAYS, Played, Week, best_week, explain_run, read_run, run_bytes,
-)
+from ..week import FIELDS, WEEK_DAYS, Played, Week, best_week, explain_run, read_run, run_bytes
 from .files import write_whole
 from .options import Options
 from .source import Given, read_file
-
-FIELDS = (("day", MOST_DAY), ("par", MOST_MOVES), ("moves", MOST_MOVES))
 
 
 def week(options: Options) -> int:
