@@ -19,7 +19,7 @@ use Rattle.expr.specs.Value.{unary, binary, value}
 use Rattle.expr.specs.Vars.{nextVar, supportF, support, sameVars}
 use Rattle.truth.specs.Key.{isPure, sameTable}
 use Rattle.truth.specs.Truth.{hasShift, bitBinary, bitOf, rowBits, tableF, table}
-use Rattle.decompose.specs.Decompose.{decomposeAnd, decomposeAtom}
+use Rattle.decompose.specs.Decompose.{underMask, decomposeAnd, decomposeAtom}
 use Rattle.semilinear.specs.Form.{termCount, atomBytes, atomsBytes, termBytes, termsBytes, sumBytes, encodeForm}
 use Rattle.semilinear.specs.Form.{eqTree, treeRecords, fitsTable}
 use Rattle.semilinear.specs.Items.{frontKind, provenance, frontNumber, frontWidth, frontSpare, frontWord}
@@ -66,6 +66,7 @@ use Rattle.claims.specs.Calls.{passGives, useOf, afterCall, inUse}
 use Rattle.claims.specs.Example.{sameOutcome, allHold}
 use Rattle.claims.specs.Examples.{starred, tricky}
 use Rattle.claims.specs.Slips.{slips}
+use Rattle.claims.specs.Masks.{masks}
 use Rattle.claims.specs.Wide.{wideNormal, widePasses, wide}
 use Rattle.claims.specs.OnBytes.{onBytes, savedHeads, pastByte, writtenSums, refusals, orders}
 
@@ -73,7 +74,7 @@ use Rattle.claims.specs.OnBytes.{onBytes, savedHeads, pastByte, writtenS
 opened : Unit {0}
 unfolding trailingZeros onesIn bitAt effectiveMask reduceMask canChangeCoefficientTo bitmask modAdd modSub
     modMul modNeg eqList sizeOf recordBytes variableBytes encode mixHash tagHash varHash structuralHash hasKind isArith
-    hasArith unary binary value nextVar supportF support sameVars decomposeAnd decomposeAtom
+    hasArith unary binary value nextVar supportF support sameVars underMask decomposeAnd decomposeAtom
     termCount atomBytes atomsBytes termBytes termsBytes sumBytes encodeForm eqTree treeRecords fitsTable at putEntry
     emptyGroup pushEntry isLive consumed work onGroup createRow maskedTree createMasked viewRow anyBasis variableBasis
     insertBasis basesOf groupOf ungrouped addCoeff settleAt settle turnsF forIn firstF firstIn formOutcome limitOutcome
@@ -101,6 +102,10 @@ tricky-hold = refl
 slips-hold : allHold slips ≡ true
 unfolding opened slips
 slips-hold = refl
+
+masks-hold : allHold masks ≡ true
+unfolding opened masks
+masks-hold = refl
 
 wide-hold : allHold wide ≡ true
 unfolding opened wideNormal widePasses wide

@@ -18,9 +18,9 @@ refines l m = pass refineForm (form 8 0 l) (form 8 0 m)
 abbrev coalesces : List Row → List Row → Example
 coalesces l m = pass coalesceForm (form 8 0 l) (form 8 0 m)
 
--- c·((a & 60) & 15), c·(a ^ 15), and (a ^ b) & m
-abbrev twice : ℕ → Row
-twice c = row (mask (mask a 60) 15) c
+-- c·(~a & 15), c·(a ^ 15), and (a ^ b) & m
+abbrev not& : ℕ → Row
+not& c = row (mask (Unary 7 0 a) 15) c
 
 abbrev a^15 : ℕ → Row
 a^15 c = row (Binary 6 a (Constant 15)) c
@@ -36,7 +36,7 @@ andTo (suc n) = Binary 4 (andTo n) (Variable (suc n))
 unfoldable pub slips : List Example
 slips =
     -- flattening: a masked basis that is no variable is not plain
-    flat (form 8 0 (twice 1 ∷ [])) (form 8 0 (twice 0 ∷ term 12 1 ∷ [])) true
+    flat (form 8 0 (not& 1 ∷ [])) (form 8 15 (not& 0 ∷ term 15 255 ∷ [])) true
     -- the bits passed come before the bits inverted, and both atoms are And's
     ∷ flat (form 8 0 (a^15 1 ∷ [])) (form 8 15 (a^15 0 ∷ term 240 1 ∷ term 15 255 ∷ [])) true
     -- a variable is not flattened, and the flag stays 0; so it is with an atom that has no term

@@ -16,6 +16,7 @@ ghost use lib.Bits.{bitAnd};
 ghost use Rattle.base.specs.Put.{padded};
 ghost use Rattle.record.specs.Span.{sized};
 ghost use Rattle.record.specs.Decode.{decode};
+ghost use Rattle.expr_utils.specs.Utils.{hasVarDep};
 ghost use Rattle.expr.specs.Vars.{nextVar};
 ghost use Rattle.semilinear.specs.Items.{afterAtoms};
 ghost use Rattle.semilinear.specs.Valid.{isSemilinear};
@@ -29,9 +30,9 @@ ghost use Rattle.flatten.specs.Flattening.{VariableReady, RowReady, Fron
 ghost use Rattle.flatten.specs.Flattening.{RowFlattened, RowsFlattened};
 ghost use Rattle.base.specs.Limits.{formBytes};
 
-// Whether the tree of t is a variable, or a variable under a mask.
+// Whether the tree of t, which has a variable, is a variable or a variable under masks.
 fn is_plain(t: &[u8], w: u32) -> bool
-    requires { ⌜ (sized (now t) ≡ true) × (w ≤ 64) ⌝ }
+    requires { ⌜ (sized (now t) ≡ true) × (w ≤ 64) × (hasVarDep (decode (now t)) ≡ true) ⌝ }
     ensures { λ r. ⌜ r ≡ isPlain w (decode (now (t .entry))) ⌝ }
 {
     let found = decompose::decompose_atom(t, w);
@@ -43,9 +44,9 @@ fn is_plain(t: &[u8], w: u32) -> bool
     record::kind(&t[start..end]) == 1
 }
 
-// Whether the tree of t has one variable, is not plain and has no Shr.
+// Whether the tree of t, which has a variable, has one alone, is not plain and has no Shr.
 fn is_complex(t: &[u8], w: u32) -> bool
-    requires { ⌜ (sized (now t) ≡ true) × (w ≤ 64) ⌝ }
+    requires { ⌜ (sized (now t) ≡ true) × (w ≤ 64) × (hasVarDep (decode (now t)) ≡ true) ⌝ }
     ensures { λ r. ⌜ r ≡ complexTree w (decode (now (t .entry))) ⌝ }
 {
     if is_plain(t, w) {

@@ -125,6 +125,9 @@ module _ (w : ℕ) (r : List ℕ) (ok : atomsOk w r ≡ true) (e : isAtom r ≡ 
   pub first-tree-sized : sized (treeSpan r) ≡ true
   first-tree-sized = sized-accepted w (treeSpan r) (atom-parts w r first-atom-ok .accepted)
 
+  pub first-tree-variable : hasVarDep (decode (treeSpan r)) ≡ true
+  first-tree-variable = and-true _ _ (atom-parts w r first-atom-ok .bitwise) .0
+
 -- ---- the term at the front
 
 pub record TermParts (w n next : ℕ) (q : List ℕ) : Type 0 where

@@ -12,6 +12,7 @@ use Rattle.record.specs.Tree.{Tree}
 use Rattle.record.specs.Decode.{decode}
 use Rattle.base.proofs.PutLaws.{length-put, put-then, put-padded-at}
 use Rattle.expr_refusal.specs.Refusal.{treeRefusal}
+use Rattle.expr_utils.specs.Utils.{hasVarDep}
 use Rattle.semilinear.specs.Form.{Row}
 use Rattle.semilinear.specs.Items.{isAtom, frontNumber, atomLength, treeSpan, afterAtom, afterAtoms, atomCount}
 use Rattle.semilinear.specs.Valid.{atomsOk}
@@ -19,7 +20,7 @@ use Rattle.semilinear.specs.DecodeForm.{hasTerm, coeffAt, afterTerm, rowAt, rea
 use Rattle.semilinear.specs.Scan.{AtomsEnd}
 use Rattle.semilinear.proofs.ItemsLaws.{fold-atom, fold-done, atoms-ind}
 use Rattle.semilinear.proofs.RetiredLaws.{read-rows-atom, read-rows-end}
-use Rattle.semilinear.proofs.ValidLaws.{atom-parts, first-atom-ok, later-atoms-ok}
+use Rattle.semilinear.proofs.ValidLaws.{atom-parts, first-atom-ok, later-atoms-ok, first-tree-variable}
 use Rattle.atom_table.specs.Terms.{coeffsOf}
 use Rattle.views.specs.declared.View.{View}
 use Rattle.views.specs.declared.Reading.{Reading}
@@ -47,6 +48,10 @@ module _ (w : ℕ) (f : List ℕ) (at : ℕ) {r : List ℕ} (er : r ≡ drop at 
   pub tree-accepted : isAtom (drop at f) ≡ true → atomsOk w (drop at f) ≡ true
       → treeRefusal w (take (at + n - (at + 16)) (drop (at + 16) f)) ≡ 0
   tree-accepted e ok = rw (← tree-place) (atom-parts w (drop at f) (first-atom-ok w (drop at f) ok e) .accepted)
+
+  pub tree-variable : isAtom (drop at f) ≡ true → atomsOk w (drop at f) ≡ true
+      → hasVarDep (decode (take (at + n - (at + 16)) (drop (at + 16) f))) ≡ true
+  tree-variable e ok = rw (← tree-place) (first-tree-variable w (drop at f) ok e)
 
   pub row-tree : (i : ℕ) (q : List ℕ) → readRow i (drop at f) q .tree ≡ decode
       (take (at + n - (at + 16)) (drop (at + 16) f))

@@ -13,6 +13,7 @@ use Rattle.record.specs.Tree.{Tree}
 use Rattle.record.specs.Tree.Tree.{Constant}
 use Rattle.record.specs.Decode.{decode}
 use Rattle.expr_refusal.specs.Refusal.{treeRefusal}
+use Rattle.expr_utils.specs.Utils.{hasVarDep}
 use Rattle.semilinear.specs.Form.{Row, newRow}
 use Rattle.semilinear.specs.Items.{atomCount}
 use Rattle.semilinear.specs.Valid.{atomsOk}
@@ -89,12 +90,13 @@ pub record Views (only : Tree → Bool) (w : ℕ) (f views : List ℕ) (rows : L
 
 -- ---- reading
 
--- the part of f from `from` to `to` is a tree that no refusal is about
+-- the part of f from `from` to `to` is a tree that no refusal is about, with a variable
 pub record ViewReady (w : ℕ) (f : List ℕ) (from to : ℕ) : Type 0 where
   pub width : w ≤ 64
   pub from-le : from ≤ to
   pub to-le : to ≤ length f
   pub accepted : treeRefusal w (take (to - from) (drop from f)) ≡ 0
+  pub variable : hasVarDep (decode (take (to - from) (drop from f))) ≡ true
 
 -- x is before an atom, and there is room for the row's view and coefficient
 pub record ReadReady (w : ℕ) (f : List ℕ) (x : Reading) (views coeffs : List ℕ) : Type 0 where

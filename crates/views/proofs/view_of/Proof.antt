@@ -31,7 +31,7 @@ part-decompose-atom-end c = search needs
 decompose-atom-requires : tie.Need-decompose-atom-requires
 decompose-atom-requires c κs =
     let at-start = c .before .before .before in
-    (sized-accepted _ _ (at-start .pre .accepted), at-start .pre .width)
+    (sized-accepted _ _ (at-start .pre .accepted), at-start .pre .width, at-start .pre .variable)
 
 no-view-requires-2 : tie.Need-no-view-requires-2
 no-view-requires-2 c κs = search needs

@@ -6,7 +6,7 @@ use denote.Ref.{now}
 use Rattle.record.proofs.BytesLaws.{bytes-drop}
 use Rattle.semilinear.specs.Items.{treeSpan}
 use Rattle.semilinear.proofs.ItemsLaws.{term-big, has-term-is}
-use Rattle.semilinear.proofs.ValidLaws.{first-atom-ok, first-tree-sized}
+use Rattle.semilinear.proofs.ValidLaws.{first-atom-ok, first-tree-sized, first-tree-variable}
 use Rattle.flatten.proofs.FlatTurnLaws.{complex-index, turn-none, turn-put, turn-flat}
 use borrow.Author.Needs.{needs}
 use Rattle.flatten.proofs.Flattening.flatten_row.Statement.{statement}
@@ -57,6 +57,8 @@ is-complex-requires c κs =
       rw (c .tree-span .ensures, at-rest .rest-from .ensures)
           (first-tree-sized (at-start .args .w) _ (at-start .pre .row .atoms-ok) (at-start .pre .row .atom)),
       at-start .pre .row .width,
+      rw (c .tree-span .ensures, at-rest .rest-from .ensures)
+          (first-tree-variable (at-start .args .w) _ (at-start .pre .row .atoms-ok) (at-start .pre .row .atom)),
     )
 
 flatten-atom-requires : tie.Need-flatten-atom-requires

@@ -9,7 +9,7 @@ use Rattle.semilinear_value.proofs.SumLaws.{passed-without, passed-with, coeff-
 use Rattle.views.specs.Views.{keptOf}
 use Rattle.views.proofs.ViewLaws.{view-none}
 use Rattle.views.proofs.ViewsLaws.{viewed-none}
-use Rattle.views.proofs.ReadLaws.{tree-accepted, row-tree, row-coeff-none, row-coeff, kept-none}
+use Rattle.views.proofs.ReadLaws.{tree-accepted, tree-variable, row-tree, row-coeff-none, row-coeff, kept-none}
 use borrow.Author.Needs.{needs}
 use Rattle.views.proofs.Reading.read_row.Statement.{statement}
 use Rattle.views.proofs.Reading.read_row.Tie as tie
@@ -100,6 +100,8 @@ view-of-requires c κs =
         a .pre .row .inside,
       );
       accepted = tree-accepted (a .args .w) (now (a .args .f)) (a .args .self .at) er en (a .pre .row .atom)
+          (a .pre .row .atoms-ok);
+      variable = tree-variable (a .args .w) (now (a .args .f)) (a .args .self .at) er en (a .pre .row .atom)
           (a .pre .row .atoms-ok);
     }
 
