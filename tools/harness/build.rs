@@ -1,12 +1,13 @@
 //! Writes the module file that compiles the published Rust sources where they stand, below the
 //! directory named by COBRA_SRC, with the stand-ins of this package beside them, and then again in
 //! two builds with edited text (edits.rs): `sorted`, whose maps are sorted, and `parted`, which also
-//! has document 01's partings and difference 8. Edited files stand in OUT_DIR.
+//! has document 01's partings and differences 8 and 9. Edited files stand in OUT_DIR.
 
 mod edits;
 
 use edits::{
-    Edit, CALLED, DIFFERENCE_8, EDITED, PARTING_1, PARTING_2, PARTING_3, PARTING_5, SORTED_MAPS,
+    Edit, CALLED, DIFFERENCE_8, DIFFERENCE_9, EDITED, PARTING_1, PARTING_2, PARTING_3, PARTING_5,
+    SORTED_MAPS,
 };
 use std::env;
 use std::fs;
@@ -55,13 +56,14 @@ fn main() {
     let out = PathBuf::from(variable("OUT_DIR"));
     let mut text = module_file(&sources, &package.join("standins"));
     text += &edited_build("sorted", &[&SORTED_MAPS], &[], &sources, &package, &out);
-    let edits: [&[Edit]; 6] = [
+    let edits: [&[Edit]; 7] = [
         &SORTED_MAPS,
         &PARTING_1,
         &PARTING_2,
         &PARTING_3,
         &PARTING_5,
         &DIFFERENCE_8,
+        &DIFFERENCE_9,
     ];
     text += &edited_build("parted", &edits, &CALLED, &sources, &package, &out);
     write(&out.join("published.rs"), &text);

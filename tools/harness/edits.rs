@@ -1,6 +1,6 @@
 //! The edits of the published text that make its two other builds: sorted maps, and on top of them
-//! document 01's partings and difference 8 of docs/DIFFERENCES.md. An edit replaces a text everywhere
-//! in its file.
+//! document 01's partings and differences 8 and 9 of docs/DIFFERENCES.md. An edit replaces a text
+//! everywhere in its file.
 
 /// A file that is edited: the module that it stands in, its folder and its name.
 pub struct File {
@@ -133,4 +133,20 @@ pub const DIFFERENCE_8: [Edit; 1] = [edit(
     "        _ if crate::parted::ir::partings::held(8) => {\n            \
          eval_constant_arith(expr, mask, mask.count_ones())\n        }\n        \
          _ => 0,\n",
+)];
+
+/// Difference 9: the split of an atom goes on while the basis is an And with one variable-free side.
+pub const DIFFERENCE_9: [Edit; 1] = [edit(
+    "semilinear",
+    "-> Decomposed<'_> {\n    let atom = &*info.original_subtree;\n",
+    "-> Decomposed<'_> {\n    \
+     let mut found = decompose_step(&info.original_subtree, modmask);\n    \
+     while crate::parted::ir::partings::held(9) {\n        \
+     let Some(basis) = found.basis.filter(|basis| matches!(basis.kind, Kind::And)) else {\n            \
+     break;\n        };\n        \
+     let next = decompose_step(basis, modmask);\n        \
+     if !next.valid {\n            break;\n        }\n        \
+     found = Decomposed {\n            mask: found.mask & next.mask,\n            ..next\n        };\n    }\n    \
+     found\n}\n\n\
+     fn decompose_step(atom: &Expr, modmask: u64) -> Decomposed<'_> {\n",
 )];

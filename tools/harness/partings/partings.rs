@@ -1,22 +1,22 @@
-//! Which of partings 1 to 3 hold in the passes of the build that has them all, and whether difference
-//! 8 holds in its normaliser. Each can be let go, so that a difference from the published answers can
-//! be named by those that it needs.
+//! Which of partings 1 to 3 and difference 9 hold in the passes of the build that has them all, and
+//! whether difference 8 holds in its normaliser. Each can be let go, so that a difference from the
+//! published answers can be named by those that it needs.
 
 use std::cell::Cell;
 
-/// The set of partings 1 to 3: bit n for parting n.
-pub const ALL: u8 = 0b1110;
+/// The set of partings 1 to 3 and difference 9: bit n for number n.
+pub const ALL: u16 = 0b10_0000_1110;
 
 /// Difference 8, beside them.
 const SUMS: u16 = 1 << 8;
 
 thread_local! {
-    static HELD: Cell<u16> = const { Cell::new(ALL as u16 | SUMS) };
+    static HELD: Cell<u16> = const { Cell::new(ALL | SUMS) };
 }
 
 /// What `work` gives where just the partings of the set hold, and difference 8 does not.
-pub fn with<T>(set: u8, work: impl FnOnce() -> T) -> T {
-    let before = HELD.replace(set.into());
+pub fn with<T>(set: u16, work: impl FnOnce() -> T) -> T {
+    let before = HELD.replace(set);
     let result = work();
     HELD.set(before);
     result

@@ -10,8 +10,11 @@ use crate::bench_forms;
 use crate::bench_inputs::{self, Class};
 use crate::columns::RESULT_WORDS;
 use crate::form::{ATOM, HEAD_BYTE, RESULT_BYTES};
-use crate::pass::PASSES;
+use crate::list;
+use crate::list_cases;
+use crate::pass::{self, PASSES};
 use crate::record::RECORD_BYTES;
+use crate::written::Written;
 
 type Valuer = unsafe extern "C" fn(*const u8, usize, *const u64, usize, *mut u64) -> u64;
 type Writer = unsafe extern "C" fn(*const u8, usize, *mut u8, usize, *mut u64, *mut u64) -> u64;
@@ -80,10 +83,22 @@ pub fn run(words: &[&str]) -> Result<(), String> {
     let handles: Result<Vec<_>, _> = names.iter().map(|name| open(name)).collect();
     let subjects = subjects(&handles?)?;
     let room = &mut Room::new();
+    let mut others = 0;
     for subject in &subjects {
-        subject.compare(split, room)?;
+        let count = subject.compare(split, room)?;
+        if count > 0 {
+            let (function, class) = (subject.function, subject.class.name);
+            println!("{function}, {class}: other answers than before: {count}");
+        }
+        others += count;
     }
-    println!("The answers are the same. A time is that of one call, the mean over the inputs.\n");
+    match others {
+        0 => println!("The answers are the same."),
+        _ => println!(
+            "All other answers are the same, and these are the Rust's with the differences."
+        ),
+    }
+    println!("A time is that of one call, the mean over the inputs.\n");
     println!("| Function | Input | before, µs | after, µs | after / before | worst input | places before | places after |");
     println!("|---|---|---|---|---|---|---|---|");
     let each = Duration::from_secs(seconds.into()) / subjects.len() as u32;
@@ -215,19 +230,44 @@ impl Room {
 }
 
 impl Subject {
-    /// The first object of each archive gives the same answers, those before with new heads.
-    fn compare(&self, split: usize, room: &mut Room) -> Result<(), String> {
+    /// How many answers of the first object after are others than before, those before with new heads.
+    /// Such an answer must be the one that is wanted.
+    fn compare(&self, split: usize, room: &mut Room) -> Result<usize, String> {
+        let mut others = 0;
         for file in &self.class.files {
             let mut before = room.answer(self.entries[0], file);
             renew_heads(&mut before.2);
-            if before != room.answer(self.entries[split], file) {
+            let after = room.answer(self.entries[split], file);
+            if before == after {
+                continue;
+            }
+            let (refusal, [used, terms, _], out, _) = after;
+            let given = |wanted: Written| {
+                [wanted.refusal, wanted.used, wanted.terms] == [refusal, used, terms]
+                    && wanted.out == out
+            };
+            if !self.wanted(file, room).is_some_and(given) {
                 return Err(format!(
                     "{}, {}: the answers differ",
                     self.function, self.class.name
                 ));
             }
+            others += 1;
         }
-        Ok(())
+        Ok(others)
+    }
+
+    /// What the Rust with the differences gives, where the function is a pass or runs a list of them.
+    fn wanted(&self, file: &[u8], room: &Room) -> Option<Written> {
+        let mut passes = PASSES.into_iter();
+        match passes.find(|pass| pass.name() == self.function) {
+            Some(pass) => Some(pass::answer(pass, file, RESULT_BYTES)),
+            None if self.function == "run_passes" => {
+                let case = list_cases::case(file.to_vec(), room.calls.clone());
+                Some(list::answer(&case).written)
+            }
+            None => None,
+        }
     }
 
     /// A row of the table, measured for at least `each`.

@@ -2,7 +2,7 @@
 //! that of the published sources as they stand, and the two with edited text (build.rs).
 
 use super::ir::semilinear::{
-    compact_atom_table, create_atom, OperatorFamily, SemilinearIR, WeightedAtom,
+    compact_atom_table, create_atom, decompose_atom, OperatorFamily, SemilinearIR, WeightedAtom,
 };
 use super::ir::semilinear_normalizer::normalize_to_semilinear;
 use super::ir::structure_recovery::{coalesce_terms, flatten_complex_atoms, recover_structure};
@@ -13,7 +13,7 @@ use crate::core::result::CobraError;
 use crate::form::{Atom, Form, Term, HEAD_BYTE};
 use crate::pass::{Pass, Passed};
 use crate::published::{byte, expr, records};
-use crate::record::Record;
+use crate::record::{Record, Records};
 use crate::refusal::NONLINEAR;
 
 /// The Rust's form of a valid one, its atoms made by `create_atom`.
@@ -93,4 +93,17 @@ pub fn normalized(records: &[Record]) -> Result<Form, u64> {
         Err(error) if error.code == CobraError::NonLinearInput => Err(NONLINEAR),
         Err(error) => Err(error.message.parse().expect("a refusal's number")),
     }
+}
+
+/// `decompose_atom` of a bitwise tree: basis and mask, where it has them.
+#[cfg_attr(not(test), allow(dead_code))]
+pub fn split(tree: &[Record]) -> Option<(Records, u64)> {
+    let mut ir = SemilinearIR {
+        bitwidth: u32::from(tree[0].width),
+        ..SemilinearIR::default()
+    };
+    create_atom(&mut ir, expr(tree), OperatorFamily::Mixed);
+    let found = decompose_atom(&ir.atom_table[0], u64::MAX >> (64 - tree[0].width));
+    let basis = found.basis.filter(|_| found.valid)?;
+    Some((records(basis, tree[0].width), found.mask))
 }

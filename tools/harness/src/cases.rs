@@ -15,7 +15,7 @@ use crate::record::{
 };
 use crate::{
     edges, form_edges, form_limits, form_random, list, list_cases, masks, normal_cases,
-    number_cases, pass_cases, published, sum_cases,
+    number_cases, pass_cases, published, stacked_cases, sum_cases,
 };
 
 /// The seed of the vector file: the letters of "hogzelt".
@@ -24,6 +24,8 @@ pub const SEED: u64 = 0x0068_6F67_7A65_6C74;
 pub const NUMBER_SEED: u64 = 20;
 /// The same for numbers that are written as sums.
 const SUM_SEED: u64 = 40;
+/// The same for masks upon masks.
+const STACKED_SEED: u64 = 60;
 
 const RANDOM_TREES: usize = 700;
 const RANDOM_ALL_KINDS: usize = 200;
@@ -70,6 +72,13 @@ pub fn entries() -> Vec<Entry> {
         all.extend(normal_entries(rng, family));
     }
     for family in &sum_cases::LISTS {
+        all.extend(list_entries(rng, family));
+    }
+    let rng = &mut Prng::new(SEED + STACKED_SEED);
+    for family in &stacked_cases::FORMS {
+        all.extend(pass_entries(rng, family));
+    }
+    for family in &stacked_cases::LISTS {
         all.extend(list_entries(rng, family));
     }
     all

@@ -15,6 +15,7 @@ use crate::numbers;
 use crate::pass::PASSES;
 use crate::prng::Prng;
 use crate::refusal::{OF_LISTS, RESULT_LENGTH, TABLE_FULL};
+use crate::stacked_cases;
 use crate::sum_cases;
 use crate::written::Written;
 
@@ -88,7 +89,8 @@ pub fn run() -> Result<(), String> {
     let mut faults = Differences::none(&[]);
     println!("{HEAD}");
     let families = FAMILIES.iter().chain(&number_cases::LISTS);
-    for family in families.chain(&sum_cases::LISTS) {
+    let families = families.chain(&sum_cases::LISTS);
+    for family in families.chain(&stacked_cases::LISTS) {
         let mut counts = Counts::default();
         for case in (family.make)(rng, family.compared) {
             let wanted = list::answer(&case);

@@ -5,6 +5,7 @@ use crate::library_forms::run_into;
 use crate::list::{self, words, Case};
 use crate::measure::stack_used;
 use crate::normal_limits::chain;
+use crate::normal_stack::over_not;
 use crate::pass::PASSES;
 use crate::record::{
     balanced, binary, bytes, literal, nested, variable, Records, ADD, AND, MAX_RECORDS, NOT, XOR,
@@ -61,6 +62,7 @@ fn shapes() -> Vec<(&'static str, Records)> {
     vec![
         ("one leaf", leaf(0)),
         ("nested Not", nested(&[NOT], MAX_RECORDS - 1, leaf(0))),
+        ("left chain of Add over ~5", over_not()),
         ("128 entries of a group", balanced(ADD, 0, 128, &atom)),
         ("54 nested Xor", chain(leaf(0), &[XOR], 54, mask)),
     ]

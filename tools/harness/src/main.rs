@@ -88,6 +88,9 @@ mod refusal;
 mod slip_tests;
 #[cfg(feature = "library")]
 mod stack;
+mod stacked_cases;
+#[cfg(test)]
+mod stacked_tests;
 mod sum_cases;
 #[cfg(test)]
 mod sum_tests;

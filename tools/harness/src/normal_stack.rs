@@ -70,6 +70,14 @@ pub fn times() -> Result<(), String> {
     Ok(())
 }
 
+/// `~5 + v1 + v1 + ..`, as long as a file may be.
+pub fn over_not() -> Records {
+    left_chain(ADD, 512, |i| match i {
+        0 => unary(NOT, 0, literal(64, 5)),
+        _ => variable(64, 1),
+    })
+}
+
 fn shapes() -> Vec<(&'static str, Records)> {
     let leaf = |i: usize| variable(64, i as u16 % 256);
     let five = |i: usize| variable(64, i as u16 % 256 % 5);
@@ -100,6 +108,7 @@ fn shapes() -> Vec<(&'static str, Records)> {
             }),
         ),
         ("left chain of Add", left_chain(ADD, 512, leaf)),
+        ("left chain of Add over ~5", over_not()),
         ("right chain of Add", right_chain(ADD, 512, leaf)),
         (
             "Neg and Add by turns, left",

@@ -44,10 +44,10 @@ pub struct Passed {
     pub flattened: bool,
 }
 
-/// A set of partings: bit n for parting n. Those that a pass can need, without the order of maps.
-pub const ALL: u8 = partings::ALL | LIMITS;
+/// A set of differences: bit n for number n. Those that a pass can need, without the order of maps.
+pub const ALL: u16 = partings::ALL | LIMITS;
 /// Parting 5 in a pass: refusal 9.
-const LIMITS: u8 = 1 << 5;
+const LIMITS: u16 = 1 << 5;
 
 /// All that a pass gives for the bytes of a form and a result slice of `length` bytes.
 pub fn answer(pass: Pass, bytes: &[u8], length: usize) -> Written {
@@ -58,7 +58,7 @@ pub fn answer(pass: Pass, bytes: &[u8], length: usize) -> Written {
 }
 
 /// What a pass gives for a valid form where just the partings of the set hold.
-pub fn parted(pass: Pass, valid: &Form, set: u8) -> Written {
+pub fn parted(pass: Pass, valid: &Form, set: u16) -> Written {
     let passed = partings::with(set & partings::ALL, || parted::bridge::passed(pass, valid));
     match set & LIMITS != 0 && !passed.form.fits() {
         true => refused(TABLE_FULL, RESULT_BYTES),

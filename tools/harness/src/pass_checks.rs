@@ -10,8 +10,8 @@ use crate::record::{Record, SHR, VARIABLE};
 use crate::written::Written;
 
 /// The smallest set of partings with which the Rust gives `wanted`.
-pub fn needed(pass: Pass, valid: &Form, wanted: &Written) -> Option<u8> {
-    let mut sets: Vec<u8> = (0..=ALL).filter(|set| set & !ALL == 0).collect();
+pub fn needed(pass: Pass, valid: &Form, wanted: &Written) -> Option<u16> {
+    let mut sets: Vec<u16> = (0..=ALL).filter(|set| set & !ALL == 0).collect();
     sets.sort_by_key(|set| set.count_ones());
     sets.into_iter()
         .find(|set| parted(pass, valid, *set) == *wanted)

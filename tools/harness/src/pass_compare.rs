@@ -20,6 +20,7 @@ use crate::pass_checks;
 use crate::prng::Prng;
 use crate::refusal::{INPUT_LENGTH, NO_FORM, NUMBERS, RESULT_LENGTH, TABLE_FULL};
 use crate::sorted;
+use crate::stacked_cases;
 use crate::written::Written;
 
 const COLUMNS: &str = "compute_partitions";
@@ -99,7 +100,8 @@ pub fn run() -> Result<(), String> {
         partings: Differences::none(&[]),
     };
     println!("{HEAD}");
-    for family in FAMILIES.iter().chain(&number_cases::FORMS) {
+    let families = FAMILIES.iter().chain(&number_cases::FORMS);
+    for family in families.chain(&stacked_cases::FORMS) {
         let mut counts = Counts::default();
         for case in (family.make)(&mut comparison.rng, family.compared) {
             comparison.check(&case, &mut counts);
@@ -191,7 +193,7 @@ impl Comparison {
                 case,
             );
         };
-        let numbers: Vec<String> = (1..8)
+        let numbers: Vec<String> = (1..10)
             .filter(|number| needed >> number & 1 == 1)
             .map(|number| number.to_string())
             .collect();

@@ -45,9 +45,17 @@ pub fn like_b() -> Records {
     collide::with_hash(binary(OR, a(), n(0)), published::hash(&b()))
 }
 
-/// A tree of the hash of `a & 60`: `b & L`.
-pub fn like_masked() -> Records {
-    collide::with_hash(and(b(), 0), published::hash(&and(a(), 60)))
+/// The basis `(a & 60) >> 1`, and a tree of its hash: `(b & L) >> 1`.
+pub fn shifted_mask() -> Records {
+    unary(SHR, 1, and(a(), 60))
+}
+
+pub fn like_shifted() -> Records {
+    unary(
+        SHR,
+        1,
+        collide::with_hash(and(b(), 0), published::hash(&and(a(), 60))),
+    )
 }
 
 /// A form that every pass changes, with each byte that a head may have in all its heads, and with
@@ -101,9 +109,9 @@ pub fn cases() -> Vec<Case> {
         form(
             0,
             &[
-                (1, like_masked()),
-                (1, and(and(a(), 60), 15)),
-                (2, and(and(a(), 60), 240)),
+                (1, like_shifted()),
+                (1, and(shifted_mask(), 15)),
+                (2, and(shifted_mask(), 240)),
             ],
         ),
         // parting 3

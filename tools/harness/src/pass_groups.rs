@@ -45,7 +45,7 @@ fn top(w: u8) -> u64 {
 }
 
 /// A mask below 2^w; `before` are those of the group so far.
-fn mask(rng: &mut Prng, before: &[u64], w: u8) -> u64 {
+pub fn mask(rng: &mut Prng, before: &[u64], w: u8) -> u64 {
     let place = rng.below(usize::from(w));
     let known = match before {
         [] => 0,
@@ -93,7 +93,7 @@ pub fn coefficient(rng: &mut Prng, before: &[u64], w: u8) -> u64 {
 
 /// A tree without variables that is a mask, often the literal itself. Its value at 64 bits, cut, may
 /// be another than at w bits.
-fn mask_tree(rng: &mut Prng, mask: u64, w: u8) -> Records {
+pub fn mask_tree(rng: &mut Prng, mask: u64, w: u8) -> Records {
     let high = match w {
         64 => 0,
         _ => rng.word() << w,
@@ -120,7 +120,7 @@ fn mask_tree(rng: &mut Prng, mask: u64, w: u8) -> Records {
 }
 
 /// A basis: most often a variable.
-fn basis(rng: &mut Prng, w: u8) -> Records {
+pub fn basis(rng: &mut Prng, w: u8) -> Records {
     let x = variable(w, u16::from(rng.byte() % 4));
     let y = variable(w, u16::from(rng.byte() % 6));
     match rng.below(12) {

@@ -9,8 +9,9 @@ use crate::form::{Form, HEAD_BYTE, MAX_TREE_RECORDS, RESULT_BYTES};
 use crate::library_forms as library;
 use crate::measure::stack_used;
 use crate::pass::{self, Pass, PASSES};
-use crate::record::{binary, literal, nested, variable, AND, NOT};
+use crate::record::{binary, literal, nested, variable, Records, AND, NOT};
 use crate::stack::{forms, show_stack, show_time};
+use crate::stacked_cases::{chain, doubling};
 
 const COLUMNS: &str = "hogzelt_compute_partitions";
 
@@ -34,12 +35,49 @@ fn shapes() -> Vec<(&'static str, Vec<u8>)> {
         form.push_term(HEAD_BYTE, tree, 16);
         shapes.push((shape, form.bytes()));
     }
+    for (shape, tree) in masks_upon_masks() {
+        let mut form = Form::new(64, 1);
+        form.push_term(HEAD_BYTE, tree, 16);
+        shapes.push((shape, form.bytes()));
+    }
     shapes.push(("256 entries of a group", bench_forms::one_group().bytes()));
     shapes.push((
         "256 atoms of 5 variables, 64 unlike places",
         bench_forms::places().bytes(),
     ));
     shapes
+}
+
+/// Trees that are split in many steps, each shape at four sizes, doubled up to the longest that there is.
+fn masks_upon_masks() -> Vec<(&'static str, Records)> {
+    let leaf = || variable(64, 0);
+    let mask = |i: usize| literal(64, !(1 << (i % 60)));
+    let long = |i: usize| nested(&[NOT], 14, mask(i));
+    let mut all = Vec::new();
+    for halved in [3, 2, 1, 0] {
+        let records = MAX_TREE_RECORDS >> halved;
+        let count = (records - 1) / 2;
+        all.extend([
+            ("masks on the right", chain(leaf(), count, |_| false, mask)),
+            ("masks on the left", chain(leaf(), count, |_| true, mask)),
+            (
+                "masks on both sides",
+                chain(leaf(), count, |i| i % 2 == 0, mask),
+            ),
+            (
+                "masks that are trees",
+                chain(leaf(), (records - 1) / 16, |i| i % 2 == 0, long),
+            ),
+            (
+                "masks as long as what they stand over",
+                doubling(64, records),
+            ),
+        ]);
+    }
+    let depth = MAX_TREE_RECORDS - 3;
+    let deep_mask = binary(AND, leaf(), nested(&[NOT], depth, mask(0)));
+    all.push(("nested Not as a mask", deep_mask));
+    all
 }
 
 /// The most stack that a call used.

@@ -8,7 +8,7 @@ use crate::form_model;
 use crate::pass::{self, Pass, ALL, PASSES};
 use crate::pass_cases::FAMILIES;
 use crate::pass_checks;
-use crate::pass_examples::{a, and, b, form, like_b, like_masked, not};
+use crate::pass_examples::{a, and, b, form, like_b, like_shifted, not, shifted_mask};
 use crate::prng::Prng;
 use crate::record::{binary, literal, unary, Records, AND, SHR, XOR};
 use crate::written::{written, Written};
@@ -96,10 +96,10 @@ fn recovered_by_hand() {
     let used = form(0, &[(254, a()), (1, and(a(), 15)), (2, and(a(), 240))]);
     recovered(&used, of(used.clone(), 0, &[(1, 255)]));
     // parting 1: a bare atom of the same hash is not the bare one
-    let masked = |mask: u64| and(and(a(), 60), mask);
-    let unlike = form(0, &[(1, like_masked()), (1, masked(15)), (2, masked(240))]);
+    let masked = |mask: u64| and(shifted_mask(), mask);
+    let unlike = form(0, &[(1, like_shifted()), (1, masked(15)), (2, masked(240))]);
     let found = of(unlike.clone(), 0, &[(0, 1), (1, 255)]);
-    recovered(&unlike, with(found, and(a(), 60), 2));
+    recovered(&unlike, with(found, shifted_mask(), 2));
 }
 
 #[test]
@@ -164,17 +164,19 @@ fn values_are_kept() {
     }
 }
 
-/// Without any one of partings 1 to 3 a worked example has another answer.
+/// Without any one of partings 1 to 3, or without difference 9, a worked example has another answer.
 #[test]
 fn partings_are_needed() {
     let terms = [(1, and(b(), 15)), (1, and(like_b(), 240))];
     let three = [(1, and(a(), 252)), (255, and(a(), 3)), (255, and(a(), 0))];
     let shifted = unary(SHR, 1, not(literal(8, 3)));
     let masks = [(1, binary(AND, a(), shifted)), (1, and(a(), 1))];
+    let twice = [(1, and(and(a(), 60), 15)), (1, and(a(), 3))];
     for (number, pass, form) in [
         (1, Pass::Refine, form(0, &terms)),
         (2, Pass::Recover, form(0, &three)),
         (3, Pass::Refine, form(0, &masks)),
+        (9, Pass::Refine, form(0, &twice)),
     ] {
         let wanted = pass::parted(pass, &form, ALL);
         assert!(pass::parted(pass, &form, ALL & !(1 << number)) != wanted);
