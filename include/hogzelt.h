@@ -5,11 +5,11 @@
  * number of threads may call at a time. Nothing is allocated; what a call needs beside its results is
  * on its stack. That is measured, not proved, and at most, rounded up to a KiB, on the longest inputs:
  *
- *   hogzelt_normalize_to_semilinear    256 KiB      hogzelt_refine_terms            378 KiB
- *   hogzelt_run_passes                 256 KiB      hogzelt_recover_structure       389 KiB
- *   hogzelt_expr_value                 129 KiB      hogzelt_coalesce_terms          364 KiB
- *   hogzelt_semilinear_value           385 KiB      hogzelt_flatten_complex_atoms   387 KiB
- *   hogzelt_compute_partitions         357 KiB      hogzelt_compact_atom_table      337 KiB
+ *   hogzelt_normalize_to_semilinear    257 KiB      hogzelt_refine_terms            426 KiB
+ *   hogzelt_run_passes                 257 KiB      hogzelt_recover_structure       437 KiB
+ *   hogzelt_expr_value                 129 KiB      hogzelt_coalesce_terms          412 KiB
+ *   hogzelt_semilinear_value           393 KiB      hogzelt_flatten_complex_atoms   395 KiB
+ *   hogzelt_compute_partitions         413 KiB      hogzelt_compact_atom_table      393 KiB
  *   hogzelt_best_week                    1 KiB      the three mask functions          1 KiB
  *
  * Every pointer must be valid for its length: expr for expr_len bytes, s for s_len bytes, vars for
@@ -30,8 +30,8 @@ extern "C" {
 #endif
 
 /* The version: major * 10000 + minor * 100 + patch, and as text. */
-#define HOGZELT_VERSION 10300
-#define HOGZELT_VERSION_TEXT "1.3.0"
+#define HOGZELT_VERSION 10400
+#define HOGZELT_VERSION_TEXT "1.4.0"
 
 /* Lengths: of a record, of the longest expression, and of the result slices. */
 #define HOGZELT_RECORD_BYTES 16
@@ -207,8 +207,11 @@ uint64_t hogzelt_normalize_to_semilinear(const uint8_t *expr, size_t expr_len, u
 
 /*
  * A semilinear form with its terms refined: masks are cut to the bits that count, and terms of one
- * basis are dropped, joined and collapsed where their sum stays the same. The value is that of the
- * form given, under every assignment; atoms that lose their term stay. out_len must be 57,360.
+ * basis are dropped, joined and collapsed where their sum stays the same. A variable is its own basis;
+ * the basis of an And with one side without a variable is that of the other side, or that side itself
+ * where it has none, and masks upon masks are joined: (a & 60) & 15 has the basis a and the mask 12. The
+ * value is that of the form given, under every assignment; atoms that lose their term stay. out_len
+ * must be 57,360.
  * Returns 0 for accepted, else the lowest refusal that applies:
  *    1  s_len is 0, not a multiple of 16 or above 57,360
  *    2  out_len is not 57,360
@@ -242,7 +245,7 @@ uint64_t hogzelt_coalesce_terms(const uint8_t *s, size_t s_len, uint8_t *out, si
 
 /*
  * A semilinear form in which every term of an atom that has one variable, no shift and is neither
- * this variable nor a mask of it is written as a constant, the bits that the variable passes and
+ * this variable nor it under masks is written as a constant, the bits that the variable passes and
  * those that it inverts. The value is that of the form given, under every assignment. Refusals, out,
  * *used and *terms are as for hogzelt_refine_terms. *flattened is 1 where there was such a term, 0
  * where there was none, and 0 beside a refusal.

@@ -43,8 +43,8 @@ find_package()
 
 from hogzelt import parse
 from hogzelt.records import (
-    ADD, ARITY, BINARY, CONSTANT, HEAD, SUM, TERM, UNARY, VARIABLE, WITH_ARGUMENT, Record,
-    record_bytes, structural_hash,
+    ADD, ARITY, BINARY, CONSTANT, HEAD, SUM, TERM, UNARY, VARIABLE, WITH_ARGUMENT, Expression, Record,
+    expression_bytes, record_bytes, structural_hash,
 )
 
 
@@ -57,11 +57,19 @@ def form_bytes(
 ) -> bytes:
     """A form from the text of each atom and (atom number, coefficient) of each term; head_byte is
     byte 1 of the heads."""
+    trees = [parse(text, width).expression.records for text in atoms]
+    return form_of_trees(width, constant, trees, terms, head_byte)
+
+
+def form_of_trees(
+    width: int, constant: int, trees: list[list[Record]], terms: list[tuple[int, int]],
+    head_byte: int = 4,
+) -> bytes:
+    """The same from the records of each atom, which may be more than a text may make."""
     data = b""
-    for text in atoms:
-        records = parse(text, width).expression.records
-        head = record_bytes(HEAD, head_byte, len(records), width, structural_hash(records))
-        data += head + bytes_of(text, width)
+    for records in trees:
+        data += record_bytes(HEAD, head_byte, len(records), width, structural_hash(records))
+        data += expression_bytes(Expression(width, records))
     for number, coefficient in terms:
         data += record_bytes(TERM, 0, number, width, coefficient)
     return data + record_bytes(SUM, 0, 0, width, constant)

@@ -18,7 +18,7 @@ from .records import Fault, read_expression, read_form
 from .tokens import BadText
 from .week import Played, Week, best_week, run_bytes
 
-__version__ = "1.3.0"
+__version__ = "1.4.0"
 
 __all__ = [
     "OPAQUE", "SHORTENING", "BadText", "Column", "Fault", "NoLibrary", "Pass", "Played", "Refused",

@@ -94,6 +94,24 @@ fn numbers_written_as_sums() {
     }
 }
 
+/// Masks upon masks are joined where terms of one basis are, and an atom that stands alone is left.
+#[test]
+fn masks_upon_masks() {
+    let (sixty, low) = (|| number(60), || number(15));
+    for stacked in [(a() & sixty()) & low(), low() & (sixty() & a())] {
+        let alone = normalize(stacked.clone()).expect("it is linear");
+        let beside = normalize(stacked + (a() & number(3))).expect("it is linear");
+        assert_eq!((alone.par(), beside.par()), (1, 2));
+        for pass in [Pass::Refine, Pass::Coalesce] {
+            let joined = run_pass(pass, &beside).expect("a sheet");
+            let masked = a() & low();
+            assert_eq!((joined.par(), joined.terms()[0].coefficient), (1, 1));
+            assert_eq!(joined.terms()[0].atom, masked.as_bytes());
+            assert_eq!(run_pass(pass, &alone), Ok(alone.clone()));
+        }
+    }
+}
+
 /// Byte 1 of heads: 4 is written, 0 to 4 are read alike, and other bytes are refused.
 #[test]
 fn heads_of_a_sheet() {

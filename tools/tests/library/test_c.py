@@ -27,7 +27,7 @@ class Installed(Calls):
         self.env = dict(os.environ)
         self.env.setdefault("HOGZELT_LIB", os.path.join(ROOT, build.ARCHIVE))
         out = self.sh(os.path.join(ROOT, "tools", "install.sh"), self.prefix)
-        self.assertEqual(out, f"hogzelt 1.3.0: {os.path.realpath(self.prefix)}\n")
+        self.assertEqual(out, f"hogzelt 1.4.0: {os.path.realpath(self.prefix)}\n")
 
     def sh(self, *words, **env):
         done = subprocess.run(words, cwd=self.folder, env={**self.env, **env}, check=False,
@@ -41,7 +41,7 @@ class Installed(Calls):
         self.assertEqual(found, [
             "include/hogzelt.h", "lib/cmake/hogzelt/hogzelt-config-version.cmake",
             "lib/cmake/hogzelt/hogzelt-config.cmake", "lib/libhogzelt.a", "lib/libhogzelt.so",
-            "lib/libhogzelt.so.1", "lib/libhogzelt.so.1.3.0", "lib/pkgconfig/hogzelt.pc"])
+            "lib/libhogzelt.so.1", "lib/libhogzelt.so.1.4.0", "lib/pkgconfig/hogzelt.pc"])
         self.assertIn("usage", self.refused("install.sh"))
         self.assertIn("usage", self.refused("install.sh", "--help"))
 
