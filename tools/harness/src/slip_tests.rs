@@ -16,9 +16,9 @@ use crate::record::{
 use crate::written::written;
 
 /// An atom: its tree, and the coefficient of its term, 0 where it has none.
-type Row = (Records, u64);
+pub type Row = (Records, u64);
 
-fn rows(width: u8, constant: u64, rows: &[Row]) -> Form {
+pub fn rows(width: u8, constant: u64, rows: &[Row]) -> Form {
     let mut form = Form::new(width, constant);
     for (tree, coeff) in rows {
         match coeff {

@@ -16,6 +16,7 @@ use crate::pass_examples::{a, and, b, like_shifted, not, shifted_mask};
 use crate::pass_tests::check;
 use crate::prng::Prng;
 use crate::record::{binary, literal, unary, Record, Records, AND, SHR, VARIABLE, XOR};
+use crate::slip_tests::{self, Row};
 use crate::sorted;
 use crate::stacked_cases::{chain, doubling, worked, FORMS, LISTS};
 
@@ -24,18 +25,9 @@ const ROUNDS: usize = 2_000;
 /// Difference 9, as a set of one.
 const JOINED: u16 = 1 << 9;
 
-/// An atom: its tree, and the coefficient of its term, 0 where it has none.
-type Row = (Records, u64);
-
+/// A form at 8 bits.
 fn rows(constant: u64, rows: &[Row]) -> Form {
-    let mut form = Form::new(8, constant);
-    for (tree, coeff) in rows {
-        match coeff {
-            0 => form.push(HEAD_BYTE, tree.clone()),
-            _ => form.push_term(HEAD_BYTE, tree.clone(), *coeff),
-        }
-    }
-    form
+    slip_tests::rows(8, constant, rows)
 }
 
 fn twice(tree: Records, m: u64, n: u64) -> Records {

@@ -50,6 +50,21 @@ class Terminal(Calls):
         self.assertIn("16*(a & 15)\n         ....1111  0x0f\n         1111....  4 up\n", out)
         self.assertNotIn("pushed", out)
 
+    def test_masks_upon_masks(self):
+        """The joined mask is drawn, and what of it counts."""
+        for atom, cells, mask in (
+            ("x & 60 & 15", "....11..", "0x0c"),
+            ("15 & (60 & x)", "....11..", "0x0c"),
+            ("x & 48 & 15", "........", "0x00"),
+            ("(x ^ y) & 60 & 15", "....11..", "0x0c"),
+            ("x & y & 15", "....1111", "0x0f"),
+            ("(x | 3) & 60 & ~3 & 31", "...111..", "0x1c"),
+        ):
+            out, _ = self.call("draw", "-w8", atom)
+            self.assertIn(f"         {cells}  {mask}\n", out, atom)
+        out, _ = self.call("draw", "-w8", "16*(x & 60 & 255)")
+        self.assertIn("16*(x & 60 & 255)\n         ..xx11..  0x3c\n     xx< 11......  4 up\n", out)
+
     def test_ruler(self):
         out, _ = self.call("draw", "-w12", "a")
         self.assertIn("   place 11\n         1098 76543210\n", out)

@@ -63,10 +63,13 @@ def picture_of(sheet: Sheet, names: Mapping[int, str] = NO_NAMES) -> Picture:
 
 
 def mask_of(records: list[Record], width: int) -> int:
-    """The mask beside an And, or all places."""
+    """The mask beside an And, joined with those below it; all places where there is none."""
     facts = facts_of(records, width)
-    if records[-1].kind == AND:
-        for child in facts[-1].children:
-            if not facts[child].variable:
-                return facts[child].value
-    return (1 << width) - 1
+    mask, at = (1 << width) - 1, len(records) - 1
+    while records[at].kind == AND:
+        left, right = facts[at].children
+        if facts[left].variable and facts[right].variable:
+            break
+        free, at = (right, left) if facts[left].variable else (left, right)
+        mask &= facts[free].value
+    return mask

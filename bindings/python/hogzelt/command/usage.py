@@ -108,10 +108,10 @@ Examples:
 usage: hogzelt draw -w WIDTH [--svg FILE] TEXT
        hogzelt draw [--svg FILE] -f FILE
 
-Draws the normalised sheet by place: a ruler, the constant, and each term's mask; bits that cannot
-matter beside the coefficient are dimmed, and a second row shows where an even coefficient moves
-them and what it pushes off the end. Colours stand only in a terminal, and not where NO_COLOR is
-set.
+Draws the normalised sheet by place: a ruler, the constant, and each term's mask, masks upon masks
+joined; bits that cannot matter beside the coefficient are dimmed, and a second row shows where an
+even coefficient moves them and what it pushes off the end. Colours stand only in a terminal, and
+not where NO_COLOR is set.
 
 {COMMON}{PASSES}\
                       (default: none)
