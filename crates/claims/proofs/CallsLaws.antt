@@ -18,7 +18,9 @@ use Rattle.semilinear_value.proofs.ValueLaws.{encoded-value}
 use Rattle.atom_table.proofs.MadeLaws.{KeptForm, Made, made, not-made, limit-made, pass-made}
 use Rattle.compaction.proofs.CompactedLaws.{compact-made}
 use Rattle.normalizer_laws.specs.Normalize.{normalizeToSemilinear}
-use Rattle.normalizer_laws.proofs.NormalizeLaws.{normalize-form}
+use Rattle.rules_laws.specs.Rules.{normalizeByRules}
+use Rattle.rules_laws.proofs.RulesLaws.{rules-form}
+use Rattle.normalizer_laws.proofs.NormalizeLaws.{Normalized, normalize-form}
 use Rattle.refiner_laws.specs.RefineTerms.{refineForm, refineTerms}
 use Rattle.refiner_laws.proofs.RefineFormLaws.{value-refine, valid-refine, new-refine}
 use Rattle.structure_laws.specs.RecoverStructure.{recoverForm, recoverStructure}
@@ -152,14 +154,22 @@ any-calls calls f ok =
           ∙ sym (encoded-value f ok vars);
     }
 
--- and so from any expression that normalising accepts: the value is the expression's
-pub any-calls-expr : (s : List ℕ) → IsBytes s → (len : ℕ) (bytes numbers : List ℕ)
-    → normalizeToSemilinear s len ≡ accepted bytes numbers → (calls : List Call) (vars : List ℕ)
+-- and so from any expression that normalising accepts: the value is the expression's; by either rules (request #109)
+from-normal : {s bytes numbers : List ℕ} → Normalized s bytes numbers → (calls : List Call) (vars : List ℕ)
     → semilinearValue (inUse calls bytes) vars ≡ exprValue s vars
-any-calls-expr s h len bytes numbers e calls vars =
-    let n = normalize-form s h len bytes numbers e in
+from-normal n calls vars =
     let a = any-calls calls (n .form) (n .valid) in
     ap (λ (t : List ℕ). semilinearValue (inUse calls t) vars) (n .encoded)
     ∙ a .value vars
     ∙ encoded-value (n .form) (n .valid) vars
     ∙ n .kept vars
+
+pub any-calls-expr : (s : List ℕ) → IsBytes s → (len : ℕ) (bytes numbers : List ℕ)
+    → normalizeToSemilinear s len ≡ accepted bytes numbers → (calls : List Call) (vars : List ℕ)
+    → semilinearValue (inUse calls bytes) vars ≡ exprValue s vars
+any-calls-expr s h len bytes numbers e = from-normal (normalize-form s h len bytes numbers e)
+
+pub any-calls-rules : (rules : ℕ) (s : List ℕ) → IsBytes s → (len : ℕ) (bytes numbers : List ℕ)
+    → normalizeByRules rules s len ≡ accepted bytes numbers → (calls : List Call) (vars : List ℕ)
+    → semilinearValue (inUse calls bytes) vars ≡ exprValue s vars
+any-calls-rules rules s h len bytes numbers e = from-normal (rules-form rules s len h bytes numbers e)

@@ -4,7 +4,7 @@ use mathlib.Core.Path.{_≡_, refl, ap, sym, _∙_}
 use Prim.Native.Nat.{ℕ, _+_, _≤_}
 use native.Mathlib.Omega.{arith}
 use mathlib.Core.List.{List}
-use mathlib.Core.Bool.{true, false}
+use mathlib.Core.Bool.{Bool, true, false}
 use lib.Dec.{eqb}
 use Rattle.record.specs.Fields.{kind, arity}
 use Rattle.record.specs.Tree.{sizeOf}
@@ -13,7 +13,8 @@ use Rattle.expr_utils.specs.Utils.{hasVarDep}
 use Rattle.ways.specs.declared.side.Spot.{Spot}
 use Rattle.descent.specs.declared.collect.Descent.{Descent}
 use Rattle.ways.specs.declared.side.Side.{Side}
-use Rattle.normalizer_laws.specs.Collect.{Collected, linear, joinCollected, collectTerms}
+use Rattle.normalizer_laws.specs.Collect.{Collected, linear, joinCollected}
+use Rattle.rules_laws.specs.Descend.{descend}
 use Rattle.ways.specs.Spans.{spanOf}
 use Rattle.descent.specs.Spots.{Collects, Ready}
 use Rattle.ways.specs.Sides.{treeAt, AtSpot, sideTree, isBinary, leftOf, rightOf, leftSide, rightSide}
@@ -64,10 +65,10 @@ module _ {w : ℕ} {file marks : List ℕ} {x : Spot} (at : AtSpot w file marks 
       })
 
   -- what the sides collect, one after the other
-  module _ (hw : w ≤ 64) {l : Side} (el : l ≡ leftSide file x) {y : Spot}
+  module _ (nots : Bool) (hw : w ≤ 64) {l : Side} (el : l ≡ leftSide file x) {y : Spot}
       (ey : y ≡ record { coeff = x .coeff; start = l .start; end = l .end })
       {a : List ℕ} {d : Descent} {b : List ℕ} {e : Descent}
-      (first : Collects w file (sizeOf (treeAt file y)) (collectTerms w (y .coeff) (treeAt file y)) a d b e) where
+      (first : Collects w file (sizeOf (treeAt file y)) (descend nots w (y .coeff) (treeAt file y)) a d b e) where
     tree-l : treeAt file y ≡ leftOf (treeAt file x)
     tree-l = ap (treeAt file) ey ∙ ap (sideTree file) el ∙ left-tree
 
@@ -78,15 +79,15 @@ module _ {w : ℕ} {file marks : List ℕ} {x : Spot} (at : AtSpot w file marks 
     m = sizeOf (rightOf (treeAt file x))
 
     abbrev of-left : Collected
-    of-left = collectTerms w (x .coeff) (leftOf (treeAt file x))
+    of-left = descend nots w (x .coeff) (leftOf (treeAt file x))
 
     abbrev of-right : Collected
-    of-right = collectTerms w (x .coeff) (rightOf (treeAt file x))
+    of-right = descend nots w (x .coeff) (rightOf (treeAt file x))
 
     terms-sum : eqb (x .coeff) 0 ≡ false → hasVarDep (treeAt file x) ≡ true
-        → collectTerms w (x .coeff) (treeAt file x) ≡ joinCollected w of-left of-right
+        → descend nots w (x .coeff) (treeAt file x) ≡ joinCollected w of-left of-right
     terms-sum hc hv =
-        ap (collectTerms w (x .coeff)) whole ∙ terms-add w (x .coeff) _ _ hc (sym (ap hasVarDep whole) ∙ hv)
+        ap (descend nots w (x .coeff)) whole ∙ terms-add nots w (x .coeff) _ _ hc (sym (ap hasVarDep whole) ∙ hv)
 
     first-of : Collects w file n of-left a d b e
     first-of =
@@ -106,8 +107,8 @@ module _ {w : ℕ} {file marks : List ℕ} {x : Spot} (at : AtSpot w file marks 
 
       pub sum-then : eqb (x .coeff) 0 ≡ false → hasVarDep (treeAt file x) ≡ true
           → {c : List ℕ} {f : Descent}
-          → Collects w file (sizeOf (treeAt file z)) (collectTerms w (z .coeff) (treeAt file z)) b e c f
-          → Collects w file (sizeOf (treeAt file x)) (collectTerms w (x .coeff) (treeAt file x)) a d c f
+          → Collects w file (sizeOf (treeAt file z)) (descend nots w (z .coeff) (treeAt file z)) b e c f
+          → Collects w file (sizeOf (treeAt file x)) (descend nots w (x .coeff) (treeAt file x)) a d c f
       sum-then hc hv {c} {f} second =
           let zc : z .coeff ≡ x .coeff = ap (λ (z : Spot). z .coeff) ez in
           let second-of : Collects w file m of-right b e c f = rw (tree-r, zc) at second in
@@ -116,7 +117,7 @@ module _ {w : ℕ} {file marks : List ℕ} {x : Spot} (at : AtSpot w file marks 
           (collects-then w hw file n m of-left of-right a d b e first-of c f second-of))
 
     pub sum-stop : eqb (x .coeff) 0 ≡ false → hasVarDep (treeAt file x) ≡ true → e .linear ≡ false
-        → Collects w file (sizeOf (treeAt file x)) (collectTerms w (x .coeff) (treeAt file x)) a d b e
+        → Collects w file (sizeOf (treeAt file x)) (descend nots w (x .coeff) (treeAt file x)) a d b e
     sum-stop hc hv lin =
         collects-more (sizeOf (treeAt file x)) (omega (arith, sizes))
         (collects-as (terms-sum hc hv)

@@ -3,18 +3,20 @@
 use mathlib.Core.Path.{_≡_}
 use Prim.Native.Nat.{ℕ, zero, suc, _+_, _-_, _*_, _^_, _≤_, _<_}
 use mathlib.Core.List.{List, [], _∷_, _++_}
-use mathlib.Core.Bool.{true, false}
+use mathlib.Core.Bool.{Bool, true, false, not}
 use lib.ListN.{length, getD}
 use lib.Dec.{eqb}
+use Rattle.arith.specs.Width.{modAdd, modMul}
 use Rattle.base.specs.Choice.{when}
 use Rattle.record.specs.Tree.{Tree}
 use Rattle.record.specs.Tree.Tree.{Constant, Binary}
 use Rattle.record.specs.Decode.{decode}
 use Rattle.base.specs.Put.{put}
 use Rattle.expr_utils.specs.Utils.{hasVarDep}
+use Rattle.expr.specs.Value.{value}
 use Rattle.ways.specs.declared.side.Spot.{Spot}
 use Rattle.ways.specs.Spans.{spanOf, Accepted}
-use Rattle.ways.specs.Sides.{treeAt, AtSpot}
+use Rattle.ways.specs.Sides.{treeAt, AtSpot, collectWhole}
 use Rattle.descent.specs.declared.collect.Descent.{Descent}
 use Rattle.normalizer_laws.specs.Collect.{Emitted, Collected, nonlinear, linear, joinCollected}
 
@@ -75,6 +77,19 @@ pub record Ready (w : ℕ) (n : ℕ) (words : List ℕ) (d : Descent) : Type 0 w
   pub linear : d .linear ≡ true
   pub fits : d .constant < 2 ^ w
   pub room : 5 * (d .count + n) ≤ length words
+
+-- from a Not that is turned: the coefficient c is added to the constant
+unfoldable pub turnBy : Bool → ℕ → ℕ → Descent → Descent
+turnBy turned c w d =
+    when turned
+    (λ _. record { linear = d .linear; constant = modAdd (d .constant) c w; count = d .count }) (λ _. d)
+
+-- what is collected of a tree where the descent ends: nothing under the coefficient 0, a constant of a tree without a
+-- variable, or the tree as it stands
+unfoldable pub collectEnd : ℕ → ℕ → Tree → Collected
+collectEnd w c t =
+    when (eqb c 0) (λ _. linear 0 [])
+    (λ _. when (not (hasVarDep t)) (λ _. linear (modMul c (value w [] t) w) []) (λ _. collectWhole w c t))
 
 -- where the descent ends at a tree with a variable, under a coefficient other than 0
 pub record AtEnd (w : ℕ) (file marks : List ℕ) (x : Spot) (words : List ℕ) (d : Descent) : Type 0 where

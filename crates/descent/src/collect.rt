@@ -13,11 +13,13 @@ ghost use lib.ListN.{length};
 ghost use Rattle.arith.specs.Width.{modAdd, modMul, modNeg};
 ghost use Rattle.record.specs.Tree.{sizeOf};
 ghost use Rattle.record.specs.Tree.Tree.{Constant};
-ghost use Rattle.normalizer_laws.specs.Collect.{collectAnd, andCoeff, collectTerms};
+ghost use Rattle.normalizer_laws.specs.Collect.{collectAnd, andCoeff};
+ghost use Rattle.rules_laws.specs.Descend.{descend};
 ghost use Rattle.descent.specs.Spots.{Collects, Pushed, Ready, AtEnd, BesideLiteral};
+ghost use Rattle.descent.specs.Spots.{turnBy, collectEnd};
 ghost use Rattle.ways.specs.Sides.{treeAt, AtSpot, sideTree, leftOf};
 ghost use Rattle.ways.specs.Sides.{rightOf, IsAnd, collectWhole};
-ghost use Rattle.ways.specs.Sides.{collectLiteral, EndsHere};
+ghost use Rattle.ways.specs.Sides.{collectLiteral};
 
 // A descent on its way: whether all was linear so far, the constant, and how many atoms there are.
 pub struct Descent {
@@ -209,10 +211,9 @@ impl Descent {
     // variable, or the tree as it stands.
     fn collect_end(self, x: Spot, file: &[u8], marks: &[u8], w: u32, spots: &mut [u64]) -> Self
         requires { ⌜ AtSpot w (now file) (now marks) x
-            × Ready w (sizeOf (treeAt (now file) x)) (now spots) self
-            × EndsHere w (x .coeff) (treeAt (now file) x) ⌝ }
+            × Ready w (sizeOf (treeAt (now file) x)) (now spots) self ⌝ }
         ensures { λ r. ⌜ Collects w (now (file .entry)) (sizeOf (treeAt (now (file .entry)) x))
-            (collectTerms w (x .coeff) (treeAt (now (file .entry)) x))
+            (collectEnd w (x .coeff) (treeAt (now (file .entry)) x))
             (now (spots .entry)) self (now (spots .exit)) r ⌝ }
     {
         let coeff = x.coeff;
@@ -229,7 +230,20 @@ impl Descent {
         self.collect_whole(x, file, marks, w, spots)
     }
 
-    // What the subtree of x comes to, times its coefficient, added to what was collected before it.
+    // From a Not that is turned, -e - 1: the coefficient c, that of e, is added to the constant.
+    fn turn(mut self, turned: bool, c: u64, w: u32) -> Self
+        ensures { λ r. ⌜ r ≡ turnBy turned c w self ⌝ }
+    {
+        if !turned {
+            return self;
+        }
+        let constant = self.constant;
+        self.constant = arith::mod_add(constant, c, w);
+        self
+    }
+
+    // What the subtree of x comes to, times its coefficient, added to what was collected before it;
+    // with `nots` a Not over an Add, Mul or Neg is turned.
     // The loop goes below a Neg and a product by a constant, and to the right side of a sum. The
     // left side of a sum, and what stands in an Or or Xor beside a literal, are calls; they are one
     // call in the code, since each has its own arguments in the frame.
@@ -239,20 +253,21 @@ impl Descent {
         x: Spot,
         file: &[u8],
         marks: &[u8],
+        nots: bool,
         w: u32,
         spots: &mut [u64],
     ) -> Self
         requires { ⌜ AtSpot w (now file) (now marks) x
             × Ready w (sizeOf (treeAt (now file) x)) (now spots) self ⌝ }
         ensures { λ r. ⌜ Collects w (now (file .entry)) (sizeOf (treeAt (now (file .entry)) x))
-            (collectTerms w (x .coeff) (treeAt (now (file .entry)) x))
+            (descend nots w (x .coeff) (treeAt (now (file .entry)) x))
             (now (spots .entry)) self (now (spots .exit)) r ⌝ }
     {
         let mut done = self;
         let mut here = x;
         let mut seen = marks;
         loop {
-            let way = side::way_down(here, file, seen, w);
+            let way = side::way_down(here, file, seen, nots, w);
             if !way.found {
                 return done.collect_end(here, file, seen, w, spots);
             }
@@ -261,11 +276,12 @@ impl Descent {
             let to = child.to;
             let next = side::side_spot(way.coeff, child);
             if !way.more {
+                done = done.turn(way.turned, way.coeff, w);
                 here = next;
                 seen = &seen[from..to];
                 continue;
             }
-            done = done.collect_terms(next, file, &seen[from..to], w, spots);
+            done = done.collect_terms(next, file, &seen[from..to], nots, w, spots);
             if !done.linear {
                 return done;
             }

@@ -20,11 +20,13 @@ use Rattle.semilinear.proofs.OutcomeLaws.{formAnswer, gives-form, gives-refused
 use Rattle.atom_table.proofs.PassLaws.{gives-same}
 use Rattle.normalizer_laws.specs.Normalize.{normalizeToSemilinear}
 use Rattle.normalizer_laws.proofs.NormalizeLaws.{normalize-form}
+use Rattle.rules_laws.specs.Rules.{normalizeByRules}
+use Rattle.rules_laws.proofs.RulesLaws.{rules-form}
 use Rattle.claims.specs.Calls.{Pass, Call, refine-terms, recover-structure, coalesce-terms, flatten-complex-atoms}
 use Rattle.claims.specs.Calls.{compact-atom-table, passGives, afterCall}
 use Rattle.claims.proofs.CallsLaws.{pass-keeps, call-keeps}
 use Rattle.hogzelt.proofs.Trace.{Returned, CallOf, refines, recovers, coalesces, flattens, compacts, inUseAfter}
-use Rattle.hogzelt.proofs.Trace.{Trace, none, then, Traced, Accepted, Started, Learns}
+use Rattle.hogzelt.proofs.Trace.{Trace, none, then, Traced, plain, by-rules, Accepted, Started, Learns}
 use Rattle.hogzelt.proofs.TraceLaws.{call-bytes, begun}
 use Rattle.hogzelt.proofs.hogzelt_compact_atom_table as writer
 use Rattle.hogzelt.proofs.hogzelt_compact_atom_table.Kinds as writer-kinds
@@ -124,7 +126,7 @@ form-traced f ok (c ∷ l) s e =
 
 -- normalising itself
 pub started : (s : List ℕ) → IsBytes s → (len : ℕ) (b ns : List ℕ) → normalizeToSemilinear s len ≡ accepted b ns
-    → Started s len
+    → Started 1 s len
 unfolding refusalOf numbersOf writtenOf
 started s h len b ns e =
     let n = normalize-form s h len b ns e in
@@ -137,14 +139,47 @@ started s h len b ns e =
       accepts =
           record {
             are-bytes = h;
-            returned = returned normalize-reads.Learnt s len a (padded len b) (rw (length-replicate {A = ℕ} len 0) given);
+            returned =
+                plain (returned normalize-reads.Learnt s len a (padded len b)
+                (rw (length-replicate {A = ℕ} len 0) given));
+          };
+    }
+
+-- and by rules
+pub started-by : (rules : ℕ) (s : List ℕ) → IsBytes s → (len : ℕ) (b ns : List ℕ)
+    → normalizeByRules rules s len ≡ accepted b ns → Started rules s len
+unfolding refusalOf numbersOf writtenOf
+started-by rules s h len b ns e =
+    let n = rules-form rules s len h b ns e in
+    let a : Answer = record { refusal = 0; used = length b; terms = termCount (n .form .rows); flag = false } in
+    let given : Gives (normalizeByRules rules s len) len 0 (a .used ∷ a .terms ∷ []) (padded len b) =
+    rw e (record { number = refl; beside = sym (ap (take 2) (n .counted)); written = refl }) in
+    record {
+      used = a .used;
+      out = padded len b;
+      accepts =
+          record {
+            are-bytes = h;
+            returned =
+                by-rules
+                (record {
+                  κs = lifetimes;
+                  args = (rules, given-args s len);
+                  exit = (rules, left-args s a (padded len b));
+                  learnt = rw (length-replicate {A = ℕ} len 0) given;
+                  named = refl;
+                  reads = refl;
+                  sized = length-replicate len 0;
+                  uses = refl;
+                  writes = refl;
+                });
           };
     }
 
 -- from an expression that normalising accepted
-pub traced : {s : List ℕ} {len used : ℕ} {out : List ℕ} → Accepted s len used out → (calls : List Call)
-    → Traced (take used out) calls
-traced {s} {len} a calls =
+pub traced : {rules : ℕ} {s : List ℕ} {len used : ℕ} {out : List ℕ} → Accepted rules s len used out
+    → (calls : List Call) → Traced (take used out) calls
+traced {rules} {s} {len} a calls =
     let b = begun a in
-    let n = normalize-form s (a .are-bytes) len (b .first) (b .numbers) (b .normal) in
+    let n = rules-form rules s len (a .are-bytes) (b .first) (b .numbers) (b .normal) in
     form-traced (n .form) (n .valid) calls _ (b .taken ∙ n .encoded)

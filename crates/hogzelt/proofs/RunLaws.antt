@@ -14,6 +14,7 @@ use Rattle.base.proofs.PutLaws.{take-padded}
 use Rattle.base.specs.Outcome.{Outcome, accepted, refused, refusalOf, numbersOf, writtenOf, Gives}
 use Rattle.normalizer_laws.specs.Normalize.{normalizeToSemilinear}
 use Rattle.normalizer_laws.proofs.NormalizeLaws.{normalize-refused}
+use Rattle.rules_laws.proofs.RulesLaws.{rules-one}
 use Rattle.claims.specs.Calls.{inUse}
 use Rattle.runner.specs.RunPasses.{callsOf, isList, bytesOutcome, listOutcome, runOutcome, runPasses}
 use Rattle.hogzelt.proofs.Trace.{Ran, Claimed}
@@ -60,13 +61,13 @@ module _ {s words : List ℕ} {len used : ℕ} {sheet : List ℕ} (k : Ran s wor
   refused-run n e false false false p q ok =
       let o : runPasses s words len spare ≡ refused 32 = rw (e, p, q, ok) in not-refused 32 (omega arith) o
 
-  pub run-claimed : IsBytes s → Claimed s len (callsOf words) (take used sheet)
+  pub run-claimed : IsBytes s → Claimed 1 s len (callsOf words) (take used sheet)
   run-claimed h = go (normalizeToSemilinear s len) refl
     where
-      go : (o : Outcome) → normalizeToSemilinear s len ≡ o → Claimed s len (callsOf words) (take used sheet)
+      go : (o : Outcome) → normalizeToSemilinear s len ≡ o → Claimed 1 s len (callsOf words) (take used sheet)
       go (accepted b ns) e =
           let a = accepted-run b ns e (isList len spare words) refl in
           let t : List ℕ = inUse (callsOf words) b in
-          definition-claimed s h len b ns e (callsOf words) (take used sheet)
+          definition-claimed 1 s h len b ns (rules-one s len ∙ e) (callsOf words) (take used sheet)
           (ap (λ (n : ℕ). take n sheet) (a .count) ∙ ap (take (length t)) (a .filled) ∙ take-padded len t)
       go (refused n) e = refused-run n e _ _ _ refl refl refl

@@ -23,6 +23,7 @@ use Rattle.semilinear.specs.DecodeForm.{decodeForm}
 use Rattle.base.specs.Outcome.{accepted}
 use Rattle.semilinear_value.specs.Value.{semilinearValue}
 use Rattle.normalizer_laws.specs.Normalize.{normalizeToSemilinear}
+use Rattle.rules_laws.specs.Rules.{normalizeByRules}
 use Rattle.partition_laws.specs.Columns.{atomTree, IsRow, Columns}
 use Rattle.claims.specs.Atoms.{AllAtoms}
 use Rattle.claims.specs.Calls.{Pass, Call, refine-terms, recover-structure, coalesce-terms, flatten-complex-atoms}
@@ -34,6 +35,10 @@ use Rattle.hogzelt.proofs.hogzelt_compact_atom_table.Reads as compact-r
 use Rattle.hogzelt.proofs.hogzelt_compact_atom_table.Statement as compact-stated
 use Rattle.hogzelt.proofs.hogzelt_normalize_to_semilinear.Reads as normalize-reads
 use Rattle.hogzelt.proofs.hogzelt_normalize_to_semilinear.Statement as normalize-stated
+use Rattle.hogzelt.proofs.hogzelt_normalize_by_rules as ruled
+use Rattle.hogzelt.proofs.hogzelt_normalize_by_rules.Kinds as ruled-kinds
+use Rattle.hogzelt.proofs.hogzelt_normalize_by_rules.Reads as ruled-reads
+use Rattle.hogzelt.proofs.hogzelt_normalize_by_rules.Statement as ruled-stated
 use Rattle.hogzelt.proofs.hogzelt_refine_terms.Reads as refine-reads
 use Rattle.hogzelt.proofs.hogzelt_refine_terms.Statement as refine-stated
 use Rattle.hogzelt.proofs.hogzelt_recover_structure.Reads as recover-reads
@@ -70,6 +75,18 @@ pub record Returned (L : Learns) (s : List ℕ) (len r used : ℕ) (out : List �
   pub sized : length (now (args .1 .0)) ≡ len
   pub uses : now (exit .1 .1 .0) ≡ used
   pub writes : now (exit .1 .0) ≡ out
+
+-- normalising by the rules that are named first (rules, expr, out, used, terms)
+pub record Ruled (rules : ℕ) (s : List ℕ) (len r used : ℕ) (out : List ℕ) : Type 0 where
+  pub κs : Lfts 4
+  pub args : ArgsD ruled.signature κs
+  pub exit : AtExit (endedOf 4 ruled-kinds.ps ruled-kinds.r) κs
+  pub learnt : ruled-reads.Learnt κs args r exit
+  pub named : args .0 ≡ rules
+  pub reads : now (args .1 .0) ≡ s
+  pub sized : length (now (args .1 .1 .0)) ≡ len
+  pub uses : now (exit .1 .1 .1 .0) ≡ used
+  pub writes : now (exit .1 .1 .0) ≡ out
 
 -- flattening, which has one more number (s, out, used, terms, flattened)
 pub record Flattened (s : List ℕ) (len r used : ℕ) (out : List ℕ) : Type 0 where
@@ -146,13 +163,14 @@ pub record ColumnsOf (f : Form) (out : List ℕ) (count : ℕ) : Type 0 where
   pub row-is : (i p : ℕ) (vars : List ℕ)
       → IsRow (atomTree f i) p vars (rowNumber (λ v. bitAt (getD vars v 0) p) (support (atomTree f i)))
 
--- of the bytes t in use after the calls, where normalising wrote for the expression s into len bytes: they are what the
--- definitions give for the same calls; they are those of a valid form of the expression's width, whose atoms have a
--- variable and only kinds 0, 1, 4 to 7 and 9; the value is the expression's; the partition classes are the form's
-pub record Claimed (s : List ℕ) (len : ℕ) (calls : List Call) (t : List ℕ) : Type 0 where
+-- of the bytes t in use after the calls, where normalising by these rules wrote for the expression s into len bytes:
+-- they are what the definitions give for the same calls; they are those of a valid form of the expression's width, whose
+-- atoms have a variable and only kinds 0, 1, 4 to 7 and 9; the value is the expression's; the partition classes are the
+-- form's
+pub record Claimed (rules : ℕ) (s : List ℕ) (len : ℕ) (calls : List Call) (t : List ℕ) : Type 0 where
   pub first : List ℕ
   pub numbers : List ℕ
-  pub normal : normalizeToSemilinear s len ≡ accepted first numbers
+  pub normal : normalizeByRules rules s len ≡ accepted first numbers
   pub bytes : t ≡ inUse calls first
   pub form : Form
   pub encoded : t ≡ encodeForm form
@@ -162,23 +180,29 @@ pub record Claimed (s : List ℕ) (len : ℕ) (calls : List Call) (t : List ℕ)
   pub value : (vars : List ℕ) → semilinearValue t vars ≡ exprValue s vars
   pub columns : (n count : ℕ) (out : List ℕ) → Parted t n 0 count out → ColumnsOf form out count
 
+-- a call of an exported function that normalises, and that accepted: by rules 1, or by the rules that are named
+pub data Normalizes (s : List ℕ) (len used : ℕ) (out : List ℕ) : ℕ → Type 0 where
+  plain : Returned normalize-reads.Learnt s len 0 used out → Normalizes s len used out 1
+  by-rules : {rules : ℕ} → Ruled rules s len 0 used out → Normalizes s len used out rules
+
 -- an expression that normalising accepted
-pub record Accepted (s : List ℕ) (len used : ℕ) (out : List ℕ) : Type 0 where
+pub record Accepted (rules : ℕ) (s : List ℕ) (len used : ℕ) (out : List ℕ) : Type 0 where
   pub are-bytes : IsBytes s
-  pub returned : Returned normalize-reads.Learnt s len 0 used out
+  pub returned : Normalizes s len used out rules
 
 -- some call that normalising accepted
-pub record Started (s : List ℕ) (len : ℕ) : Type 0 where
+pub record Started (rules : ℕ) (s : List ℕ) (len : ℕ) : Type 0 where
   pub used : ℕ
   pub out : List ℕ
-  pub accepts : Accepted s len used out
+  pub accepts : Accepted rules s len used out
 
 -- demand 3: the exported functions meet their contracts; whatever calls these contracts allow, from an expression that
--- normalising accepted, the bytes in use at every step are as claimed; there are such calls for every expression that
--- the definition accepts and every list; running the list gives the same; and the partition classes of any bytes that
--- are accepted are those of their form
+-- normalising accepted by either rules, the bytes in use at every step are as claimed; there are such calls for every
+-- expression that the definition accepts by these rules and every list; running the list gives the same by rules 1; and
+-- the partition classes of any bytes that are accepted are those of their form
 pub record AnyCalls (M : Type 1) : Type 2 where
   pub normalize-meets : normalize-stated.statement M
+  pub ruled-meets : ruled-stated.statement M
   pub refine-meets : refine-stated.statement M
   pub recover-meets : recover-stated.statement M
   pub coalesce-meets : coalesce-stated.statement M
@@ -186,16 +210,18 @@ pub record AnyCalls (M : Type 1) : Type 2 where
   pub compact-meets : compact-stated.statement M
   pub partitions-meets : partitions-stated.statement M
   pub run-meets : run-stated.statement M
-  pub lists : {s : List ℕ} {len used : ℕ} {out : List ℕ} → Accepted s len used out
-      → {calls : List Call} {t : List ℕ} → Trace (take used out) calls t → Claimed s len calls t
-  pub beginnings : {s : List ℕ} {len used : ℕ} {out : List ℕ} → Accepted s len used out
+  pub lists : {rules : ℕ} {s : List ℕ} {len used : ℕ} {out : List ℕ} → Accepted rules s len used out
+      → {calls : List Call} {t : List ℕ} → Trace (take used out) calls t → Claimed rules s len calls t
+  pub beginnings : {rules : ℕ} {s : List ℕ} {len used : ℕ} {out : List ℕ} → Accepted rules s len used out
       → {calls : List Call} {t : List ℕ} (tr : Trace (take used out) calls t) (n : ℕ)
-      → Claimed s len (take n calls) (sheetAfter n tr)
+      → Claimed rules s len (take n calls) (sheetAfter n tr)
   pub starts : (s : List ℕ) → IsBytes s → (len : ℕ) (b ns : List ℕ) → normalizeToSemilinear s len ≡ accepted b ns
-      → Started s len
-  pub traces : {s : List ℕ} {len used : ℕ} {out : List ℕ} → Accepted s len used out
+      → Started 1 s len
+  pub starts-by : (rules : ℕ) (s : List ℕ) → IsBytes s → (len : ℕ) (b ns : List ℕ)
+      → normalizeByRules rules s len ≡ accepted b ns → Started rules s len
+  pub traces : {rules : ℕ} {s : List ℕ} {len used : ℕ} {out : List ℕ} → Accepted rules s len used out
       → (calls : List Call) → Traced (take used out) calls
   pub runs : {s words : List ℕ} {len used : ℕ} {sheet : List ℕ} → IsBytes s → Ran s words len 0 used sheet
-      → Claimed s len (callsOf words) (take used sheet)
+      → Claimed 1 s len (callsOf words) (take used sheet)
   pub columns : (s : List ℕ) → IsBytes s → (len count : ℕ) (out : List ℕ) → Parted s len 0 count out
       → ColumnsOf (decodeForm s) out count

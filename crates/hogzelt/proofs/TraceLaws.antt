@@ -22,7 +22,8 @@ use Rattle.atom_table.proofs.MadeLaws.{Made, made, not-made}
 use Rattle.semilinear.proofs.OutcomeLaws.{gives-two}
 use Rattle.semilinear_value.proofs.ValueLaws.{encoded-value}
 use Rattle.normalizer_laws.specs.Normalize.{normalizeToSemilinear}
-use Rattle.normalizer_laws.proofs.NormalizeLaws.{normalize-form, normalize-refused}
+use Rattle.rules_laws.specs.Rules.{normalizeByRules}
+use Rattle.rules_laws.proofs.RulesLaws.{rules-one, rules-refused, rules-form}
 use Rattle.partition_laws.specs.Columns.{atomTree}
 use Rattle.partition_laws.specs.Partition.{computePartitions}
 use Rattle.partition_laws.proofs.ColumnsLaws.{row-is}
@@ -34,7 +35,7 @@ use Rattle.claims.proofs.CallsLaws.{pass-keeps, call-keeps, list-keeps}
 use Rattle.hogzelt.proofs.Trace.{Learns, Returned, Flattened, Parted, CallOf, refines, recovers, coalesces}
 use Rattle.hogzelt.proofs.Trace.{flattens, compacts, inUseAfter}
 use Rattle.hogzelt.proofs.Trace.{Trace, none, then, sheetAfter, ColumnsOf, Claimed, Accepted}
-use Rattle.hogzelt.proofs.hogzelt_normalize_to_semilinear.Reads as normalize-reads
+use Rattle.hogzelt.proofs.Trace.{Normalizes, plain, by-rules}
 
 -- ---- what the contracts say
 
@@ -77,12 +78,16 @@ call-gives compact-atom-table (compacts k) =
       given = rw (sym (k .reads), sym (k .sized), sym (k .uses), sym (k .writes)) (k .learnt);
     }
 
-normalize-gives : {s : List ℕ} {len r used : ℕ} {out : List ℕ} → Returned normalize-reads.Learnt s len r used out
-    → GivesUsed (normalizeToSemilinear s len) len r used out
-normalize-gives k =
+normalize-gives : {rules : ℕ} {s : List ℕ} {len used : ℕ} {out : List ℕ} → Normalizes s len used out rules
+    → GivesUsed (normalizeByRules rules s len) len 0 used out
+normalize-gives {rules} {s} {len} {used} {out} (plain k) =
+    let given : Gives (normalizeToSemilinear s len) len 0 (used ∷ termsOf k ∷ []) out =
+    rw (sym (k .reads), sym (k .sized), sym (k .uses), sym (k .writes)) (k .learnt) in
+    record { terms = termsOf k; given = rw (rules-one s len) given }
+normalize-gives (by-rules k) =
     record {
-      terms = termsOf k;
-      given = rw (sym (k .reads), sym (k .sized), sym (k .uses), sym (k .writes)) (k .learnt);
+      terms = now (k .exit .1 .1 .1 .1 .0);
+      given = rw (sym (k .named), sym (k .reads), sym (k .sized), sym (k .uses), sym (k .writes)) (k .learnt);
     }
 
 -- the partition classes of any bytes
@@ -150,11 +155,11 @@ trace-cut (suc n) (then k rest) = then k (trace-cut n rest)
 -- ---- from an expression
 
 -- what the definitions give for the list is as claimed
-pub definition-claimed : (s : List ℕ) → IsBytes s → (len : ℕ) (b ns : List ℕ)
-    → normalizeToSemilinear s len ≡ accepted b ns → (calls : List Call) (t : List ℕ) → t ≡ inUse calls b
-    → Claimed s len calls t
-definition-claimed s h len b ns e calls t bytes =
-    let n = normalize-form s h len b ns e in
+pub definition-claimed : (rules : ℕ) (s : List ℕ) → IsBytes s → (len : ℕ) (b ns : List ℕ)
+    → normalizeByRules rules s len ≡ accepted b ns → (calls : List Call) (t : List ℕ) → t ≡ inUse calls b
+    → Claimed rules s len calls t
+definition-claimed rules s h len b ns e calls t bytes =
+    let n = rules-form rules s len h b ns e in
     let last = list-keeps calls (n .form) (n .valid) in
     let f : Form = last .form in
     let ok : validForm f ≡ true = last .kept .valid in
@@ -179,30 +184,31 @@ definition-claimed s h len b ns e calls t bytes =
     }
 
 -- what normalising gave: the first bytes in use
-pub record Begun (s : List ℕ) (len used : ℕ) (out : List ℕ) : Type 0 where
+pub record Begun (rules : ℕ) (s : List ℕ) (len used : ℕ) (out : List ℕ) : Type 0 where
   pub first : List ℕ
   pub numbers : List ℕ
-  pub normal : normalizeToSemilinear s len ≡ accepted first numbers
+  pub normal : normalizeByRules rules s len ≡ accepted first numbers
   pub taken : take used out ≡ first
 
-pub begun : {s : List ℕ} {len used : ℕ} {out : List ℕ} → Accepted s len used out → Begun s len used out
+pub begun : {rules : ℕ} {s : List ℕ} {len used : ℕ} {out : List ℕ} → Accepted rules s len used out
+    → Begun rules s len used out
 unfolding refusalOf numbersOf
-begun {s} {len} {used} {out} a = go (normalizeToSemilinear s len) refl
+begun {rules} {s} {len} {used} {out} a = go (normalizeByRules rules s len) refl
   where
-    go : (o : Outcome) → normalizeToSemilinear s len ≡ o → Begun s len used out
+    go : (o : Outcome) → normalizeByRules rules s len ≡ o → Begun rules s len used out
     go (accepted b ns) e =
         let g = normalize-gives (a .returned) in
-        let n = normalize-form s (a .are-bytes) len b ns e in
+        let n = rules-form rules s len (a .are-bytes) b ns e in
         let count : used ≡ length b = used-of g e ∙ ap (λ (l : List ℕ). getD (take 2 l) 0 0) (n .counted) in
         record { first = b; numbers = ns; normal = e; taken = take-written g e count }
     go (refused n) e =
         let number : 0 ≡ n = normalize-gives (a .returned) .given .number ∙ ap refusalOf e in
-        absurd (omega (arith, number, normalize-refused s len n e))
+        absurd (omega (arith, number, rules-refused rules s len n e))
 
-pub trace-claimed : {s : List ℕ} {len used : ℕ} {out : List ℕ} → Accepted s len used out
-    → {calls : List Call} {t : List ℕ} → Trace (take used out) calls t → Claimed s len calls t
-trace-claimed {s} {len} a {calls} {t} tr =
+pub trace-claimed : {rules : ℕ} {s : List ℕ} {len used : ℕ} {out : List ℕ} → Accepted rules s len used out
+    → {calls : List Call} {t : List ℕ} → Trace (take used out) calls t → Claimed rules s len calls t
+trace-claimed {rules} {s} {len} a {calls} {t} tr =
     let b = begun a in
-    let n = normalize-form s (a .are-bytes) len (b .first) (b .numbers) (b .normal) in
-    definition-claimed s (a .are-bytes) len (b .first) (b .numbers) (b .normal) calls t
+    let n = rules-form rules s len (a .are-bytes) (b .first) (b .numbers) (b .normal) in
+    definition-claimed rules s (a .are-bytes) len (b .first) (b .numbers) (b .normal) calls t
     (trace-bytes (n .form) (n .valid) (b .taken ∙ n .encoded) tr ∙ ap (inUse calls) (b .taken))

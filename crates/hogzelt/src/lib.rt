@@ -8,6 +8,7 @@ ghost use Rattle.semilinear_value.specs.Value.{IsSemilinearValue};
 ghost use Rattle.base.specs.Outcome.{flagNumber, Gives};
 ghost use Rattle.compaction.specs.Compact.{compactAtomTable};
 ghost use Rattle.normalizer_laws.specs.Normalize.{normalizeToSemilinear};
+ghost use Rattle.rules_laws.specs.Rules.{normalizeByRules};
 ghost use Rattle.refiner_laws.specs.RefineTerms.{refineTerms};
 ghost use Rattle.structure_laws.specs.RecoverStructure.{recoverStructure};
 ghost use Rattle.structure_laws.specs.CoalesceTerms.{coalesceTerms};
@@ -98,6 +99,25 @@ pub extern "C" fn hogzelt_normalize_to_semilinear(
     *used = found.used;
     *terms = found.terms;
     found.refusal
+}
+
+// The semilinear form of an expression by the rules that the caller names, 1 or 2; returns the
+// refusal, 0 where it is accepted.
+#[no_mangle]
+pub extern "C" fn hogzelt_normalize_by_rules(
+    rules: u64,
+    expr: &[u8],
+    out: &mut [u8],
+    used: &mut u64,
+    terms: &mut u64,
+) -> u64
+    ensures { λ r. ⌜ Gives (normalizeByRules rules (now (expr .entry)) (length (now (out .entry))))
+        (length (now (out .entry))) r (now (used .exit) ∷ now (terms .exit) ∷ []) (now (out .exit)) ⌝ }
+{
+    let ruled = semilinear_normalizer::normalize_by_rules(rules, expr, out);
+    *used = ruled.used;
+    *terms = ruled.terms;
+    ruled.refusal
 }
 
 // The form s with its terms refined; returns the refusal, 0 where it is accepted.

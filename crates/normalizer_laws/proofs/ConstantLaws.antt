@@ -31,7 +31,7 @@ use Rattle.semilinear.specs.Outcome.{formOutcome}
 use Rattle.normalizer_laws.specs.Collect.{Collected, nonlinear, linear, collectConstant, collectTerms}
 use Rattle.normalizer_laws.specs.Register.{registerAll}
 use Rattle.normalizer_laws.specs.Normalize.{collectedForm, normalizeTree, normalizeToSemilinear}
-use Rattle.normalizer_laws.proofs.NormalizeLaws.{tree-eight, tree-form, file-tree}
+use Rattle.normalizer_laws.proofs.NormalizeLaws.{tree-eight, tree-form, normalize-file, file-tree}
 
 -- the form of a constant
 abbrev pub constantForm : ℕ → ℕ → Form
@@ -147,7 +147,7 @@ pub normalize-constant : (s : List ℕ) (len : ℕ) → exprRefusal s ≡ 0 → 
     → (vars : List ℕ) → normalizeToSemilinear s len ≡ formOutcome (constantForm (width s) (exprValue s vars)) false
 normalize-constant s len z n e vars =
     let root = accepted-root (width s) s (accepted-tree s z) in
-    file-tree s len z n
+    file-tree s len (decode s) (normalize-file s len) z n
     ∙ tree-constant (width s) (root .width-le) (decode s) e
     ∙ ap (λ (c : ℕ). formOutcome (constantForm (width s) c) false)
     (sym (expr-value-accepted s vars z refl ∙ value-closed (width s) vars (decode s) e))

@@ -6,13 +6,14 @@ use native.Mathlib.Omega.{arith}
 use native.Mathlib.Nat.{mod-eq-of-lt}
 use native.Mathlib.Decide.{ℕ-discrete}
 use mathlib.Core.List.{List, [], _∷_}
-use mathlib.Core.Bool.{Bool, true, false}
+use mathlib.Core.Bool.{Bool, true, false, not}
 use lib.ListN.{length}
-use lib.Dec.{lit<}
+use lib.Dec.{eqb, lit<}
 use lib.Pow.{pow-mono}
 use borrow.Author.Tests.{eq-eqb, ne-eqb, le-leb, lt-ltb}
 use Rattle.arith.specs.Congruence.{Eqm}
 use Rattle.arith.proofs.CongruenceLaws.{eqm-of-eq, eqm-refl, eqm-trans, eqm-add}
+use Rattle.base.specs.Choice.{when}
 use Rattle.record.specs.Fields.{width}
 use Rattle.record.specs.Tree.{Tree, IsBytes}
 use Rattle.record.specs.Decode.{decode}
@@ -129,37 +130,46 @@ module _ (w : ℕ) (t : Tree) where
 
 -- ---- the bytes of an expression
 
--- what normalising bytes gives, by the first test that decides
-pub data FileCase (s : List ℕ) (len : ℕ) : Type 0 where
-  wrong-length : exprRefusal s ≡ 1 → normalizeToSemilinear s len ≡ refused 1 → FileCase s len
-  wrong-slice : (exprRefusal s ≡ 1 → ⊥) → (len ≡ 57360 → ⊥) → normalizeToSemilinear s len ≡ refused 2 → FileCase s len
-  no-expression : (exprRefusal s ≡ 1 → ⊥) → (exprRefusal s ≡ 0 → ⊥) → len ≡ 57360
-      → normalizeToSemilinear s len ≡ refused (exprRefusal s) → FileCase s len
-  expression : exprRefusal s ≡ 0 → len ≡ 57360 → normalizeToSemilinear s len ≡ normalizeTree (width s) (decode s)
-      → FileCase s len
+-- what the bytes s of an expression give where the tree u is normalised for them: their own, or one that stands for it
+unfoldable pub fileOutcome : List ℕ → ℕ → Tree → Outcome
+fileOutcome s len u =
+    when (eqb (exprRefusal s) 1) (λ _. refused 1)
+    (λ _. when (not (eqb len 57360)) (λ _. refused 2)
+    (λ _. when (not (eqb (exprRefusal s) 0)) (λ _. refused (exprRefusal s)) (λ _. normalizeTree (width s) u)))
 
-module _ (s : List ℕ) (len : ℕ) where
-  pub file-one : exprRefusal s ≡ 1 → normalizeToSemilinear s len ≡ refused 1
-  unfolding normalizeToSemilinear
-  file-one e = simp (eq-eqb (exprRefusal s) 1 e)
+pub normalize-file : (s : List ℕ) (len : ℕ) → normalizeToSemilinear s len ≡ fileOutcome s len (decode s)
+unfolding normalizeToSemilinear fileOutcome
+normalize-file s len = refl
 
-  pub file-two : (exprRefusal s ≡ 1 → ⊥) → (len ≡ 57360 → ⊥) → normalizeToSemilinear s len ≡ refused 2
-  unfolding normalizeToSemilinear
-  file-two e n = simp (ne-eqb (exprRefusal s) 1 e, ne-eqb len 57360 n)
+-- an outcome o of this kind, by the first test that decides
+pub data FileCase (o : Outcome) (s : List ℕ) (len : ℕ) (u : Tree) : Type 0 where
+  wrong-length : exprRefusal s ≡ 1 → o ≡ refused 1 → FileCase o s len u
+  wrong-slice : (exprRefusal s ≡ 1 → ⊥) → (len ≡ 57360 → ⊥) → o ≡ refused 2 → FileCase o s len u
+  no-expression : (exprRefusal s ≡ 1 → ⊥) → (exprRefusal s ≡ 0 → ⊥) → len ≡ 57360 → o ≡ refused (exprRefusal s)
+      → FileCase o s len u
+  expression : exprRefusal s ≡ 0 → len ≡ 57360 → o ≡ normalizeTree (width s) u → FileCase o s len u
 
-  pub file-refused : (exprRefusal s ≡ 1 → ⊥) → (exprRefusal s ≡ 0 → ⊥) → len ≡ 57360
-      → normalizeToSemilinear s len ≡ refused (exprRefusal s)
-  unfolding normalizeToSemilinear
-  file-refused e z n = simp (ne-eqb (exprRefusal s) 1 e, eq-eqb len 57360 n, ne-eqb (exprRefusal s) 0 z)
+module _ (s : List ℕ) (len : ℕ) (u : Tree) {o : Outcome} (is : o ≡ fileOutcome s len u) where
+  pub file-one : exprRefusal s ≡ 1 → o ≡ refused 1
+  unfolding fileOutcome
+  file-one e = is ∙ simp (eq-eqb (exprRefusal s) 1 e)
 
-  pub file-tree : exprRefusal s ≡ 0 → len ≡ 57360 → normalizeToSemilinear s len ≡ normalizeTree (width s) (decode s)
-  unfolding normalizeToSemilinear
-  file-tree z n = simp (ne-eqb (exprRefusal s) 1 (omega arith), eq-eqb len 57360 n, eq-eqb (exprRefusal s) 0 z)
+  pub file-two : (exprRefusal s ≡ 1 → ⊥) → (len ≡ 57360 → ⊥) → o ≡ refused 2
+  unfolding fileOutcome
+  file-two e n = is ∙ simp (ne-eqb (exprRefusal s) 1 e, ne-eqb len 57360 n)
 
-  pub file-case : FileCase s len
+  pub file-refused : (exprRefusal s ≡ 1 → ⊥) → (exprRefusal s ≡ 0 → ⊥) → len ≡ 57360 → o ≡ refused (exprRefusal s)
+  unfolding fileOutcome
+  file-refused e z n = is ∙ simp (ne-eqb (exprRefusal s) 1 e, eq-eqb len 57360 n, ne-eqb (exprRefusal s) 0 z)
+
+  pub file-tree : exprRefusal s ≡ 0 → len ≡ 57360 → o ≡ normalizeTree (width s) u
+  unfolding fileOutcome
+  file-tree z n = is ∙ simp (ne-eqb (exprRefusal s) 1 (omega arith), eq-eqb len 57360 n, eq-eqb (exprRefusal s) 0 z)
+
+  pub file-case : FileCase o s len u
   file-case = go (ℕ-discrete (exprRefusal s) 1) (ℕ-discrete len 57360) (ℕ-discrete (exprRefusal s) 0)
     where
-      go : Dec (exprRefusal s ≡ 1) → Dec (len ≡ 57360) → Dec (exprRefusal s ≡ 0) → FileCase s len
+      go : Dec (exprRefusal s ≡ 1) → Dec (len ≡ 57360) → Dec (exprRefusal s ≡ 0) → FileCase o s len u
       go (yes e) b c = wrong-length e (file-one e)
       go (no e) (no n) c = wrong-slice e n (file-two e n)
       go (no e) (yes n) (yes z) = expression z n (file-tree z n)
@@ -170,7 +180,7 @@ elements : Outcome → List ℕ
 elements (accepted l ns) = l
 elements (refused n) = []
 
-not-accepted : {A : Type 0} {o : Outcome} {n : ℕ} {b ns : List ℕ} → o ≡ refused n → 0 < n → o ≡ accepted b ns → A
+pub not-accepted : {A : Type 0} {o : Outcome} {n : ℕ} {b ns : List ℕ} → o ≡ refused n → 0 < n → o ≡ accepted b ns → A
 unfolding refusalOf
 not-accepted {n} f h e = let z : n ≡ 0 = ap refusalOf (sym f ∙ e) in absurd (omega arith)
 
@@ -180,24 +190,28 @@ tag (accepted l ns) = 0
 tag (refused n) = 1
 
 -- a refusal is not 0
-pub normalize-refused : (s : List ℕ) (len n : ℕ) → normalizeToSemilinear s len ≡ refused n → 0 < n
+pub file-refusal : (s : List ℕ) (len : ℕ) (u : Tree) {o : Outcome} → o ≡ fileOutcome s len u → (n : ℕ) → o ≡ refused n
+    → 0 < n
 unfolding refusalOf tag formOutcome
-normalize-refused s len n e = go (file-case s len)
+file-refusal s len u {o} is n e = go (file-case s len u is)
   where
-    same : {k : ℕ} → normalizeToSemilinear s len ≡ refused k → n ≡ k
+    same : {k : ℕ} → o ≡ refused k → n ≡ k
     same f = ap refusalOf (sym e ∙ f)
 
-    by-tree : normalizeToSemilinear s len ≡ normalizeTree (width s) (decode s) → TreeCase (width s) (decode s) → 0 < n
+    by-tree : o ≡ normalizeTree (width s) u → TreeCase (width s) u → 0 < n
     by-tree q (not-linear x f) = let k = same (q ∙ f) in omega (arith, k)
     by-tree q (too-large c l x fits f) = let k = same (q ∙ f) in omega (arith, k)
     by-tree q (written c l x fits f) =
         let z : _≡_ {A = ℕ} 0 1 = ap tag (sym (q ∙ f) ∙ e) in absurd (omega (arith, z))
 
-    go : FileCase s len → 0 < n
+    go : FileCase o s len u → 0 < n
     go (wrong-length x f) = let k = same f in omega (arith, k)
     go (wrong-slice x k f) = let k = same f in omega (arith, k)
     go (no-expression x z k f) = let j = same f in omega (arith, z, j)
-    go (expression z k f) = by-tree f (tree-case (width s) (decode s))
+    go (expression z k f) = by-tree f (tree-case (width s) u)
+
+pub normalize-refused : (s : List ℕ) (len n : ℕ) → normalizeToSemilinear s len ≡ refused n → 0 < n
+normalize-refused s len = file-refusal s len (decode s) (normalize-file s len)
 
 -- what an accepted call gives: the bytes of a valid form of the expression's width and value, and its numbers
 pub record Normalized (s bytes numbers : List ℕ) : Type 0 where
@@ -209,10 +223,15 @@ pub record Normalized (s bytes numbers : List ℕ) : Type 0 where
   pub kept : (vars : List ℕ) → formValue vars form ≡ exprValue s vars
   pub new : newRows (form .rows) ≡ true
 
-module _ (s : List ℕ) (h : IsBytes s) (len : ℕ) (bytes numbers : List ℕ)
-    (given : normalizeToSemilinear s len ≡ accepted bytes numbers) where
-  from-tree : exprRefusal s ≡ 0 → normalizeTree (width s) (decode s) ≡ accepted bytes numbers
-      → TreeCase (width s) (decode s) → Normalized s bytes numbers
+-- the tree u stands for t: an expression where t is one, and of the same value at w bits under every assignment
+pub record StandsFor (w : ℕ) (t u : Tree) : Type 0 where
+  pub expr : isExpr t ≡ true → isExpr u ≡ true
+  pub valued : (vars : List ℕ) → value w vars u ≡ value w vars t
+
+module _ (s : List ℕ) (h : IsBytes s) (len : ℕ) (u : Tree)
+    (stands : exprRefusal s ≡ 0 → StandsFor (width s) (decode s) u) (bytes numbers : List ℕ) where
+  from-tree : exprRefusal s ≡ 0 → normalizeTree (width s) u ≡ accepted bytes numbers
+      → TreeCase (width s) u → Normalized s bytes numbers
   unfolding elements numbersOf formOutcome collectedForm newRows
   from-tree z o (not-linear e f) = not-accepted f (omega arith) o
   from-tree z o (too-large c l e fits f) = not-accepted f (omega arith) o
@@ -220,35 +239,46 @@ module _ (s : List ℕ) (h : IsBytes s) (len : ℕ) (bytes numbers : List ℕ)
       let w : ℕ = width s in
       let tree : treeRefusal w s ≡ 0 = accepted-tree s z in
       let root = accepted-root w s tree in
-      let expr : isExpr (decode s) ≡ true = accept-expr w s h tree in
+      let expr : isExpr u ≡ true = stands z .expr (accept-expr w s h tree) in
       let terms : ℕ = termCount (collectedForm w c l .rows) in
       let same : bytes ≡ encodeForm (collectedForm w c l) = ap elements (sym o ∙ f) in
       record {
         form = collectedForm w c l;
         encoded = same;
         counted = ap (numbersOf 3) (sym o ∙ f) ∙ ap (λ (x : List ℕ). length x ∷ terms ∷ 0 ∷ []) (sym same);
-        valid = collected-valid w (root .width-pos) (root .width-le) (decode s) expr c l e fits;
+        valid = collected-valid w (root .width-pos) (root .width-le) u expr c l e fits;
         wide = refl;
         kept =
             λ vars.
-            collected-value w (root .width-pos) (root .width-le) (decode s) expr c l e vars
+            collected-value w (root .width-pos) (root .width-le) u expr c l e vars
+            ∙ stands z .valued vars
             ∙ sym (expr-value-accepted s vars z refl);
         new = register-all-new w [] (root .width-le) l [] refl;
       }
 
-  pub normalize-form : Normalized s bytes numbers
-  normalize-form = go (file-case s len)
+  pub file-form : {o : Outcome} → o ≡ fileOutcome s len u → o ≡ accepted bytes numbers → Normalized s bytes numbers
+  file-form {o} is given = go (file-case s len u is)
     where
-      go : FileCase s len → Normalized s bytes numbers
+      go : FileCase o s len u → Normalized s bytes numbers
       go (wrong-length e f) = not-accepted f (omega arith) given
       go (wrong-slice e n f) = not-accepted f (omega arith) given
       go (no-expression e z n f) = not-accepted f (omega arith) given
-      go (expression z n f) = from-tree z (sym f ∙ given) (tree-case (width s) (decode s))
+      go (expression z n f) = from-tree z (sym f ∙ given) (tree-case (width s) u)
 
-  -- the form that normalising gives has the value of the expression, under every assignment
+-- a form that normalising gives has the value of the expression, under every assignment
+pub normalized-value : {s bytes numbers : List ℕ} → Normalized s bytes numbers → (vars : List ℕ)
+    → semilinearValue bytes vars ≡ exprValue s vars
+normalized-value n vars =
+    ap (λ (b : List ℕ). semilinearValue b vars) (n .encoded)
+    ∙ encoded-value (n .form) (n .valid) vars
+    ∙ n .kept vars
+
+module _ (s : List ℕ) (h : IsBytes s) (len : ℕ) (bytes numbers : List ℕ)
+    (given : normalizeToSemilinear s len ≡ accepted bytes numbers) where
+  pub normalize-form : Normalized s bytes numbers
+  normalize-form =
+      let itself : StandsFor (width s) (decode s) (decode s) = record { expr = λ e. e; valued = λ vars. refl } in
+      file-form s h len (decode s) (λ _. itself) bytes numbers (normalize-file s len) given
+
   pub normalize-value : (vars : List ℕ) → semilinearValue bytes vars ≡ exprValue s vars
-  normalize-value vars =
-      let n = normalize-form in
-      ap (λ (b : List ℕ). semilinearValue b vars) (n .encoded)
-      ∙ encoded-value (n .form) (n .valid) vars
-      ∙ n .kept vars
+  normalize-value = normalized-value normalize-form

@@ -23,8 +23,8 @@ use Rattle.semilinear.specs.Outcome.{formOutcome}
 use Rattle.normalizer_laws.specs.Collect.{Emitted, nonlinear, linear, collectTerms}
 use Rattle.normalizer_laws.specs.Normalize.{collectedForm, normalizeTree, normalizeToSemilinear}
 use Rattle.normalizer_laws.proofs.NormalizeLaws.{TreeCase, not-linear, too-large, written}
-use Rattle.normalizer_laws.proofs.NormalizeLaws.{tree-eight, tree-nine, tree-case, FileCase}
-use Rattle.normalizer_laws.proofs.NormalizeLaws.{wrong-length, wrong-slice, no-expression, expression}
+use Rattle.normalizer_laws.proofs.NormalizeLaws.{tree-eight, tree-nine, tree-case, fileOutcome, normalize-file}
+use Rattle.normalizer_laws.proofs.NormalizeLaws.{FileCase, wrong-length, wrong-slice, no-expression, expression}
 use Rattle.normalizer_laws.proofs.NormalizeLaws.{file-one, file-two, file-refused, file-tree, file-case}
 
 -- ---- the refusals of an expression
@@ -143,94 +143,122 @@ module _ (w : ℕ) (t : Tree) where
 abbrev pub Reached : List ℕ → ℕ → Type 0
 Reached s len = (exprRefusal s ≡ 0) × (len ≡ 57360)
 
-module _ (s : List ℕ) (len : ℕ) where
+-- of any outcome o that is given where the tree u is normalised for the bytes s
+module _ (s : List ℕ) (len : ℕ) (u : Tree) {o : Outcome} (is : o ≡ fileOutcome s len u) where
+  cases : FileCase o s len u
+  cases = file-case s len u is
+
   -- a refusal of 7 or more is the tree's
-  of-tree : (n : ℕ) → 7 ≤ n → normalizeToSemilinear s len ≡ refused n
-      → Reached s len × (normalizeTree (width s) (decode s) ≡ refused n)
+  of-tree : (n : ℕ) → 7 ≤ n → o ≡ refused n → Reached s len × (normalizeTree (width s) u ≡ refused n)
   unfolding refusalOf
-  of-tree n h e = go (file-case s len)
+  of-tree n h e = go cases
     where
       low : (exprRefusal s ≡ 1) ⊎ Range (exprRefusal s) → exprRefusal s ≡ n → ⊥
       low (inl a) f = omega arith
       low (inr (inl a)) f = omega arith
       low (inr (inr a)) f = omega (arith, a .1)
 
-      go : FileCase s len → Reached s len × (normalizeTree (width s) (decode s) ≡ refused n)
+      go : FileCase o s len u → Reached s len × (normalizeTree (width s) u ≡ refused n)
       go (wrong-length a f) = absurd (omega (arith, same-refusal f e))
       go (wrong-slice a b f) = absurd (omega (arith, same-refusal f e))
       go (no-expression a b c f) = absurd (low (expr-range s) (same-refusal f e))
       go (expression z k f) = ((z, k), sym f ∙ e)
 
-  not-low : (n : ℕ) → 1 ≤ n → n < 7 → normalizeTree (width s) (decode s) ≡ refused n → ⊥
-  not-low n pos h e = omega (arith, tree-which (width s) (decode s) n pos e .0)
+  not-low : (n : ℕ) → 1 ≤ n → n < 7 → normalizeTree (width s) u ≡ refused n → ⊥
+  not-low n pos h e = omega (arith, tree-which (width s) u n pos e .0)
 
-  pub refused-one-iff : (normalizeToSemilinear s len ≡ refused 1) ↔ (exprRefusal s ≡ 1)
+  pub file-one-iff : (o ≡ refused 1) ↔ (exprRefusal s ≡ 1)
   unfolding refusalOf
-  refused-one-iff = (λ e. go e (file-case s len), λ h. file-one s len h)
+  file-one-iff = (λ e. go e cases, λ h. file-one s len u is h)
     where
-      go : normalizeToSemilinear s len ≡ refused 1 → FileCase s len → exprRefusal s ≡ 1
+      go : o ≡ refused 1 → FileCase o s len u → exprRefusal s ≡ 1
       go e (wrong-length a f) = a
       go e (wrong-slice a b f) = absurd (omega (arith, same-refusal f e))
       go e (no-expression a b c f) = same-refusal f e
       go e (expression z k f) = absurd (not-low 1 (omega arith) (omega arith) (sym f ∙ e))
 
-  pub refused-two-iff : (normalizeToSemilinear s len ≡ refused 2)
-      ↔ ((exprRefusal s ≡ 1 → ⊥) × (len ≡ 57360 → ⊥))
+  pub file-two-iff : (o ≡ refused 2) ↔ ((exprRefusal s ≡ 1 → ⊥) × (len ≡ 57360 → ⊥))
   unfolding refusalOf
-  refused-two-iff = (λ e. go e (file-case s len), λ h. file-two s len (h .0) (h .1))
+  file-two-iff = (λ e. go e cases, λ h. file-two s len u is (h .0) (h .1))
     where
       low : (exprRefusal s ≡ 1) ⊎ Range (exprRefusal s) → exprRefusal s ≡ 2 → ⊥
       low (inl a) f = omega arith
       low (inr (inl a)) f = omega arith
       low (inr (inr a)) f = omega (arith, a .0)
 
-      go : normalizeToSemilinear s len ≡ refused 2 → FileCase s len
-          → (exprRefusal s ≡ 1 → ⊥) × (len ≡ 57360 → ⊥)
+      go : o ≡ refused 2 → FileCase o s len u → (exprRefusal s ≡ 1 → ⊥) × (len ≡ 57360 → ⊥)
       go e (wrong-length a f) = absurd (omega (arith, same-refusal f e))
       go e (wrong-slice a b f) = (a, b)
       go e (no-expression a b c f) = absurd (low (expr-range s) (same-refusal f e))
       go e (expression z k f) = absurd (not-low 2 (omega arith) (omega arith) (sym f ∙ e))
 
   -- refusals 3 to 6
-  pub refused-expr-iff : (n : ℕ) → 3 ≤ n → n < 7
-      → (normalizeToSemilinear s len ≡ refused n) ↔ ((exprRefusal s ≡ n) × (len ≡ 57360))
+  pub file-expr-iff : (n : ℕ) → 3 ≤ n → n < 7 → (o ≡ refused n) ↔ ((exprRefusal s ≡ n) × (len ≡ 57360))
   unfolding refusalOf
-  refused-expr-iff n low high = (
-    λ e. go e (file-case s len),
-    λ h. file-refused s len (omega (arith, h .0)) (omega (arith, h .0)) (h .1) ∙ ap refused (h .0),
+  file-expr-iff n low high = (
+    λ e. go e cases,
+    λ h. file-refused s len u is (omega (arith, h .0)) (omega (arith, h .0)) (h .1) ∙ ap refused (h .0),
   )
     where
-      go : normalizeToSemilinear s len ≡ refused n → FileCase s len → (exprRefusal s ≡ n) × (len ≡ 57360)
+      go : o ≡ refused n → FileCase o s len u → (exprRefusal s ≡ n) × (len ≡ 57360)
       go e (wrong-length a f) = absurd (omega (arith, same-refusal f e))
       go e (wrong-slice a b f) = absurd (omega (arith, same-refusal f e))
       go e (no-expression a b c f) = (same-refusal f e, c)
       go e (expression z k f) = absurd (not-low n (omega arith) high (sym f ∙ e))
 
   -- 7 is the refusal of no file
-  pub refused-not-seven : normalizeToSemilinear s len ≡ refused 7 → ⊥
-  refused-not-seven e =
-      omega (arith, tree-which (width s) (decode s) 7 (omega arith) (of-tree 7 (omega arith) e .1) .0)
+  pub file-not-seven : o ≡ refused 7 → ⊥
+  file-not-seven e = omega (arith, tree-which (width s) u 7 (omega arith) (of-tree 7 (omega arith) e .1) .0)
 
   -- and neither is one above 9
-  pub refused-at-most-nine : (n : ℕ) → normalizeToSemilinear s len ≡ refused n → n ≤ 9
-  refused-at-most-nine n e = go (decLt 9 n)
+  pub file-at-most-nine : (n : ℕ) → o ≡ refused n → n ≤ 9
+  file-at-most-nine n e = go (decLt 9 n)
     where
       go : Dec (9 < n) → n ≤ 9
-      go (yes h) = tree-which (width s) (decode s) n (omega arith) (of-tree n (omega arith) e .1) .1
+      go (yes h) = tree-which (width s) u n (omega arith) (of-tree n (omega arith) e .1) .1
       go (no h) = omega arith
 
   -- refusals 8 and 9 are those of the tree
-  from-tree : {P : Type 0} (n : ℕ) → 8 ≤ n → (normalizeTree (width s) (decode s) ≡ refused n) ↔ P
-      → (normalizeToSemilinear s len ≡ refused n) ↔ (Reached s len × P)
+  from-tree : {P : Type 0} (n : ℕ) → 8 ≤ n → (normalizeTree (width s) u ≡ refused n) ↔ P
+      → (o ≡ refused n) ↔ (Reached s len × P)
   from-tree n h iff = (
     λ e. (of-tree n (omega arith) e .0, iff .0 (of-tree n (omega arith) e .1)),
-    λ p. file-tree s len (p .0 .0) (p .0 .1) ∙ iff .1 (p .1),
+    λ p. file-tree s len u is (p .0 .0) (p .0 .1) ∙ iff .1 (p .1),
   )
+
+  pub file-eight-iff : (o ≡ refused 8) ↔ (Reached s len × (collectTerms (width s) 1 u ≡ nonlinear))
+  file-eight-iff = from-tree 8 (omega arith) (tree-eight-iff (width s) u)
+
+  pub file-nine-iff : (o ≡ refused 9) ↔ (Reached s len × TooLarge (width s) u)
+  file-nine-iff = from-tree 9 (omega arith) (tree-nine-iff (width s) u)
+
+-- ---- normalising
+
+module _ (s : List ℕ) (len : ℕ) where
+  pub refused-one-iff : (normalizeToSemilinear s len ≡ refused 1) ↔ (exprRefusal s ≡ 1)
+  refused-one-iff = file-one-iff s len (decode s) (normalize-file s len)
+
+  pub refused-two-iff : (normalizeToSemilinear s len ≡ refused 2)
+      ↔ ((exprRefusal s ≡ 1 → ⊥) × (len ≡ 57360 → ⊥))
+  refused-two-iff = file-two-iff s len (decode s) (normalize-file s len)
+
+  -- refusals 3 to 6
+  pub refused-expr-iff : (n : ℕ) → 3 ≤ n → n < 7
+      → (normalizeToSemilinear s len ≡ refused n) ↔ ((exprRefusal s ≡ n) × (len ≡ 57360))
+  refused-expr-iff = file-expr-iff s len (decode s) (normalize-file s len)
+
+  -- 7 is the refusal of no file
+  pub refused-not-seven : normalizeToSemilinear s len ≡ refused 7 → ⊥
+  refused-not-seven = file-not-seven s len (decode s) (normalize-file s len)
+
+  -- and neither is one above 9
+  pub refused-at-most-nine : (n : ℕ) → normalizeToSemilinear s len ≡ refused n → n ≤ 9
+  refused-at-most-nine = file-at-most-nine s len (decode s) (normalize-file s len)
 
   pub refused-eight-iff : (normalizeToSemilinear s len ≡ refused 8)
       ↔ (Reached s len × (collectTerms (width s) 1 (decode s) ≡ nonlinear))
-  refused-eight-iff = from-tree 8 (omega arith) (tree-eight-iff (width s) (decode s))
+  refused-eight-iff = file-eight-iff s len (decode s) (normalize-file s len)
 
   pub refused-nine-iff : (normalizeToSemilinear s len ≡ refused 9)
       ↔ (Reached s len × TooLarge (width s) (decode s))
-  refused-nine-iff = from-tree 9 (omega arith) (tree-nine-iff (width s) (decode s))
+  refused-nine-iff = file-nine-iff s len (decode s) (normalize-file s len)

@@ -20,7 +20,7 @@ use Rattle.semilinear.proofs.FormLaws.{length-form, term-count-le}
 use Rattle.normalizer_laws.specs.Normalize.{collectedForm, normalizeTree, normalizeToSemilinear}
 use Rattle.normalizer_laws.proofs.NormalizeLaws.{TreeCase, not-linear, too-large, written}
 use Rattle.normalizer_laws.proofs.NormalizeLaws.{tree-case, FileCase, wrong-length, wrong-slice}
-use Rattle.normalizer_laws.proofs.NormalizeLaws.{no-expression, expression, file-case}
+use Rattle.normalizer_laws.proofs.NormalizeLaws.{no-expression, expression, normalize-file, file-case}
 
 -- the bytes of a form whose table keeps the limits
 length-fits : (f : Form) → fitsTable (f .rows) ≡ true → (16 ≤ length (encodeForm f)) × (length (encodeForm f) ≤ 57360)
@@ -66,11 +66,11 @@ module _ (s : List ℕ) (len : ℕ) (r : Answer) (out : List ℕ)
   by-tree k e (written c l b x f) =
       used-form (normalizeToSemilinear s len) len r out given (collectedForm (width s) c l) x k (e ∙ f)
 
-  by-file : FileCase s len → UsedWithin len r
+  by-file : FileCase (normalizeToSemilinear s len) s len (decode s) → UsedWithin len r
   by-file (wrong-length a f) = refuses 1 (omega arith) f
   by-file (wrong-slice a b f) = refuses 2 (omega arith) f
   by-file (no-expression a z k f) = refuses (exprRefusal s) (omega (arith, z)) f
   by-file (expression z k f) = by-tree k f (tree-case (width s) (decode s))
 
   pub used-normalize : UsedWithin len r
-  used-normalize = by-file (file-case s len)
+  used-normalize = by-file (file-case s len (decode s) (normalize-file s len))

@@ -9,13 +9,14 @@ use borrow.Author.Tests.{ne-eqb}
 use Rattle.base.specs.Choice.{when}
 use Rattle.base.specs.Put.{padded}
 use Rattle.record.specs.Tree.{IsBytes}
+use Rattle.record.specs.Decode.{decode}
 use Rattle.semilinear.specs.declared.outcome.Answer.{Answer}
 use Rattle.base.specs.Outcome.{Outcome, accepted, refused, refusalOf, numbersOf, writtenOf}
 use Rattle.semilinear.specs.Answers.{GivesForm}
 use Rattle.atom_table.proofs.PassLaws.{gives-same}
 use Rattle.normalizer_laws.specs.Normalize.{normalizeToSemilinear}
 use Rattle.normalizer_laws.proofs.NormalizeLaws.{FileCase, wrong-length, wrong-slice, no-expression, expression}
-use Rattle.normalizer_laws.proofs.NormalizeLaws.{file-case, normalize-form, normalize-refused}
+use Rattle.normalizer_laws.proofs.NormalizeLaws.{normalize-file, file-case, normalize-form, normalize-refused}
 use Rattle.claims.specs.Calls.{inUse}
 use Rattle.runner.specs.RunPasses.{callsOf, isList, bytesOutcome, listOutcome, runOutcome, runPasses}
 use Rattle.runner.specs.Placed.{Lies}
@@ -68,12 +69,12 @@ module _ (s words : List ℕ) (len spare : ℕ) (r : Answer) (out : List ℕ)
       module _ (h : IsBytes s) (z : r .refusal ≡ 0) where
         whole : len ≡ 57360
         unfolding refusalOf
-        whole = go (file-case s len)
+        whole = go (file-case s len (decode s) (normalize-file s len))
           where
             zero : {n : ℕ} → o ≡ refused n → n ≡ 0
             zero e = sym (ap refusalOf e) ∙ sym (g .number) ∙ z
 
-            go : FileCase s len → len ≡ 57360
+            go : FileCase o s len (decode s) → len ≡ 57360
             go (wrong-length e f) = let k = zero f in absurd (omega (arith, k))
             go (wrong-slice e n f) = let k = zero f in absurd (omega (arith, k))
             go (no-expression e n k f) = k

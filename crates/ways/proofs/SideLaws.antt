@@ -42,7 +42,7 @@ module _ {w : ℕ} {file marks : List ℕ} {x : Spot} (at : AtSpot w file marks 
   spot-some = omega (arith, spot-marks, sizeOf-pos (treeAt file x))
 
   -- its own mark, the last, as the code reads it
-  own-mark : getD marks (length marks - 1) 0 ≡ markOf (treeAt file x)
+  pub own-mark : getD marks (length marks - 1) 0 ≡ markOf (treeAt file x)
   own-mark =
       ap (λ (m : List ℕ). getD m (length marks - 1) 0) (at .marks-are)
       ∙ root-mark (treeAt file x) (length marks - 1) (omega (arith, spot-marks, sizeOf-pos (treeAt file x)))

@@ -3,7 +3,7 @@
 use mathlib.Core.Path.{_≡_}
 use Prim.Native.Nat.{ℕ, _+_, _-_, _*_, _^_, _≤_, _<_}
 use mathlib.Core.List.{List, []}
-use mathlib.Core.Bool.{Bool, true, false}
+use mathlib.Core.Bool.{Bool, true, false, _&&_}
 use lib.ListN.{length}
 use lib.Dec.{eqb}
 use Rattle.arith.specs.Width.{modMul}
@@ -19,8 +19,9 @@ use Rattle.ways.specs.declared.side.Spot.{Spot}
 use Rattle.ways.specs.declared.side.Side.{Side}
 use Rattle.ways.specs.declared.side.Way.{Way}
 use Rattle.normalizer_laws.specs.Collect.{Collected, nonlinear, linear, joinCollected, collectAtom}
-use Rattle.normalizer_laws.specs.Collect.{collectAnd, andCoeff, collectTerms}
-use Rattle.ways.specs.Marks.{marksOf}
+use Rattle.normalizer_laws.specs.Collect.{collectAnd, andCoeff}
+use Rattle.rules_laws.specs.Descend.{descend}
+use Rattle.ways.specs.Marks.{marksOf, markArith}
 use Rattle.ways.specs.Spans.{spanOf, Accepted}
 use Rattle.base.specs.Limits.{recordLength}
 
@@ -132,6 +133,10 @@ pub data SideOf (w : ℕ) (file marks : List ℕ) (start : ℕ) (l r : Tree) (b 
   at-left : b .found ≡ true → hasVarDep l ≡ true → hasVarDep r ≡ false → sideTree file b ≡ l → b .value ≡ value w [] r
       → SideAt w file marks start b → SideOf w file marks start l r b
 
+-- the rule for Not is taken at a root of kind k and of the mark m
+unfoldable pub isTurned : Bool → ℕ → ℕ → Bool
+isTurned nots k m = nots && (eqb k 7 && markArith m)
+
 -- what a tree with a variable is collected as where the descent ends at it
 unfoldable pub collectWhole : ℕ → ℕ → Tree → Collected
 collectWhole w c (Constant v) = collectAtom c (Constant v)
@@ -142,33 +147,39 @@ collectWhole w c (Binary k l r) =
     when (hasArith (Binary k l r)) (λ _. nonlinear)
     (λ _. when (eqb k 4) (λ _. collectAnd w c l r) (λ _. collectAtom c (Binary k l r)))
 
--- how the descent goes on at a tree t of kind k with a variable that is no Add, under a coefficient c other than 0: it
--- ends there, or goes to one child, or to one child and then to the And of it and a literal; the tree's bytes begin at
--- `start`
-pub data WayOf (w : ℕ) (file marks : List ℕ) (start k c : ℕ) (t : Tree) (b : Way) : Type 0 where
-  ends : b .found ≡ false → collectTerms w c t ≡ collectWhole w c t → WayOf w file marks start k c t b
-  goes : b .found ≡ true → b .more ≡ false → SideAt w file marks start (b .child)
+-- how the descent, with the rule for Not or without it, goes on at a tree t of kind k with a variable that is no Add,
+-- under a coefficient c other than 0: it ends there; or goes to one child, from a Not that is turned with a constant
+-- besides; or to one child and then to the And of it and a literal. The tree's bytes begin at `start`
+pub data WayOf (nots : Bool) (w : ℕ) (file marks : List ℕ) (start k c : ℕ) (t : Tree) (b : Way) : Type 0 where
+  ends : b .found ≡ false → descend nots w c t ≡ collectWhole w c t → WayOf nots w file marks start k c t b
+  goes : b .found ≡ true → b .more ≡ false → b .turned ≡ false → SideAt w file marks start (b .child)
       → sizeOf (sideTree file (b .child)) < sizeOf t
-      → collectTerms w c t ≡ collectTerms w (b .coeff) (sideTree file (b .child)) → WayOf w file marks start k c t b
+      → descend nots w c t ≡ descend nots w (b .coeff) (sideTree file (b .child))
+      → WayOf nots w file marks start k c t b
+  turns : b .found ≡ true → b .more ≡ false → b .turned ≡ true → SideAt w file marks start (b .child)
+      → sizeOf (sideTree file (b .child)) < sizeOf t → b .coeff < 2 ^ w
+      → descend nots w c t
+      ≡ joinCollected w (linear (b .coeff) []) (descend nots w (b .coeff) (sideTree file (b .child)))
+      → WayOf nots w file marks start k c t b
   masks : b .found ≡ true → b .more ≡ true → SideAt w file marks start (b .child)
       → sizeOf (sideTree file (b .child)) < sizeOf t → b .coeff ≡ c → hasVarDep (sideTree file (b .child)) ≡ true
-      → collectTerms w c t
-      ≡ joinCollected w (collectTerms w c (sideTree file (b .child)))
+      → descend nots w c t
+      ≡ joinCollected w (descend nots w c (sideTree file (b .child)))
       (collectLiteral w k c (sideTree file (b .child)) (b .child .value))
-      → b .child .value < 2 ^ w → WayOf w file marks start k c t b
+      → b .child .value < 2 ^ w → WayOf nots w file marks start k c t b
 
 -- at a tree with a variable under a coefficient other than 0 the descent ends
-abbrev pub EndsHere : ℕ → ℕ → Tree → Type 0
-EndsHere w c t = eqb c 0 ≡ false → hasVarDep t ≡ true → collectTerms w c t ≡ collectWhole w c t
+abbrev pub EndsHere : Bool → ℕ → ℕ → Tree → Type 0
+EndsHere nots w c t = eqb c 0 ≡ false → hasVarDep t ≡ true → descend nots w c t ≡ collectWhole w c t
 
 -- how the descent goes on at any spot: it ends there, or goes to the left side of an Add and then to the right one, or
 -- as at a root that is no Add
-pub data WayDown (w : ℕ) (file marks : List ℕ) (x : Spot) (b : Way) : Type 0 where
-  none : b .found ≡ false → EndsHere w (x .coeff) (treeAt file x) → WayDown w file marks x b
+pub data WayDown (nots : Bool) (w : ℕ) (file marks : List ℕ) (x : Spot) (b : Way) : Type 0 where
+  none : b .found ≡ false → EndsHere nots w (x .coeff) (treeAt file x) → WayDown nots w file marks x b
   sum : kind (spanOf file (x .start) (x .end)) ≡ 2 → eqb (x .coeff) 0 ≡ false → hasVarDep (treeAt file x) ≡ true
-      → b ≡ record { found = true; more = true; coeff = x .coeff; child = leftSide file x } → Places (x .start) (b .child)
-      → WayDown w file marks x b
+      → b ≡ record { found = true; more = true; turned = false; coeff = x .coeff; child = leftSide file x }
+      → Places (x .start) (b .child) → WayDown nots w file marks x b
   other : eqb (kind (spanOf file (x .start) (x .end))) 2 ≡ false → eqb (x .coeff) 0 ≡ false
       → hasVarDep (treeAt file x) ≡ true
-      → WayOf w file marks (x .start) (kind (spanOf file (x .start) (x .end))) (x .coeff) (treeAt file x) b
-      → WayDown w file marks x b
+      → WayOf nots w file marks (x .start) (kind (spanOf file (x .start) (x .end))) (x .coeff) (treeAt file x) b
+      → WayDown nots w file marks x b

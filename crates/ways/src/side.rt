@@ -10,7 +10,7 @@ ghost use Rattle.record.specs.Fields.{kind};
 ghost use Rattle.ways.specs.Spans.{spanOf};
 ghost use Rattle.ways.specs.Sides.{treeAt, AtSpot, AtRoot, isBinary, leftOf};
 ghost use Rattle.ways.specs.Sides.{rightOf, leftSide, TwoSides, rightSide, SideOf};
-ghost use Rattle.ways.specs.Sides.{Places, WayOf, WayDown};
+ghost use Rattle.ways.specs.Sides.{Places, isTurned, WayOf, WayDown};
 ghost use Rattle.base.specs.Limits.{recordLength};
 
 // A coefficient, and the bytes of the file that hold a subtree.
@@ -31,11 +31,13 @@ pub struct Side {
     pub value: u64,
 }
 
-// Where the descent goes on from a root: to one child with this coefficient, and, where there is
-// more, then to the right side of a sum or to the child and a literal; or nowhere.
+// Where the descent goes on from a root: to one child with this coefficient, which is added as a
+// constant too where the root is a Not that is turned; where there is more, then to the right side
+// of a sum, or to the child and a literal; or nowhere.
 pub struct Way {
     pub found: bool,
     pub more: bool,
+    pub turned: bool,
     pub coeff: u64,
     pub child: Side,
 }
@@ -154,17 +156,19 @@ fn nowhere() -> Way
     Way {
         found: false,
         more: false,
+        turned: false,
         coeff: 0,
         child: no_side(),
     }
 }
 
-// The way on from a Neg: to its child.
-fn way_neg(x: Spot, marks: &[u8], w: u32) -> Way
+// The way on from a Neg, or from a Not that is turned: to its child.
+fn way_neg(x: Spot, marks: &[u8], turned: bool, w: u32) -> Way
     requires { ⌜ (recordLength ≤ x .end) × (1 ≤ length (now marks)) ⌝ }
     ensures { λ b. ⌜ b ≡ record {
       found = true;
       more = false;
+      turned = turned;
       coeff = modNeg (x .coeff) w;
       child = record {
         found = true;
@@ -189,16 +193,30 @@ fn way_neg(x: Spot, marks: &[u8], w: u32) -> Way
     Way {
         found: true,
         more: false,
+        turned: turned,
         coeff: arith::mod_neg(x.coeff, w),
         child: child,
     }
 }
 
+// Whether the rule for Not is taken at a root of kind k and of the mark m.
+fn is_turned(nots: bool, k: u8, m: u8) -> bool
+    ensures { λ r. ⌜ r ≡ isTurned nots k m ⌝ }
+{
+    if !nots {
+        return false;
+    }
+    if k != 7 {
+        return false;
+    }
+    marks::has_arith(m)
+}
+
 // The way on from a root with two children that is no Add: a product by a constant, or an Or or
 // Xor with one.
-fn way_two(x: Spot, k: u8, file: &[u8], marks: &[u8], w: u32) -> Way
+fn way_two(x: Spot, k: u8, file: &[u8], marks: &[u8], nots: bool, w: u32) -> Way
     requires { ⌜ AtRoot w (now file) (now marks) x k × (isBinary (treeAt (now file) x) ≡ true) ⌝ }
-    ensures { λ b. ⌜ WayOf w (now (file .entry)) (now (marks .entry)) (x .start) k (x .coeff)
+    ensures { λ b. ⌜ WayOf nots w (now (file .entry)) (now (marks .entry)) (x .start) k (x .coeff)
         (treeAt (now (file .entry)) x) b ⌝ }
 {
     if k == 3 {
@@ -206,6 +224,7 @@ fn way_two(x: Spot, k: u8, file: &[u8], marks: &[u8], w: u32) -> Way
         return Way {
             found: side.found,
             more: false,
+            turned: false,
             coeff: arith::mod_mul(x.coeff, side.value, w),
             child: side,
         };
@@ -221,15 +240,16 @@ fn way_two(x: Spot, k: u8, file: &[u8], marks: &[u8], w: u32) -> Way
     Way {
         found: side.found,
         more: true,
+        turned: false,
         coeff: x.coeff,
         child: side,
     }
 }
 
-// The way on from a root with a variable that is no Add.
-pub fn way_on(x: Spot, file: &[u8], marks: &[u8], w: u32) -> Way
+// The way on from a root with a variable that is no Add; `nots` says that the rule for Not holds.
+pub fn way_on(x: Spot, file: &[u8], marks: &[u8], nots: bool, w: u32) -> Way
     requires { ⌜ AtRoot w (now file) (now marks) x (kind (spanOf (now file) (x .start) (x .end))) ⌝ }
-    ensures { λ b. ⌜ WayOf w (now (file .entry)) (now (marks .entry)) (x .start)
+    ensures { λ b. ⌜ WayOf nots w (now (file .entry)) (now (marks .entry)) (x .start)
         (kind (spanOf (now (file .entry)) (x .start) (x .end))) (x .coeff)
         (treeAt (now (file .entry)) x) b ⌝ }
 {
@@ -238,19 +258,23 @@ pub fn way_on(x: Spot, file: &[u8], marks: &[u8], w: u32) -> Way
     let t = &file[start..end];
     let k = record::kind(t);
     if k == 8 {
-        return way_neg(x, marks, w);
+        return way_neg(x, marks, false, w);
+    }
+    let last = marks.len() - 1;
+    if is_turned(nots, k, marks[last]) {
+        return way_neg(x, marks, true, w);
     }
     if record::root_arity(t) != 2 {
         return nowhere();
     }
-    way_two(x, k, file, marks, w)
+    way_two(x, k, file, marks, nots, w)
 }
 
 // The way on from any root: none under the coefficient 0 or without a variable, the left side of an
 // Add, and of another root as above.
-pub fn way_down(x: Spot, file: &[u8], marks: &[u8], w: u32) -> Way
+pub fn way_down(x: Spot, file: &[u8], marks: &[u8], nots: bool, w: u32) -> Way
     requires { ⌜ AtSpot w (now file) (now marks) x × (w ≤ 64) ⌝ }
-    ensures { λ b. ⌜ WayDown w (now (file .entry)) (now (marks .entry)) x b ⌝ }
+    ensures { λ b. ⌜ WayDown nots w (now (file .entry)) (now (marks .entry)) x b ⌝ }
 {
     let coeff = x.coeff;
     if coeff == 0 {
@@ -267,9 +291,10 @@ pub fn way_down(x: Spot, file: &[u8], marks: &[u8], w: u32) -> Way
         return Way {
             found: true,
             more: true,
+            turned: false,
             coeff: coeff,
             child: child,
         };
     }
-    way_on(x, file, marks, w)
+    way_on(x, file, marks, nots, w)
 }

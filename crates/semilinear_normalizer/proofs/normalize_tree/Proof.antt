@@ -66,7 +66,7 @@ returns c =
     let at-marks = at-nothing .before .before .before .before in
     let at-known = at-marks .before .before .before .before .before .before .before in
     let at-start = at-known .before in
-    gives-eight _ _ (λ i. at-known .shared-slice-known .given i .fits) (at-start .pre .accepted)
+    gives-eight _ _ (λ i. at-known .shared-slice-known .given i .fits) (at-start .pre .accepted) _
     (at-nothing .start .ensures) (at-all .collect-terms .ensures) (not-true _ (at-if .if1 .taken))
     (at-start .pre .written) (at-refuse .refuse .result) (at-refuse .refuse .ensures)
 
@@ -81,15 +81,15 @@ write-form-requires c κs =
     let pre = at-start .pre in (
       record {
         spots-ok =
-            spots-whole _ _ (λ i. at-known .shared-slice-known .given i .fits) (pre .accepted) nothing
+            spots-whole _ _ (λ i. at-known .shared-slice-known .given i .fits) (pre .accepted) _ nothing
             (at-all .collect-terms .ensures);
         inside =
-            count-whole _ _ (λ i. at-known .shared-slice-known .given i .fits) (pre .accepted) nothing
+            count-whole _ _ (λ i. at-known .shared-slice-known .given i .fits) (pre .accepted) _ nothing
             (at-all .collect-terms .ensures) (pre .collected);
         room = pre .built;
         long = pre .long;
         entries =
-            index-whole _ _ (λ i. at-known .shared-slice-known .given i .fits) (pre .accepted) nothing
+            index-whole _ _ (λ i. at-known .shared-slice-known .given i .fits) (pre .accepted) _ nothing
             (at-all .collect-terms .ensures) (pre .entries);
       },
       pre .written,
@@ -119,7 +119,7 @@ returns-2 c =
     let at-marks = at-nothing .before .before .before .before in
     let at-known = at-marks .before .before .before .before .before .before .before in
     let at-start = at-known .before in
-    gives-collected _ _ (λ i. at-known .shared-slice-known .given i .fits) (at-start .pre .accepted)
+    gives-collected _ _ (λ i. at-known .shared-slice-known .given i .fits) (at-start .pre .accepted) _
     (at-nothing .start .ensures) (at-all .collect-terms .ensures) (not-false _ (at-if .if1 .left))
     (at-form .write-form .result) (at-form .write-form .ensures)
 

@@ -1,7 +1,7 @@
 -- `way_down` meets its contract: no way, the left side of an Add, or the way of another root.
 use mathlib.Core.Path.{refl, ap, sym, _∙_}
 use native.Mathlib.Omega.{arith}
-use mathlib.Core.Bool.{true}
+use mathlib.Core.Bool.{true, false}
 use borrow.Author.Tests.{eqb-false, ne-eqb, not-true, not-false}
 use Rattle.record.specs.Fields.{kind}
 use Rattle.base.proofs.BoolLaws.{false-true}
@@ -69,7 +69,7 @@ returns-3 c =
     (ne-eqb _ 0 (at-if1 .if1 .left))
     (spot-variable (at-start .pre .0) (at-variable .has-variable .ensures) (not-false _ (at-if2 .if2 .left)))
     (ap
-    (λ (b : Side). record { found = true; more = true; coeff = at-start .args .x .coeff; child = b })
+    (λ (b : Side). record { found = true; more = true; turned = false; coeff = at-start .args .x .coeff; child = b })
     (c .left-side .ensures .0))
     (c .left-side .ensures .1)
 

@@ -16,7 +16,7 @@ returns : tie.Need-returns
 returns c =
     let at-start = c .before .before .before .before .before in
     let root = at-start .pre .0 in
-    way-mul (root .spot) (root .some) (root .variable) (root .kind-is) (root .no-add) (at-start .pre .1)
+    way-mul _ (root .spot) (root .some) (root .variable) (root .kind-is) (root .no-add) (at-start .pre .1)
     (c .before .before .if1 .taken) (c .before .side-of .ensures) (c .mod-mul .ensures)
 
 nowhere-requires : tie.Need-nowhere-requires
@@ -26,7 +26,7 @@ returns-2 : tie.Need-returns-2
 returns-2 c =
     let at-start = c .before .before .before .before .before in
     let root = at-start .pre .0 in
-    way-and (root .spot) (root .some) (root .variable) (root .kind-is) (root .no-add) (at-start .pre .1)
+    way-and _ (root .spot) (root .some) (root .variable) (root .kind-is) (root .no-add) (at-start .pre .1)
     (c .before .if2 .taken) (c .nowhere .ensures)
 
 sub-last : tie.Need-sub-last
@@ -47,7 +47,7 @@ returns-3 c =
     let at-if2 = at-if3 .before .before .before in
     let at-start = at-if2 .before .before .before .before in
     let root = at-start .pre .0 in
-    way-arith (root .spot) (root .some) (root .variable) (root .kind-is) (root .no-add) (at-start .pre .1)
+    way-arith _ (root .spot) (root .some) (root .variable) (root .kind-is) (root .no-add) (at-start .pre .1)
     (at-if2 .before .if1 .left) (at-if2 .if2 .left)
     (spot-arith (root .spot) (at-if3 .before .has-arith .ensures) (at-if3 .if3 .taken)) (c .nowhere2 .ensures)
 
@@ -60,7 +60,7 @@ returns-4 c =
     let at-if2 = at-if3 .before .before .before in
     let at-start = at-if2 .before .before .before .before in
     let root = at-start .pre .0 in
-    way-masked (root .spot) (root .some) (root .variable) (root .kind-is) (root .no-add) (at-start .pre .1)
+    way-masked _ (root .spot) (root .some) (root .variable) (root .kind-is) (root .no-add) (at-start .pre .1)
     (at-if2 .before .if1 .left) (at-if2 .if2 .left)
     (spot-arith (root .spot) (at-if3 .before .has-arith .ensures) (at-if3 .if3 .left)) (c .side-of2 .ensures)
 

@@ -13,7 +13,8 @@ use Rattle.descent.proofs.AddLaws.{down-right}
 use Rattle.ways.proofs.TwoSidesLaws.{add-sides}
 use Rattle.descent.proofs.WayDownLaws.{down-ends, down-child, down-stop, down-literal, down-masked}
 use Rattle.descent.proofs.WayDownLaws.{down-ready-literal, Going, going-start, going-child}
-use Rattle.descent.proofs.WayDownLaws.{going-right}
+use Rattle.descent.proofs.WayDownLaws.{going-right, ends-as}
+use Rattle.descent.proofs.CollectsLaws.{collects-as}
 use borrow.Fn.Kinds.{In}
 use borrow.Fn.PlainCycle.{Measures, is, falls, and}
 use Rattle.descent.proofs.collect.Descent.collect_terms.Reads as collect-terms
@@ -22,6 +23,7 @@ use Rattle.descent.proofs.collect.Descent.+collect_terms.Lts-collect_te
 use Rattle.record.proofs.kind.Reads as kind-reads
 use Rattle.descent.proofs.collect.Descent.collect_end.Reads as collect-end-reads
 use Rattle.descent.proofs.collect.Descent.collect_masked.Reads as collect-masked-reads
+use Rattle.descent.proofs.collect.Descent.turn.Reads as turn-reads
 use Rattle.ways.proofs.side.right_side.Reads as right-side-reads
 use Rattle.ways.proofs.side.side_spot.Reads as side-spot-reads
 use Rattle.ways.proofs.side.span_of.Reads as span-of-reads
@@ -45,11 +47,11 @@ collect-terms-below t =
     collect-terms.Pre
 
 abbrev collect-terms-Inv-loop : collect-terms-lts.InvT-loop
-collect-terms-Inv-loop file marks w spots₀ done₀ here₀ seen₀ spots done here seen =
-    Going w file here₀ spots₀ done₀ seen here spots done
+collect-terms-Inv-loop file marks nots w spots₀ done₀ here₀ seen₀ spots done here seen =
+    Going nots w file here₀ spots₀ done₀ seen here spots done
 
 abbrev collect-terms-μ-loop : collect-terms-lts.MeasureT-loop
-collect-terms-μ-loop file marks w spots₀ done₀ here₀ seen₀ spots done here seen =
+collect-terms-μ-loop file marks nots w spots₀ done₀ here₀ seen₀ spots done here seen =
     size (spanOf file (here .start) (here .end))
 
 abbrev claims : ℕ → collect-terms-lts.Claims
@@ -60,6 +62,8 @@ claims t = (
   collect-end-reads.Learnt,
   side-spot-reads.Asked,
   side-spot-reads.Learnt,
+  turn-reads.Asked,
+  turn-reads.Learnt,
   collect-terms-below t,
   collect-terms.Post,
   span-of-reads.Asked,
@@ -91,7 +95,7 @@ collect-terms-collect-end-requires :
 collect-terms-collect-end-requires t c κs =
     let at-way = c .before .before .before in
     let going = at-way .before .loop .inv in
-    (going .at, going .ready, down-ends (going .at) (at-way .way-down .ensures) (not-true _ (c .before .if1 .taken)))
+    (going .at, going .ready)
 
 collect-terms-same-length :
     (t : ℕ)
@@ -108,8 +112,11 @@ collect-terms-returns :
     collect-terms-Inv-loop collect-terms-μ-loop
 collect-terms-returns t c =
     let at-end = c .before .before in
-    let at-loop = at-end .before .before .before .before .before in
-    at-loop .loop .inv .rest (at-end .collect-end .ensures)
+    let at-if1 = at-end .before .before in
+    let at-way = at-if1 .before .before in
+    let going = at-way .before .loop .inv in
+    let ends = down-ends (going .at) (at-way .way-down .ensures) (not-true _ (at-if1 .if1 .taken)) in
+    going .rest (collects-as (ends-as _ _ _ _ ends) (at-end .collect-end .ensures))
 
 collect-terms-side-spot-requires :
     (t : ℕ)
@@ -117,12 +124,18 @@ collect-terms-side-spot-requires :
     collect-terms-Inv-loop collect-terms-μ-loop
 collect-terms-side-spot-requires t c κs = tt
 
+collect-terms-turn-requires :
+    (t : ℕ)
+    → collect-terms-lts.Need-turn-requires (claims t) (collect-terms-at t) collect-terms.Post
+    collect-terms-Inv-loop collect-terms-μ-loop
+collect-terms-turn-requires t c κs = tt
+
 collect-terms-sub-seen :
     (t : ℕ)
     → collect-terms-lts.Need-sub-seen (claims t) (collect-terms-at t) collect-terms.Post
     collect-terms-Inv-loop collect-terms-μ-loop
 collect-terms-sub-seen t c =
-    let at-if1 = c .before .before .before .before in
+    let at-if1 = c .before .before .before .before .before in
     let at-way = at-if1 .before .before in
     let going = at-way .before .loop .inv in
     let found = not-false _ (at-if1 .if1 .left) in
@@ -134,7 +147,7 @@ collect-terms-part-seen-start :
     → collect-terms-lts.Need-part-seen-start (claims t) (collect-terms-at t) collect-terms.Post
     collect-terms-Inv-loop collect-terms-μ-loop
 collect-terms-part-seen-start t c =
-    let at-if1 = c .before .before .before .before in
+    let at-if1 = c .before .before .before .before .before in
     let at-way = at-if1 .before .before in
     let going = at-way .before .loop .inv in
     let found = not-false _ (at-if1 .if1 .left) in
@@ -146,7 +159,7 @@ collect-terms-part-seen-end :
     → collect-terms-lts.Need-part-seen-end (claims t) (collect-terms-at t) collect-terms.Post
     collect-terms-Inv-loop collect-terms-μ-loop
 collect-terms-part-seen-end t c =
-    let at-if1 = c .before .before .before .before in
+    let at-if1 = c .before .before .before .before .before in
     let at-way = at-if1 .before .before in
     let going = at-way .before .loop .inv in
     let found = not-false _ (at-if1 .if1 .left) in
@@ -158,7 +171,7 @@ collect-terms-loop-less :
     → collect-terms-lts.Need-loop-less (claims t) (collect-terms-at t) collect-terms.Post
     collect-terms-Inv-loop collect-terms-μ-loop
 collect-terms-loop-less t c =
-    let at-spot = c .before .before .before in
+    let at-spot = c .before .before .before .before in
     let at-if1 = at-spot .before .before in
     let at-way = at-if1 .before .before in
     let going = at-way .before .loop .inv in
@@ -171,13 +184,13 @@ collect-terms-loop-again :
     collect-terms-Inv-loop collect-terms-μ-loop
 unfolding spanOf
 collect-terms-loop-again t c =
-    let at-spot = c .before .before .before in
+    let at-spot = c .before .before .before .before in
     let at-if1 = at-spot .before .before in
     let at-way = at-if1 .before .before in
     let going = at-way .before .loop .inv in
     let found = not-false _ (at-if1 .if1 .left) in
     going-child going (at-way .way-down .ensures) found (at-spot .side-spot .ensures)
-    (not-true _ (c .before .if2 .taken)) refl
+    (not-true _ (c .before .before .if2 .taken)) (c .before .turn .ensures) refl
 
 collect-terms-sub-collect-terms :
     (t : ℕ)
@@ -455,7 +468,8 @@ collect-terms-loop-less-2 t c =
     let at-way = at-if1 .before .before in
     let going = at-way .before .loop .inv in
     let two = kind-read (at-kind .before .span-of .ensures) (at-kind .kind .ensures) (at-if4 .if4 .left) in
-    down-falls (going .at) (down-right (going .at) two (at-right .right-side .ensures .0)) (c .before .side-spot2 .ensures)
+    let right = down-right (going .at) two (at-right .right-side .ensures .0) in
+    down-falls (going .at) right (c .before .side-spot2 .ensures)
 
 collect-terms-loop-again-2 :
     (t : ℕ)
@@ -493,6 +507,7 @@ pub +collect-terms-spec : {M : Type 1} → statement M
     (collect-terms-same-length t)
     (collect-terms-returns t)
     (collect-terms-side-spot-requires t)
+    (collect-terms-turn-requires t)
     (collect-terms-sub-seen t)
     (collect-terms-part-seen-start t)
     (collect-terms-part-seen-end t)

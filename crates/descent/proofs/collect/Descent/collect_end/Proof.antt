@@ -12,7 +12,7 @@ use Rattle.ways.proofs.SpanOfLaws.{span-sized}
 use Rattle.ways.proofs.SideLaws.{spot-some, spot-marks, spot-variable}
 use Rattle.descent.proofs.CollectsLaws.{collects-as, collects-more, collects-none}
 use Rattle.descent.proofs.CollectsLaws.{collects-constant, ready-less}
-use Rattle.ways.proofs.TermsLaws.{terms-zero, terms-constant}
+use Rattle.descent.proofs.WayDownLaws.{end-zero, end-constant, end-whole}
 use borrow.Author.Needs.{needs}
 use Rattle.descent.proofs.collect.Descent.collect_end.Statement.{statement}
 use Rattle.descent.proofs.collect.Descent.collect_end.Tie as tie
@@ -20,7 +20,7 @@ use Rattle.descent.proofs.collect.Descent.collect_end.Tie as tie
 returns : tie.Need-returns
 returns c =
     let at-start = c .before .before .before .before in
-    collects-as (terms-zero _ _ _ (c .if1 .taken)) (collects-none _ _ _ _ _ (at-start .pre .1))
+    collects-as (end-zero _ _ _ (c .if1 .taken)) (collects-none _ _ _ _ _ (at-start .pre .1))
 
 sub-last : tie.Need-sub-last
 sub-last c = spot-some (c .before .before .before .before .pre .0)
@@ -56,7 +56,7 @@ returns-2 c =
     let value-is =
     at-value .constant-value .ensures ∙ ap (λ (l : List ℕ). value w [] (decode l)) (at-span .span-of .ensures) in
     collects-as
-    (terms-constant _ _ _ (ne-eqb _ 0 (at-if1 .if1 .left)) none
+    (end-constant _ _ _ (ne-eqb _ 0 (at-if1 .if1 .left)) none
     ∙ ap (λ (v : ℕ). linear (modMul (at-start .args .x .coeff) v w) []) (sym value-is))
     (collects-constant _ _ _ _ _ (at-start .pre .1) _ _ (c .add-constant .ensures))
 
@@ -87,7 +87,7 @@ returns-3 c =
     let at = at-start .pre .0 in
     let some = spot-variable at (at-variable .has-variable .ensures) (not-false _ (at-if2 .if2 .left)) in
     collects-more _ (omega (arith, spot-some at, spot-marks at))
-    (collects-as (at-start .pre .2 (ne-eqb _ 0 (at-if1 .if1 .left)) some) (at-whole .collect-whole .ensures))
+    (collects-as (end-whole _ _ _ (ne-eqb _ 0 (at-if1 .if1 .left)) some) (at-whole .collect-whole .ensures))
 
 pub collect-end-spec : {M : Type 1} → statement M
 collect-end-spec =

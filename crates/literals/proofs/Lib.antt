@@ -1,0 +1,5 @@
+-- The laws of the definitions.
+pub mod FoldingLaws
+mod RootLaws
+mod OneChildLaws
+mod TwoChildrenLaws
