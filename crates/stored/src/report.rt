@@ -54,7 +54,8 @@ fn name(kind: usize) {
         11 => text(b"compute_partitions"),
         12 => text(b"recover_structure"),
         13 => text(b"coalesce_terms"),
-        _ => text(b"run_passes"),
+        14 => text(b"run_passes"),
+        _ => text(b"normalize_by_rules"),
     }
 }
 

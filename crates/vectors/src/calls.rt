@@ -1,6 +1,7 @@
 // The functions under test, each run on an entry's words and bytes.
 use crate::columns;
 use crate::lists;
+use crate::rules;
 use stored::answer;
 use stored::answer::Answer;
 use stored::result;
@@ -131,6 +132,7 @@ pub fn answer_of(
         7 | 8 | 9 | 10 | 12 | 13 => writing(kind, bytes, words, used, out),
         11 => columns::partitioning(bytes, words, used, classes),
         14 => lists::running(bytes, words, used, out),
+        15 => rules::normalizing(bytes, words, used, out),
         _ => masks(kind, words),
     }
 }

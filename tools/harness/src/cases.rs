@@ -1,6 +1,6 @@
 //! All cases of the vector file: the hand-chosen expression files, random and damaged ones, hashes,
 //! calls of the mask functions, semilinear forms, expressions to be normalised, forms for the passes
-//! and columns, and lists of passes.
+//! and columns, lists of passes, and normalising by rules.
 
 use crate::entry::{
     self, Entry, CHANGE_COEFFICIENT, CHANGE_MASK, COALESCE, FLATTEN, RECOVER, REDUCE_MASK, REFINE,
@@ -15,7 +15,7 @@ use crate::record::{
 };
 use crate::{
     edges, form_edges, form_limits, form_random, list, list_cases, masks, normal_cases,
-    number_cases, pass_cases, published, stacked_cases, sum_cases,
+    number_cases, pass_cases, published, rules_cases, stacked_cases, sum_cases,
 };
 
 /// The seed of the vector file: the letters of "hogzelt".
@@ -26,6 +26,8 @@ pub const NUMBER_SEED: u64 = 20;
 const SUM_SEED: u64 = 40;
 /// The same for masks upon masks.
 const STACKED_SEED: u64 = 60;
+/// The same for normalising by rules.
+const RULES_SEED: u64 = 80;
 
 const RANDOM_TREES: usize = 700;
 const RANDOM_ALL_KINDS: usize = 200;
@@ -81,6 +83,8 @@ pub fn entries() -> Vec<Entry> {
     for family in &stacked_cases::LISTS {
         all.extend(list_entries(rng, family));
     }
+    let rules = rules_cases::stored(&mut Prng::new(SEED + RULES_SEED));
+    all.extend(rules.into_iter().map(entry::by_rules));
     all
 }
 

@@ -18,7 +18,7 @@ use crate::refusal::{NUMBERS, OF_COMPACT, OF_EXPR_VALUE, OF_FORM_VALUE};
 use crate::written::Written;
 use crate::{
     form_random, library, library_forms, list_compare, masks, normal_compare, number_cases,
-    pass_compare, week_compare,
+    pass_compare, rules_compare, week_compare,
 };
 
 /// Random inputs for each function, beside the cases of the vector file.
@@ -38,6 +38,7 @@ pub fn run() -> Result<(), String> {
     compare_form_values(rng, &edges)?;
     compare_compactions(rng, &edges)?;
     normal_compare::run()?;
+    rules_compare::run()?;
     pass_compare::run()?;
     list_compare::run()?;
     week_compare::run()

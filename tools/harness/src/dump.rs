@@ -1,8 +1,8 @@
 //! A vector file as text, one block of lines for each entry.
 
 use crate::entry::{
-    Entry, COALESCE, COLUMNS, COMPACT, FLATTEN, FORM_VALUE, HASH, NORMALIZE, RECOVER, REDUCE_MASK,
-    REFINE, RUN, TYPE_NAMES, VALUE,
+    Entry, BY_RULES, COALESCE, COLUMNS, COMPACT, FLATTEN, FORM_VALUE, HASH, NORMALIZE, RECOVER,
+    REDUCE_MASK, REFINE, RUN, TYPE_NAMES, VALUE,
 };
 use crate::record::{split, RECORD_BYTES};
 use crate::{form_model, model, published, refusal};
@@ -26,7 +26,7 @@ fn entry_text(number: usize, entry: &Entry) -> String {
     let bytes = match entry.kind {
         VALUE | HASH => expression_text(&entry.bytes),
         FORM_VALUE => form_text("form", &entry.bytes),
-        COMPACT..=RUN => writing_text(entry),
+        COMPACT..=BY_RULES => writing_text(entry),
         _ => String::new(),
     };
     format!(
@@ -46,7 +46,7 @@ fn writing_text(entry: &Entry) -> String {
         _ => form_text("result", result),
     };
     let input = match entry.kind {
-        NORMALIZE | RUN => expression_text(input),
+        NORMALIZE | RUN | BY_RULES => expression_text(input),
         _ => form_text("form", input),
     };
     input + &result
@@ -114,6 +114,7 @@ fn outcomes(kind: u8) -> Vec<&'static str> {
         COLUMNS => refused(refusal::OF_COLUMNS),
         NORMALIZE => refused(refusal::OF_NORMALIZE),
         RUN => refused(refusal::OF_LISTS),
+        BY_RULES => refused(refusal::OF_RULES),
         REDUCE_MASK => vec!["mask 0", "another mask"],
         _ => vec!["false", "true"],
     }
@@ -130,7 +131,7 @@ fn refused(refusals: &[u64]) -> Vec<&'static str> {
 
 fn outcome(entry: &Entry) -> &'static str {
     match (entry.kind, entry.expected) {
-        (VALUE | FORM_VALUE..=RUN, _) => refusal::name(u64::from(entry.refusal)),
+        (VALUE | FORM_VALUE..=BY_RULES, _) => refusal::name(u64::from(entry.refusal)),
         (HASH, _) => "hash",
         (REDUCE_MASK, 0) => "mask 0",
         (REDUCE_MASK, _) => "another mask",

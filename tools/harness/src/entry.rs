@@ -5,7 +5,9 @@ use crate::form_model;
 use crate::pass::{self, Pass};
 use crate::record::RECORD_BYTES;
 use crate::written::{self, Written};
-use crate::{columns, form, list, model, normal_model, published, record};
+use crate::{
+    columns, form, list, model, normal_model, published, record, rules_cases, rules_model,
+};
 
 pub const HEAD_BYTES: usize = 16;
 pub const MAX_WORDS: usize = 512;
@@ -27,9 +29,10 @@ pub const COLUMNS: u8 = 11;
 pub const RECOVER: u8 = 12;
 pub const COALESCE: u8 = 13;
 pub const RUN: u8 = 14;
+pub const BY_RULES: u8 = 15;
 
 /// The names of the entry types, by number.
-pub const TYPE_NAMES: [&str; 15] = [
+pub const TYPE_NAMES: [&str; 16] = [
     "end",
     "expression value",
     "structural hash",
@@ -45,6 +48,7 @@ pub const TYPE_NAMES: [&str; 15] = [
     "recover_structure",
     "coalesce_terms",
     "run_passes",
+    "normalize_by_rules",
 ];
 
 #[derive(Clone, Debug, PartialEq, Eq)]
@@ -171,6 +175,14 @@ pub fn run(case: list::Case) -> Entry {
     entry
 }
 
+/// An entry of normalising by rules: their number stands before the length of the result slice.
+pub fn by_rules(case: rules_cases::Case) -> Entry {
+    let written = rules_answer(case.rules, &case.file, case.length);
+    let mut entry = writing(BY_RULES, case.file, case.length, &written);
+    entry.words.insert(0, case.rules);
+    entry
+}
+
 /// An entry of a function that writes a form, with what it is to write.
 fn writing(kind: u8, mut bytes: Vec<u8>, length: usize, written: &Written) -> Entry {
     bytes.extend(&written.out[..written.used as usize]);
@@ -199,13 +211,29 @@ pub fn compact_answer(bytes: &[u8], length: usize) -> Written {
 pub fn normalize_answer(file: &[u8], length: usize) -> Written {
     let written = normal_model::answer(file, length);
     if rust_normalizes(file, length) {
-        let rust = match crate::parted::bridge::normalized(&record::split(file)) {
-            Ok(form) => written::written(&form),
-            Err(refusal) => written::refused(refusal, length),
-        };
+        let rust = rust_answer(&record::split(file));
         assert_eq!(written, rust, "the model normalises as the Rust does");
     }
     written
+}
+
+/// What normalising by rules gives. The rewriting of rules 2 is the model's; what it leaves is
+/// normalised by the Rust too.
+pub fn rules_answer(rules: u64, file: &[u8], length: usize) -> Written {
+    if rules == rules_model::FIRST {
+        return normalize_answer(file, length);
+    }
+    let written = rules_model::answer(rules, file, length);
+    if rules == rules_model::SECOND && rust_normalizes(file, length) {
+        let rust = rust_answer(&rules_model::rewritten(&record::split(file)));
+        assert_eq!(written, rust, "rules 2 are rules 1 on the rewritten tangle");
+    }
+    written
+}
+
+/// What the Rust with document 01's partings makes of a tree.
+pub fn rust_answer(tree: &[record::Record]) -> Written {
+    written::of(crate::parted::bridge::normalized(tree))
 }
 
 /// Whether the Rust can be asked to normalise: refusals 1 to 6 are about bytes, which it has not.

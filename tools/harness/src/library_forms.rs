@@ -12,6 +12,24 @@ pub fn normalize_into(file: &[u8], out: &mut [u8]) -> [u64; 3] {
     write_into(raw::hogzelt_normalize_to_semilinear, file, out)
 }
 
+/// Normalising by rules into `out`: the refusal, the used length, the count of terms.
+pub fn by_rules_into(rules: u64, file: &[u8], out: &mut [u8]) -> [u64; 3] {
+    let (mut used, mut terms) = (UNWRITTEN, UNWRITTEN);
+    // SAFETY: both slices are valid for their lengths; what is written lies in neither and apart.
+    let refusal = unsafe {
+        raw::hogzelt_normalize_by_rules(
+            rules,
+            file.as_ptr(),
+            file.len(),
+            out.as_mut_ptr(),
+            out.len(),
+            &mut used,
+            &mut terms,
+        )
+    };
+    [refusal, used, terms]
+}
+
 /// A pass into `out`: the refusal, the used length, the count of terms, the flag.
 pub fn pass_into(pass: Pass, form: &[u8], out: &mut [u8]) -> [u64; 4] {
     let writer: raw::Writer = match pass {
@@ -83,6 +101,12 @@ pub fn run_into(file: &[u8], words: &[u64], sheet: &mut [u8], spare: &mut [u8]) 
 /// The form of an expression file, in a result slice of `length` bytes.
 pub fn normalized(file: &[u8], length: usize) -> Written {
     let ([refusal, used, terms], out) = guarded(length, |out| normalize_into(file, out));
+    written([refusal, used, terms, 0], out)
+}
+
+/// The form of an expression file by rules, in a result slice of `length` bytes.
+pub fn by_rules(rules: u64, file: &[u8], length: usize) -> Written {
+    let ([refusal, used, terms], out) = guarded(length, |out| by_rules_into(rules, file, out));
     written([refusal, used, terms, 0], out)
 }
 

@@ -84,6 +84,15 @@ mod published;
 mod random;
 mod record;
 mod refusal;
+mod rules_cases;
+#[cfg(feature = "library")]
+mod rules_compare;
+mod rules_model;
+mod rules_random;
+#[cfg(feature = "library")]
+mod rules_stack;
+#[cfg(test)]
+mod rules_tests;
 #[cfg(test)]
 mod slip_tests;
 #[cfg(feature = "library")]
@@ -125,6 +134,8 @@ fn main() -> ExitCode {
         ["compare", "passes"] => pass_compare::run(),
         #[cfg(feature = "library")]
         ["compare", "lists"] => list_compare::run(),
+        #[cfg(feature = "library")]
+        ["compare", "rules"] => rules_compare::run(),
         #[cfg(feature = "library")]
         ["compare", "weeks"] => week_compare::run(),
         #[cfg(feature = "library")]

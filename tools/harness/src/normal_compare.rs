@@ -6,7 +6,7 @@ use crate::cases::SEED;
 use crate::differences::{Differences, Input};
 use crate::dump;
 use crate::entry;
-use crate::form::{Form, RESULT_BYTES};
+use crate::form::Form;
 use crate::form_model;
 use crate::library_forms as library;
 use crate::model;
@@ -116,7 +116,7 @@ fn check(case: &Case, faults: &mut Differences<Case>, named: &mut Differences<Ca
         return wanted;
     }
     let records = split(&case.file);
-    if written(parted::bridge::normalized(&records)) != wanted {
+    if written::of(parted::bridge::normalized(&records)) != wanted {
         faults.add("the Rust with the differences differs from the model", case);
     }
     let sorted = sorted::bridge::normalized(&records);
@@ -128,7 +128,7 @@ fn check(case: &Case, faults: &mut Differences<Case>, named: &mut Differences<Ca
     if without != sorted && without != Err(TABLE_FULL) {
         faults.add("let go, difference 8 leaves another answer", case);
     }
-    if written(sorted.clone()) != wanted {
+    if written::of(sorted.clone()) != wanted {
         match name(&wanted, &sorted, without) {
             Some(name) => named.add(name, case),
             None => faults.add("the Rust with sorted maps differs, for no difference", case),
@@ -144,7 +144,7 @@ fn name(
     sorted: &Result<Form, u64>,
     without: Result<Form, u64>,
 ) -> Option<&'static str> {
-    if written(without) == *wanted {
+    if written::of(without) == *wanted {
         return (wanted.refusal == TABLE_FULL)
             .then_some("difference 5, refusal 9, accepted by the Rust");
     }
@@ -165,13 +165,4 @@ fn keeps_value(rng: &mut Prng, case: &Case, wanted: &Written) -> bool {
     }
     let vars = numbers::words(rng, &case.file);
     form_model::answer(wanted.form(), &vars) == model::answer(&case.file, &vars)
-}
-
-/// What the Rust's answer is in document 01's bytes. A form that is too long for the slice keeps
-/// its length.
-fn written(answer: Result<Form, u64>) -> Written {
-    match answer {
-        Ok(form) => written::written(&form),
-        Err(refusal) => written::refused(refusal, RESULT_BYTES),
-    }
 }

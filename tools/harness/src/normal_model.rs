@@ -21,16 +21,24 @@ pub fn answer(file: &[u8], length: usize) -> Written {
 
 /// The form, or the lowest refusal that applies.
 fn normalized(file: &[u8], length: usize) -> Result<Form, u64> {
-    let refusal = match model::refusal(file) {
+    match refusal(file, length) {
+        0 => form(&split(file)),
+        refusal => Err(refusal),
+    }
+}
+
+/// The lowest of refusals 1 to 6 that applies, 0 if none does.
+pub fn refusal(file: &[u8], length: usize) -> u64 {
+    match model::refusal(file) {
         INPUT_LENGTH => INPUT_LENGTH,
         _ if length != RESULT_BYTES => RESULT_LENGTH,
         other => other,
-    };
-    if refusal != 0 {
-        return Err(refusal);
     }
-    let tree = split(file);
-    let collected = collected(&tree).ok_or(NONLINEAR)?;
+}
+
+/// The form of a tree of any length, or refusal 8 or 9.
+pub fn form(tree: &[Record]) -> Result<Form, u64> {
+    let collected = collected(tree).ok_or(NONLINEAR)?;
     let form = normal_table::form(collected, tree[0].width);
     match form.fits() {
         true => Ok(form),

@@ -78,7 +78,8 @@ pub fn over_not() -> Records {
     })
 }
 
-fn shapes() -> Vec<(&'static str, Records)> {
+/// The shapes, as long as a file may be, and one leaf.
+pub fn shapes() -> Vec<(&'static str, Records)> {
     let leaf = |i: usize| variable(64, i as u16 % 256);
     let five = |i: usize| variable(64, i as u16 % 256 % 5);
     let depth = MAX_RECORDS - 1;

@@ -10,6 +10,8 @@ pub const SHIFT_COUNT: u64 = 6;
 pub const NONLINEAR: u64 = 8;
 pub const TABLE_FULL: u64 = 9;
 pub const NO_FORM: u64 = 10;
+/// Rules other than those of request #109.
+pub const RULES: u64 = 18;
 /// A run of days: its length or a byte that must be 0, and the order of the days.
 #[cfg_attr(not(any(feature = "library", test)), allow(dead_code))]
 pub const NO_RUN: u64 = 20;
@@ -48,6 +50,18 @@ pub const OF_NORMALIZE: &[u64] = &[
     NONLINEAR,
     TABLE_FULL,
 ];
+/// In the order in which they are looked for.
+pub const OF_RULES: &[u64] = &[
+    RULES,
+    INPUT_LENGTH,
+    RESULT_LENGTH,
+    MALFORMED,
+    WIDTH,
+    CAST,
+    SHIFT_COUNT,
+    NONLINEAR,
+    TABLE_FULL,
+];
 pub const OF_FORM_VALUE: &[u64] = &[INPUT_LENGTH, NO_FORM];
 pub const OF_COMPACT: &[u64] = &[INPUT_LENGTH, RESULT_LENGTH, NO_FORM];
 pub const OF_PASSES: &[u64] = &[INPUT_LENGTH, RESULT_LENGTH, TABLE_FULL, NO_FORM];
@@ -68,6 +82,7 @@ pub const OF_LISTS: &[u64] = &[
 /// The name of a number that an answer has.
 pub fn name(refusal: u64) -> &'static str {
     match refusal {
+        RULES => "refusal 18",
         NO_LIST => "refusal 32",
         _ => NAMES
             .get(refusal as usize)

@@ -22,6 +22,7 @@ use crate::record::{
     balanced, bytes, left_chain, left_turns, nested, right_chain, right_turns, unary, variable,
     Record, Records, ADD, AND, MAX_RECORDS, NEG, NOT, RECORD_BYTES, SHR, XOR,
 };
+use crate::rules_stack;
 use crate::week_compare;
 
 const VARS: [u64; 3] = [1, 2, 3];
@@ -35,6 +36,7 @@ pub fn run() -> Result<(), String> {
     let most = expression_stacks()?
         .max(form_stacks()?)
         .max(normal_stack::stacks()?)
+        .max(rules_stack::stacks()?)
         .max(list_stack::stacks()?)
         .max(pass_stack::stacks()?)
         .max(week_compare::stacks()?);
@@ -48,7 +50,8 @@ pub fn run() -> Result<(), String> {
     form_times();
     pass_stack::times();
     week_compare::times();
-    normal_stack::times()
+    normal_stack::times()?;
+    rules_stack::times()
 }
 
 /// Prints what a call used, and gives the most of it and `most`.

@@ -20,6 +20,7 @@ use crate::record::{
     arity, balanced, binary, bytes, left_chain, literal, smallest, unary, variable, Record,
     Records, ADD, AND, CONSTANT, MUL, NEG, NOT, OR, SHR, TRUNC, VARIABLE, XOR,
 };
+use crate::written::Written;
 
 const ROUNDS: usize = 20_000;
 
@@ -177,11 +178,15 @@ fn normalised_forms_of_the_rust() {
 
 /// The constant and the terms of a form as document 01 writes them.
 pub fn terms_text(file: &[u8]) -> String {
-    let written = normal_model::answer(file, RESULT_BYTES);
+    written_text(&normal_model::answer(file, RESULT_BYTES))
+}
+
+/// The same of an answer.
+pub fn written_text(written: &Written) -> String {
     if written.refusal != 0 {
         return format!("refusal {}", written.refusal);
     }
-    let form = form_model::read(&written.out[..written.used as usize]).expect("a valid form");
+    let form = form_model::read(written.form()).expect("a valid form");
     let mut text = form.constant.to_string();
     for term in &form.terms {
         let tree = published::text(&form.atoms[usize::from(term.atom)].tree);

@@ -52,3 +52,11 @@ pub fn written(form: &Form) -> Written {
         out,
     }
 }
+
+/// What the Rust's answer is in document 01's bytes.
+pub fn of(answer: Result<Form, u64>) -> Written {
+    match answer {
+        Ok(form) => written(&form),
+        Err(refusal) => refused(refusal, RESULT_BYTES),
+    }
+}
