@@ -6,11 +6,12 @@
  * on its stack. That is measured, not proved, and at most, rounded up to a KiB, on the longest inputs:
  *
  *   hogzelt_normalize_to_semilinear    257 KiB      hogzelt_refine_terms            426 KiB
- *   hogzelt_run_passes                 257 KiB      hogzelt_recover_structure       437 KiB
- *   hogzelt_expr_value                 129 KiB      hogzelt_coalesce_terms          412 KiB
- *   hogzelt_semilinear_value           393 KiB      hogzelt_flatten_complex_atoms   395 KiB
- *   hogzelt_compute_partitions         413 KiB      hogzelt_compact_atom_table      393 KiB
- *   hogzelt_best_week                    1 KiB      the three mask functions          1 KiB
+ *   hogzelt_normalize_by_rules         257 KiB      hogzelt_recover_structure       437 KiB
+ *   hogzelt_run_passes                 257 KiB      hogzelt_coalesce_terms          412 KiB
+ *   hogzelt_expr_value                 129 KiB      hogzelt_flatten_complex_atoms   395 KiB
+ *   hogzelt_semilinear_value           393 KiB      hogzelt_compact_atom_table      393 KiB
+ *   hogzelt_compute_partitions         413 KiB      the three mask functions          1 KiB
+ *   hogzelt_best_week                    1 KiB
  *
  * Every pointer must be valid for its length: expr for expr_len bytes, s for s_len bytes, vars for
  * vars_len words, out for out_len bytes (for out_len words of 64 bits in hogzelt_compute_partitions),
@@ -30,8 +31,8 @@ extern "C" {
 #endif
 
 /* The version: major * 10000 + minor * 100 + patch, and as text. */
-#define HOGZELT_VERSION 10400
-#define HOGZELT_VERSION_TEXT "1.4.0"
+#define HOGZELT_VERSION 10500
+#define HOGZELT_VERSION_TEXT "1.5.0"
 
 /* Lengths: of a record, of the longest expression, and of the result slices. */
 #define HOGZELT_RECORD_BYTES 16
@@ -76,6 +77,12 @@ enum hogzelt_pass {
     HOGZELT_COMPACT = 5
 };
 
+/* The rules by which an expression is normalised. */
+enum hogzelt_rules {
+    HOGZELT_RULES_1 = 1,
+    HOGZELT_RULES_2 = 2
+};
+
 /* What is returned. 7 is not used; before 1.2.0 it was a sum in a part without a variable. */
 enum hogzelt_refusal {
     HOGZELT_ACCEPTED = 0,
@@ -88,6 +95,7 @@ enum hogzelt_refusal {
     HOGZELT_NONLINEAR = 8,
     HOGZELT_TABLE_FULL = 9,
     HOGZELT_NO_FORM = 10,
+    HOGZELT_NO_RULES = 18,
     HOGZELT_NO_RUN = 20,
     HOGZELT_DAYS_NOT_RISING = 21,
     HOGZELT_NO_LIST = 32
@@ -116,6 +124,7 @@ static inline const char *hogzelt_refusal_text(uint64_t refusal)
     case HOGZELT_NONLINEAR: return "not a sum of weighted bitwise atoms";
     case HOGZELT_TABLE_FULL: return "more than 256 atoms, or more than 3,072 records in their trees";
     case HOGZELT_NO_FORM: return "not a semilinear form, or a hash that is not its tree's";
+    case HOGZELT_NO_RULES: return "rules other than 1 and 2";
     case HOGZELT_NO_RUN: return "not a run: a wrong length, or a non-zero byte that must be 0";
     case HOGZELT_DAYS_NOT_RISING: return "a day that is not above the one before";
     case HOGZELT_NO_LIST: return "not a list of passes";
@@ -206,6 +215,34 @@ uint64_t hogzelt_normalize_to_semilinear(const uint8_t *expr, size_t expr_len, u
                                          size_t out_len, uint64_t *used, uint64_t *terms);
 
 /*
+ * The semilinear form of an expression file by the rules that the caller names, 1 or 2: its value is
+ * that of the expression, under every assignment. By rules 1 every result is that of
+ * hogzelt_normalize_to_semilinear. By rules 2 the expression is rewritten in two steps, each of which
+ * keeps its value, and the result is that of rules 1 for the expression so rewritten, however many
+ * records this has:
+ *   - Each part without a variable below an And, Or, Xor or Not, a literal included, becomes one
+ *     literal, cut to w bits: at 8 bits a ^ (-1) becomes a ^ 255, a & 271 becomes a & 15 and
+ *     a ^ (3 & (1 + 2)) becomes a ^ 3.
+ *   - Then each Not with an Add, Mul or Neg below it becomes -e - 1, where e is its operand, and no
+ *     other does: ~(a + b) becomes -(a + b) - 1, and ~a stays an atom, as does ~((1 + 2) & a), which
+ *     the first step makes ~(3 & a).
+ * out_len must be 57,360. Returns 0 for accepted, else the first of these that applies:
+ *   18  rules is neither 1 nor 2, whatever the other arguments are
+ *    1  expr_len is 0, not a multiple of 16 or above 16,384
+ *    2  out_len is not 57,360
+ *    3 to 6  as for hogzelt_expr_value, of the file as it is given
+ *    8, 9  as for hogzelt_normalize_to_semilinear, under rules 2 of the expression as it is rewritten:
+ *       ~(a * b), a & ~(b + 1) and ~(a + b) & 15 are not linear there either
+ * All of out is written. Where the expression is accepted, the first *used bytes are the form, the
+ * rest is zero, and *terms is the count of its terms. Beside a refusal all out_len bytes are zero,
+ * and so are *used and *terms.
+ * The other functions keep to rules 1, hogzelt_run_passes among them: under rules 2 a list of passes
+ * is a call of this function and then one of each pass, of which a refused one leaves the form in use.
+ */
+uint64_t hogzelt_normalize_by_rules(uint64_t rules, const uint8_t *expr, size_t expr_len, uint8_t *out,
+                                    size_t out_len, uint64_t *used, uint64_t *terms);
+
+/*
  * A semilinear form with its terms refined: masks are cut to the bits that count, and terms of one
  * basis are dropped, joined and collapsed where their sum stays the same. A variable is its own basis;
  * the basis of an And with one side without a variable is that of the other side, or that side itself
@@ -270,9 +307,9 @@ uint64_t hogzelt_compute_partitions(const uint8_t *s, size_t s_len, uint64_t *ou
 
 /*
  * The semilinear form in use after a list of passes, run from an expression file: the expression is
- * normalised into sheet, and then each call reads the form in use and gives the next one; a call that
- * is refused leaves the form in use. The value is that of the expression, under every assignment.
- * calls has two words for a call: the pass, 1 for hogzelt_refine_terms, 2 for
+ * normalised into sheet by rules 1, and then each call reads the form in use and gives the next one; a
+ * call that is refused leaves the form in use. The value is that of the expression, under every
+ * assignment. calls has two words for a call: the pass, 1 for hogzelt_refine_terms, 2 for
  * hogzelt_recover_structure, 3 for hogzelt_coalesce_terms, 4 for hogzelt_flatten_complex_atoms and 5
  * for hogzelt_compact_atom_table, and the length in bytes of the result slice that is lent to it; with
  * another length than 57,360 it is refused. calls_len counts words; there may be any number of calls,

@@ -4,6 +4,8 @@
     >>> sheet = hogzelt.normalize("x ^ 15", 8)
     >>> str(sheet), sheet.par
     ('15 + 1*x - 2*(x & 15)', 2)
+    >>> str(hogzelt.shorten("~(x + y)", 8, rules=2))
+    '-1 - 1*x - 1*y'
 
 The functions are those of the C library (include/hogzelt.h), loaded as a shared object. A refusal
 is the exception Refused; a text that is no expression is BadText."""
@@ -18,7 +20,7 @@ from .records import Fault, read_expression, read_form
 from .tokens import BadText
 from .week import Played, Week, best_week, run_bytes
 
-__version__ = "1.4.0"
+__version__ = "1.5.0"
 
 __all__ = [
     "OPAQUE", "SHORTENING", "BadText", "Column", "Fault", "NoLibrary", "Pass", "Played", "Refused",

@@ -9,8 +9,8 @@ from typing import Iterator, NamedTuple
 
 from .fold import node_value
 from .records import (
-    ADD, AND, ARITY, CONSTANT, MOST_ATOMS, MOST_TREE_RECORDS, MUL, NEG, NOT, SHR, VARIABLE, XOR,
-    Record,
+    ADD, AND, ARITHMETIC, ARITY, CONSTANT, MOST_ATOMS, MOST_TREE_RECORDS, MUL, NEG, NOT, SHR,
+    VARIABLE, XOR, Record,
 )
 
 MOST_TABLE_VARIABLES = 5
@@ -50,7 +50,8 @@ def full_table(records: list[Record], width: int) -> Full:
 
 
 def collected(records: list[Record], width: int) -> Iterator[Part]:
-    """The atoms of a linear expression in the order in which they are made."""
+    """The atoms of a linear expression in the order in which they are made. A Not over arithmetic,
+    which rules 2 alone take, is -x - 1."""
     modulus = 1 << width
     todo = [Part(1, tuple(records), len(records) - 1)]
     while todo:
@@ -59,7 +60,7 @@ def collected(records: list[Record], width: int) -> Iterator[Part]:
         kind = tree[-1].kind
         if coefficient % modulus == 0 or not has_variable(tree):
             continue
-        if kind == NEG:
+        if kind == NEG or (kind == NOT and has_arithmetic(tree)):
             todo.append(Part(-coefficient, tree[:-1], at - 1))
         elif ARITY[kind] < 2:
             yield part
@@ -99,6 +100,10 @@ def masked_part(part: Part, left: Part, right: Part, width: int) -> Part:
 
 def has_variable(tree: tuple[Record, ...]) -> bool:
     return any(record.kind == VARIABLE for record in tree)
+
+
+def has_arithmetic(tree: tuple[Record, ...]) -> bool:
+    return any(record.kind in ARITHMETIC for record in tree)
 
 
 def constant_value(tree: tuple[Record, ...], width: int) -> int:

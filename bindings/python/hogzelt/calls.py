@@ -12,11 +12,12 @@ from typing import Iterable, NamedTuple, Sequence
 from .library import load
 from .parser import parse
 from .records import FORM_BYTES, HEAD, SUM, TERM, Form, read_form, split_form
-from .refusals import meaning
+from .refusals import INPUT_LENGTH, NO_LIST, NO_RULES, meaning
 from .render import sum_text
 
 COLUMN_WORDS = 16448
 OPAQUE = 0xDEAD000000000000
+MOST_NUMBER = (1 << 64) - 1
 
 
 class Refused(Exception):
@@ -46,6 +47,7 @@ WRITERS = {
     Pass.COALESCE: "hogzelt_coalesce_terms",
     Pass.COMPACT: "hogzelt_compact_atom_table",
 }
+PASSES = frozenset(Pass)
 
 
 class Sheet(NamedTuple):
@@ -87,7 +89,27 @@ class Engine:
         refusal = writer(data, len(data), self.form, FORM_BYTES, *self.numbers, *more)
         return self.sheet(refusal)
 
-    def run(self, expression: bytes, passes: tuple[int, ...]) -> Sheet:
+    def run_pass(self, number: int, data: bytes) -> Sheet:
+        if number == Pass.FLATTEN:
+            return self.write("hogzelt_flatten_complex_atoms", data, byref(self.flag))
+        return self.write(WRITERS[Pass(number)], data)
+
+    def normalize(self, expression: bytes, rules: int) -> Sheet:
+        if rules == 1:
+            return self.write("hogzelt_normalize_to_semilinear", expression)
+        return self.sheet(self.normalize_by(rules, expression))
+
+    def normalize_by(self, rules: int, expression: bytes) -> int:
+        """The refusal; ctypes would cut a number that is no word."""
+        if not 0 <= rules <= MOST_NUMBER:
+            return NO_RULES
+        return int(self.library.hogzelt_normalize_by_rules(
+            rules, expression, len(expression), self.form, FORM_BYTES, *self.numbers
+        ))
+
+    def run(self, expression: bytes, passes: tuple[int, ...], rules: int = 1) -> Sheet:
+        if rules != 1:
+            return self.run_by(rules, expression, passes)[1]
         calls = self.lists.get(passes)
         if calls is None:
             words = [word for number in passes for word in (number, FORM_BYTES)]
@@ -98,9 +120,30 @@ class Engine:
         )
         return self.sheet(refusal)
 
-    def shorten(self, expression: bytes, passes: tuple[int, ...]) -> tuple[int, Sheet]:
+    def run_by(
+        self, rules: int, expression: bytes, passes: tuple[int, ...]
+    ) -> tuple[Sheet, Sheet]:
+        """The normalised form and the form after the passes. The library's list of calls keeps to
+        rules 1, so they are called one by one; refusals are those of a list, in its order."""
+        refusal = self.normalize_by(rules, expression)
+        if refusal not in (NO_RULES, INPUT_LENGTH) and not PASSES.issuperset(passes):
+            refusal = NO_LIST
+        first = last = self.sheet(refusal)
+        for number in passes:
+            try:
+                last = self.run_pass(number, last.data)
+            except Refused:
+                pass  # the form stays in use
+        return first, last
+
+    def shorten(
+        self, expression: bytes, passes: tuple[int, ...], rules: int = 1
+    ) -> tuple[int, Sheet]:
         """The par of the normalised form, and the form after the passes, or the normalised one
         where that has fewer terms."""
+        if rules != 1:
+            first, last = self.run_by(rules, expression, passes)
+            return first.par, last if last.par <= first.par else first
         refusal = self.library.hogzelt_normalize_to_semilinear(
             expression, len(expression), self.form, FORM_BYTES, *self.numbers
         )
@@ -134,32 +177,42 @@ def expression_of(expression: bytes | str, width: int | None) -> bytes:
     return bytes(expression)
 
 
-def normalize(expression: bytes | str, width: int | None = None) -> Sheet:
-    """The semilinear form of an expression: the bytes of a tangle, or a text and its width."""
-    return engine().write("hogzelt_normalize_to_semilinear", expression_of(expression, width))
+def checked(rules: int) -> int:
+    """The number of the rules; True is no number here."""
+    if not isinstance(rules, int) or isinstance(rules, bool):
+        raise TypeError(f"rules are a number, 1 or 2, not {rules!r}")
+    return rules
+
+
+def normalize(expression: bytes | str, width: int | None = None, rules: int = 1) -> Sheet:
+    """The semilinear form of an expression: the bytes of a tangle, or a text and its width. Rules 2
+    first make each part without a variable below & | ^ ~ one literal, and then read ~e over
+    + - * as -e - 1; the form is that of rules 1 for what this gives."""
+    rules = checked(rules)
+    return engine().normalize(expression_of(expression, width), rules)
 
 
 def run_passes(
-    expression: bytes | str, passes: Iterable[int], width: int | None = None
+    expression: bytes | str, passes: Iterable[int], width: int | None = None, rules: int = 1
 ) -> Sheet:
     """The form after a list of passes, run from an expression. A call that is refused leaves the
     form as it was."""
-    return engine().run(expression_of(expression, width), tuple(map(int, passes)))
+    rules = checked(rules)
+    return engine().run(expression_of(expression, width), tuple(map(int, passes)), rules)
 
 
 def shorten(
-    expression: bytes | str, width: int | None = None, passes: Iterable[int] = SHORTENING
+    expression: bytes | str, width: int | None = None, passes: Iterable[int] = SHORTENING,
+    rules: int = 1,
 ) -> Sheet:
     """The form after a list of passes, or the normalised one where that has fewer terms."""
-    return engine().shorten(expression_of(expression, width), tuple(map(int, passes)))[1]
+    rules = checked(rules)
+    return engine().shorten(expression_of(expression, width), tuple(map(int, passes)), rules)[1]
 
 
 def run_pass(number: int, sheet: Sheet | bytes) -> Sheet:
     """One pass over a form."""
-    data = sheet.data if isinstance(sheet, Sheet) else bytes(sheet)
-    if number == Pass.FLATTEN:
-        return engine().write("hogzelt_flatten_complex_atoms", data, byref(engine().flag))
-    return engine().write(WRITERS[Pass(number)], data)
+    return engine().run_pass(number, sheet.data if isinstance(sheet, Sheet) else bytes(sheet))
 
 
 def value(

@@ -18,6 +18,7 @@ SIGNATURES = {
     "hogzelt_can_change_mask_to": [c_uint64, c_uint64, c_uint64, c_uint32],
     "hogzelt_can_change_coefficient_to": [c_uint64, c_uint64, c_uint64, c_uint32],
     "hogzelt_normalize_to_semilinear": WRITER,
+    "hogzelt_normalize_by_rules": [c_uint64, *WRITER],
     "hogzelt_refine_terms": WRITER,
     "hogzelt_recover_structure": WRITER,
     "hogzelt_coalesce_terms": WRITER,

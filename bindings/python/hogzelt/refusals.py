@@ -1,5 +1,8 @@
 """The refusals of the library by number (include/hogzelt.h), each in a sentence."""
 
+# those that the package itself names
+INPUT_LENGTH, NO_RULES, NO_LIST = 1, 18, 32
+
 REFUSALS = {
     1: "the length is 0, not a multiple of 16, or above 16,384 bytes (tangle) or 57,360 (sheet)",
     2: "the length of the result slice is wrong",
@@ -10,6 +13,7 @@ REFUSALS = {
     8: "not a sum of weighted bitwise atoms, as a*b or a & (b + c)",
     9: "more than 256 atoms, or more than 3,072 records in their trees",
     10: "not a sheet, or a hash that is not its tree's",
+    18: "rules other than 1 and 2",
     20: "not a run: a wrong length, or a non-zero byte that must be 0",
     21: "a day that is not above the one before",
     32: "not a list of passes",

@@ -34,7 +34,7 @@ pub use sheet::{Sheet, Term};
 pub use week::{best_week, run_bytes, Played, Week};
 
 /// The version: major * 10000 + minor * 100 + patch.
-pub const VERSION: u64 = 10_400;
+pub const VERSION: u64 = 10_500;
 /// The bytes of a record.
 pub const RECORD_BYTES: usize = 16;
 /// The most bytes of an expression.
@@ -70,6 +70,23 @@ impl Pass {
         Pass::Flatten,
         Pass::Compact,
     ];
+}
+
+/// The rules by which an expression is normalised.
+#[derive(Clone, Copy, Debug, PartialEq, Eq, Hash)]
+pub enum Rules {
+    /// Those of [`normalize`].
+    One = 1,
+    /// Those of [`normalize`] for the expression rewritten in two steps, which keep its value. First
+    /// each part without a variable below an And, Or, Xor or Not, a literal included, becomes one
+    /// literal, cut to w bits. Then each Not with an Add, Mul or Neg below it becomes -e - 1, where
+    /// e is its operand.
+    Two = 2,
+}
+
+impl Rules {
+    /// Both, by rising number.
+    pub const ALL: [Rules; 2] = [Rules::One, Rules::Two];
 }
 
 /// A call in a list: a pass, and the length of the result slice that is lent to it. With another
@@ -125,7 +142,7 @@ fn value_by(valuer: Valuer, bytes: &[u8], vars: &[u64]) -> Result<u64, Refusal> 
     Refusal::check(refusal).map(|()| value)
 }
 
-/// The form of an expression, allocated.
+/// The form of an expression by rules 1, allocated.
 ///
 /// ```
 /// use hogzelt::{normalize, Expr, Refusal};
@@ -137,7 +154,7 @@ pub fn normalize(expr: impl AsRef<[u8]>) -> Result<Sheet, Refusal> {
     allocated(|out| normalize_into(expr, out))
 }
 
-/// The form of an expression, in a slice of [`FORM_BYTES`].
+/// The form of an expression by rules 1, in a slice of [`FORM_BYTES`].
 ///
 /// ```
 /// use hogzelt::{normalize_into, Expr, FORM_BYTES};
@@ -149,6 +166,61 @@ pub fn normalize(expr: impl AsRef<[u8]>) -> Result<Sheet, Refusal> {
 /// ```
 pub fn normalize_into(expr: impl AsRef<[u8]>, out: &mut [u8]) -> Result<Written, Refusal> {
     write_by(raw::hogzelt_normalize_to_semilinear, expr.as_ref(), out)
+}
+
+/// The form of an expression by the rules that are named, allocated. [`Refusal::Nonlinear`] and
+/// [`Refusal::TableFull`] are about the expression as the rules rewrite it.
+///
+/// ```
+/// use hogzelt::{normalize_by_rules, Expr, Refusal, Rules};
+///
+/// // ~(a + b) at 8 bits is 255 + 255*a + 255*b
+/// let sum = Expr::variable(8, 0) + Expr::variable(8, 1);
+/// assert_eq!(normalize_by_rules(Rules::One, !sum.clone()), Err(Refusal::Nonlinear));
+/// let sheet = normalize_by_rules(Rules::Two, !sum)?;
+/// assert_eq!((sheet.constant(), sheet.par()), (255, 2));
+/// assert_eq!(sheet.value(&[3, 4])?, 248);
+/// # Ok::<(), hogzelt::Refusal>(())
+/// ```
+///
+/// Passes under rules 2 are those of the sheet; [`run_passes`] keeps to rules 1:
+///
+/// ```
+/// use hogzelt::{normalize_by_rules, Expr, Pass, Rules};
+///
+/// // at 8 bits (a & 271) + (a & -16) is (a & 15) + (a & 240)
+/// let (a, wide) = (Expr::variable(8, 0), Expr::constant(8, 271));
+/// let sum = (a.clone() & wide) + (a & -Expr::constant(8, 16));
+/// let sheet = normalize_by_rules(Rules::Two, sum)?.pass(Pass::Refine)?;
+/// assert_eq!(sheet.terms()[0].atom, Expr::variable(8, 0).as_bytes());
+/// # Ok::<(), hogzelt::Refusal>(())
+/// ```
+pub fn normalize_by_rules(rules: Rules, expr: impl AsRef<[u8]>) -> Result<Sheet, Refusal> {
+    allocated(|out| normalize_by_rules_into(rules, expr, out))
+}
+
+/// The form of an expression by the rules that are named, in a slice of [`FORM_BYTES`]. Rules other
+/// than 1 and 2 can be named to [`raw::hogzelt_normalize_by_rules`] alone, which refuses them.
+pub fn normalize_by_rules_into(
+    rules: Rules,
+    expr: impl AsRef<[u8]>,
+    out: &mut [u8],
+) -> Result<Written, Refusal> {
+    let expr = expr.as_ref();
+    let (mut used, mut terms) = (0, 0);
+    // SAFETY: both slices are valid for their lengths; what is written lies in neither and apart.
+    let refusal = unsafe {
+        raw::hogzelt_normalize_by_rules(
+            rules as u64,
+            expr.as_ptr(),
+            expr.len(),
+            out.as_mut_ptr(),
+            out.len(),
+            &mut used,
+            &mut terms,
+        )
+    };
+    written(refusal, used, terms, 0)
 }
 
 /// A pass over a form, allocated.
@@ -189,8 +261,8 @@ fn flatten_into(sheet: &[u8], out: &mut [u8]) -> Result<Written, Refusal> {
     written(refusal, used, terms, flattened)
 }
 
-/// The form after a list of passes, run from an expression, allocated. A call that is refused leaves
-/// the form as it was.
+/// The form after a list of passes, run from an expression by rules 1, allocated. A call that is
+/// refused leaves the form as it was.
 pub fn run_passes(expr: impl AsRef<[u8]>, passes: &[Pass]) -> Result<Sheet, Refusal> {
     let calls: Vec<Call> = passes
         .iter()

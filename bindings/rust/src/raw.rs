@@ -42,6 +42,15 @@ extern "C" {
         vars_len: usize,
         value: *mut u64,
     ) -> u64;
+    pub fn hogzelt_normalize_by_rules(
+        rules: u64,
+        expr: *const u8,
+        expr_len: usize,
+        out: *mut u8,
+        out_len: usize,
+        used: *mut u64,
+        terms: *mut u64,
+    ) -> u64;
     pub fn hogzelt_flatten_complex_atoms(
         s: *const u8,
         s_len: usize,

@@ -23,6 +23,8 @@ pub enum Refusal {
     TableFull = 9,
     /// Not a semilinear form, or a hash that is not its tree's.
     NoForm = 10,
+    /// Rules other than 1 and 2, which [`Rules`](crate::Rules) does not have.
+    NoRules = 18,
     /// Not a run: a length that is not a multiple of 16 or too great, or a non-zero byte that
     /// must be 0.
     NoRun = 20,
@@ -34,7 +36,7 @@ pub enum Refusal {
 
 impl Refusal {
     /// Every refusal, by rising number.
-    pub const ALL: [Refusal; 12] = [
+    pub const ALL: [Refusal; 13] = [
         Refusal::InputLength,
         Refusal::ResultLength,
         Refusal::Malformed,
@@ -44,6 +46,7 @@ impl Refusal {
         Refusal::Nonlinear,
         Refusal::TableFull,
         Refusal::NoForm,
+        Refusal::NoRules,
         Refusal::NoRun,
         Refusal::DaysNotRising,
         Refusal::NoList,
@@ -84,6 +87,7 @@ impl fmt::Display for Refusal {
             Refusal::Nonlinear => "not a sum of weighted bitwise atoms",
             Refusal::TableFull => "more than 256 atoms, or more than 3,072 records in their trees",
             Refusal::NoForm => "not a semilinear form, or a hash that is not its tree's",
+            Refusal::NoRules => "rules other than 1 and 2",
             Refusal::NoRun => "not a run: a wrong length, or a non-zero byte that must be 0",
             Refusal::DaysNotRising => "a day that is not above the one before",
             Refusal::NoList => "not a list of passes",

@@ -1,9 +1,10 @@
 //! The types: refusals as errors, allocated and lent results, the parts of a sheet.
 
 use hogzelt::{
-    best_week, columns, normalize, normalize_into, run_bytes, run_calls_into, run_pass,
-    run_pass_into, run_passes, sheet_value, Call, Expr, Pass, Played, Refusal, Week, EXPR_BYTES,
-    FORM_BYTES, OPAQUE, RECORD_BYTES, RUN_BYTES, VERSION,
+    best_week, columns, normalize, normalize_by_rules, normalize_by_rules_into, normalize_into,
+    raw, run_bytes, run_calls_into, run_pass, run_pass_into, run_passes, sheet_value, Call, Expr,
+    Pass, Played, Refusal, Rules, Week, EXPR_BYTES, FORM_BYTES, OPAQUE, RECORD_BYTES, RUN_BYTES,
+    VERSION,
 };
 use std::error::Error;
 
@@ -18,7 +19,7 @@ fn number(value: u64) -> Expr {
 #[test]
 fn refusals() {
     let numbers: Vec<u64> = Refusal::ALL.iter().map(|r| r.number()).collect();
-    assert_eq!(numbers, [1, 2, 3, 4, 5, 6, 8, 9, 10, 20, 21, 32]);
+    assert_eq!(numbers, [1, 2, 3, 4, 5, 6, 8, 9, 10, 18, 20, 21, 32]);
     for refusal in Refusal::ALL {
         assert_eq!(Refusal::check(refusal.number()), Err(refusal));
         let error: Box<dyn Error> = refusal.into();
@@ -108,6 +109,125 @@ fn masks_upon_masks() {
             assert_eq!((joined.par(), joined.terms()[0].coefficient), (1, 1));
             assert_eq!(joined.terms()[0].atom, masked.as_bytes());
             assert_eq!(run_pass(pass, &alone), Ok(alone.clone()));
+        }
+    }
+}
+
+/// What rules 2 give: constant, coefficients and atoms, or a refusal. Rules 1 by number are those of
+/// normalising.
+#[test]
+fn rules() {
+    type Sum = (u64, Vec<(u64, Expr)>);
+    let b = || Expr::variable(8, 1);
+    let three = || number(1) + number(2);
+    let cases: [(Expr, Result<Sum, Refusal>); 16] = [
+        (
+            a() ^ -number(1),
+            Ok((255, vec![(1, a()), (254, a() & number(255))])),
+        ),
+        (!(a() + b()), Ok((255, vec![(255, a()), (255, b())]))),
+        (!a(), Ok((0, vec![(1, !a())]))),
+        (!(!a() + b()), Ok((255, vec![(255, !a()), (255, b())]))),
+        (!(number(3) * a()), Ok((255, vec![(253, a())]))),
+        (!!(a() + number(1)), Ok((1, vec![(1, a())]))),
+        (!(three() & a()), Ok((0, vec![(1, !(number(3) & a()))]))),
+        (
+            a() ^ (number(3) & three()),
+            Ok((3, vec![(1, a()), (254, a() & number(3))])),
+        ),
+        (!(number(0) * (a() * b())), Ok((255, vec![]))),
+        (a() & number(271), Ok((0, vec![(1, a() & number(15))]))),
+        (
+            (a() & number(271)) + (a() & number(15)),
+            Ok((0, vec![(2, a() & number(15))])),
+        ),
+        (number(271) * a(), Ok((0, vec![(15, a())]))),
+        (a() & !(b() + number(1)), Err(Refusal::Nonlinear)),
+        (!(a() * b()), Err(Refusal::Nonlinear)),
+        (!(a() + b()) & number(15), Err(Refusal::Nonlinear)),
+        (a() >> 64, Err(Refusal::ShiftCount)),
+    ];
+    for (expr, wanted) in cases {
+        let found = normalize_by_rules(Rules::Two, &expr).map(|sheet| {
+            for x in 0..=255 {
+                assert_eq!(sheet.value(&[x, 77]), expr.value(&[x, 77]));
+            }
+            let terms = sheet
+                .terms()
+                .iter()
+                .map(|t| (t.coefficient, t.atom.to_vec()))
+                .collect();
+            (sheet.constant(), terms)
+        });
+        let wanted = wanted.map(|(constant, terms)| {
+            let bytes = |(c, atom): (u64, Expr)| (c, atom.as_bytes().to_vec());
+            (constant, terms.into_iter().map(bytes).collect::<Vec<_>>())
+        });
+        assert_eq!(found, wanted);
+        assert_eq!(normalize_by_rules(Rules::One, &expr), normalize(&expr));
+    }
+    assert_eq!(normalize(!(a() + b())), Err(Refusal::Nonlinear));
+    let uncut = normalize(a() & number(271)).expect("it is linear");
+    assert_eq!(uncut.terms()[0].atom, (a() & number(271)).as_bytes());
+}
+
+/// Rules of other numbers are refused before all else, and clear what is written.
+#[test]
+fn other_rules() {
+    let product = a() * Expr::variable(8, 1);
+    for rules in [0, 3, 257, (1 << 32) + 1, (1 << 32) + 2, 1 << 63, u64::MAX] {
+        for expr in [&[][..], &[0; 15], a().as_bytes(), product.as_bytes()] {
+            for length in [0, RECORD_BYTES, FORM_BYTES - 1, FORM_BYTES, FORM_BYTES + 1] {
+                let mut out = vec![0xA5; length];
+                let (mut used, mut terms) = (7, 7);
+                // SAFETY: both slices are valid for their lengths, and all lie apart.
+                let refusal = unsafe {
+                    raw::hogzelt_normalize_by_rules(
+                        rules,
+                        expr.as_ptr(),
+                        expr.len(),
+                        out.as_mut_ptr(),
+                        out.len(),
+                        &mut used,
+                        &mut terms,
+                    )
+                };
+                assert_eq!(Refusal::check(refusal), Err(Refusal::NoRules));
+                assert_eq!((used, terms), (0, 0));
+                assert!(out.iter().all(|&byte| byte == 0));
+            }
+        }
+    }
+}
+
+/// By the rules that there are, refusals have the order of normalising, and clear the slice.
+#[test]
+fn refusals_by_rules() {
+    for rules in Rules::ALL {
+        for (expr, length, wanted) in [
+            (vec![0; 15], RECORD_BYTES, Refusal::InputLength),
+            (vec![0; EXPR_BYTES + 16], FORM_BYTES, Refusal::InputLength),
+            (vec![14; 16], RECORD_BYTES, Refusal::ResultLength),
+            (vec![14; 16], FORM_BYTES, Refusal::Malformed),
+            (
+                Expr::variable(65, 0).as_bytes().to_vec(),
+                FORM_BYTES,
+                Refusal::Width,
+            ),
+            (
+                (a() * a()).as_bytes().to_vec(),
+                FORM_BYTES + 1,
+                Refusal::ResultLength,
+            ),
+            (
+                (a() * a()).as_bytes().to_vec(),
+                FORM_BYTES,
+                Refusal::Nonlinear,
+            ),
+        ] {
+            let mut out = vec![0xA5; length];
+            assert_eq!(normalize_by_rules_into(rules, expr, &mut out), Err(wanted));
+            assert!(out.iter().all(|&byte| byte == 0));
         }
     }
 }

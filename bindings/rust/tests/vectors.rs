@@ -1,8 +1,9 @@
 //! Replays the stored answers of crates/vectors (docs/VECTORS.md) through the safe functions.
 
 use hogzelt::{
-    can_change_coefficient_to, can_change_mask_to, columns_into, expr_value, normalize_into,
-    reduce_mask, run_calls_into, run_pass_into, sheet_value, Call, Pass, Refusal, Written,
+    can_change_coefficient_to, can_change_mask_to, columns_into, expr_value,
+    normalize_by_rules_into, normalize_into, raw, reduce_mask, run_calls_into, run_pass_into,
+    sheet_value, Call, Pass, Refusal, Rules, Written,
 };
 use std::path::PathBuf;
 
@@ -71,6 +72,7 @@ impl Entry<'_> {
             12 => self.pass_holds(Pass::Recover),
             13 => self.pass_holds(Pass::Coalesce),
             14 => self.list_holds(),
+            15 => self.rules_hold(),
             _ => unreachable!("type {}", self.sort),
         }
     }
@@ -78,6 +80,20 @@ impl Entry<'_> {
     fn pass_holds(&self, pass: Pass) -> bool {
         let mut out = vec![0xA5; self.words[0] as usize];
         self.form_is(run_pass_into(pass, self.input().0, &mut out), &out)
+    }
+
+    /// The rules by number, of which only two are in Rust's types.
+    fn rules_hold(&self) -> bool {
+        let (input, _) = self.input();
+        let mut out = vec![0xA5; self.words[1] as usize];
+        let named = Rules::ALL
+            .into_iter()
+            .find(|&rules| rules as u64 == self.words[0]);
+        let found = match named {
+            Some(rules) => normalize_by_rules_into(rules, input, &mut out),
+            None => by_number(self.words[0], input, &mut out),
+        };
+        self.form_is(found, &out)
     }
 
     fn columns_hold(&self) -> bool {
@@ -117,6 +133,25 @@ impl Entry<'_> {
     }
 }
 
+/// Normalising by rules that are none, which is refused.
+fn by_number(rules: u64, input: &[u8], out: &mut [u8]) -> Result<Written, Refusal> {
+    let (mut used, mut terms) = (7, 7);
+    // SAFETY: both slices are valid for their lengths; what is written lies in neither and apart.
+    let refusal = unsafe {
+        raw::hogzelt_normalize_by_rules(
+            rules,
+            input.as_ptr(),
+            input.len(),
+            out.as_mut_ptr(),
+            out.len(),
+            &mut used,
+            &mut terms,
+        )
+    };
+    assert_eq!((used, terms), (0, 0), "rules {rules} are none");
+    Refusal::check(refusal).map(|()| unreachable!("rules {rules} are accepted"))
+}
+
 fn word(bytes: &[u8]) -> u64 {
     bytes
         .iter()
@@ -150,7 +185,7 @@ fn stored_answers() {
     let package = PathBuf::from(env!("CARGO_MANIFEST_DIR"));
     let path = package.join("../../crates/vectors/stdin");
     let file = std::fs::read(&path).expect("the vector file");
-    let mut seen = [0; 15];
+    let mut seen = [0; 16];
     for (number, entry) in entries(&file).iter().enumerate() {
         // the structural hash is no function of the library
         if entry.sort != 2 {
@@ -158,6 +193,6 @@ fn stored_answers() {
             seen[usize::from(entry.sort)] += 1;
         }
     }
-    let tried: Vec<usize> = (0..15).filter(|&sort| seen[sort] > 0).collect();
-    assert_eq!(tried, [1, 3, 4, 5, 6, 7, 8, 9, 10, 11, 12, 13, 14]);
+    let tried: Vec<usize> = (0..16).filter(|&sort| seen[sort] > 0).collect();
+    assert_eq!(tried, [1, 3, 4, 5, 6, 7, 8, 9, 10, 11, 12, 13, 14, 15]);
 }

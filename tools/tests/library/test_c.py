@@ -18,6 +18,43 @@ cut short: the length of the input is 0, not a multiple of 16 or too great, valu
 """
 HEADER = os.path.join(ROOT, "include", "hogzelt.h")
 
+# ~(a + b) at 8 bits by the rules that there are, and by others; as C and as C++
+RULES = rb"""
+#include "hogzelt.h"
+#include <stdio.h>
+
+static const uint8_t expr[4 * HOGZELT_RECORD_BYTES] = {
+    HOGZELT_VARIABLE, 0, 1, 0, 8, 0, 0, 0, 0, 0, 0, 0, 0, 0, 0, 0,
+    HOGZELT_VARIABLE, 1, 1, 0, 8, 0, 0, 0, 0, 0, 0, 0, 0, 0, 0, 0,
+    HOGZELT_ADD, 0, 3, 0, 8, 0, 0, 0, 0, 0, 0, 0, 0, 0, 0, 0,
+    HOGZELT_NOT, 0, 4, 0, 8, 0, 0, 0, 0, 0, 0, 0, 0, 0, 0, 0};
+static const uint64_t vars[2] = {3, 4};
+static uint8_t out[HOGZELT_FORM_BYTES];
+
+static void by_rules(uint64_t rules)
+{
+    uint64_t used = 7, terms = 7, value = 7;
+    uint64_t refusal = hogzelt_normalize_by_rules(rules, expr, sizeof expr, out, sizeof out, &used,
+                                                  &terms);
+    hogzelt_semilinear_value(out, (size_t)used, vars, 2, &value);
+    printf("%s, %u bytes, %u terms, value %u\n", hogzelt_refusal_text(refusal), (unsigned)used,
+           (unsigned)terms, (unsigned)value);
+}
+
+int main(void)
+{
+    by_rules(HOGZELT_RULES_1);
+    by_rules(HOGZELT_RULES_2);
+    by_rules(3);
+    return HOGZELT_NO_RULES != 18;
+}
+"""
+RULES_ANSWER = """\
+not a sum of weighted bitwise atoms, 0 bytes, 0 terms, value 0
+accepted, 112 bytes, 2 terms, value 248
+rules other than 1 and 2, 0 bytes, 0 terms, value 0
+"""
+
 
 class Installed(Calls):
     def setUp(self):
@@ -27,7 +64,7 @@ class Installed(Calls):
         self.env = dict(os.environ)
         self.env.setdefault("HOGZELT_LIB", os.path.join(ROOT, build.ARCHIVE))
         out = self.sh(os.path.join(ROOT, "tools", "install.sh"), self.prefix)
-        self.assertEqual(out, f"hogzelt 1.4.0: {os.path.realpath(self.prefix)}\n")
+        self.assertEqual(out, f"hogzelt 1.5.0: {os.path.realpath(self.prefix)}\n")
 
     def sh(self, *words, **env):
         done = subprocess.run(words, cwd=self.folder, env={**self.env, **env}, check=False,
@@ -41,7 +78,7 @@ class Installed(Calls):
         self.assertEqual(found, [
             "include/hogzelt.h", "lib/cmake/hogzelt/hogzelt-config-version.cmake",
             "lib/cmake/hogzelt/hogzelt-config.cmake", "lib/libhogzelt.a", "lib/libhogzelt.so",
-            "lib/libhogzelt.so.1", "lib/libhogzelt.so.1.4.0", "lib/pkgconfig/hogzelt.pc"])
+            "lib/libhogzelt.so.1", "lib/libhogzelt.so.1.5.0", "lib/pkgconfig/hogzelt.pc"])
         self.assertIn("usage", self.refused("install.sh"))
         self.assertIn("usage", self.refused("install.sh", "--help"))
 
@@ -55,6 +92,14 @@ class Installed(Calls):
         self.sh("cc", "-std=c99", "-Wall", "-Wextra", "-pedantic", "-Werror",
                 f"-I{self.prefix}/include", source, f"{self.prefix}/lib/libhogzelt.a", "-o", "use")
         self.assertEqual(self.sh("./use"), ANSWER)
+
+    def test_rules(self):
+        for compiler, name in (("cc", "rules.c"), ("c++", "rules.cc")):
+            need(self, compiler)
+            self.sh(compiler, "-Wall", "-Wextra", "-pedantic", "-Werror",
+                    f"-I{self.prefix}/include", self.path(name, RULES),
+                    f"{self.prefix}/lib/libhogzelt.a", "-o", "rules")
+            self.assertEqual(self.sh("./rules"), RULES_ANSWER)
 
     def test_pkg_config(self):
         need(self, "pkg-config")
@@ -100,6 +145,9 @@ class Header(Calls):
             ("RUN_BYTES", records.RECORD * week.MOST_RECORDS),
         ):
             self.assertEqual(named[name], value, name)
+        listed = self.text.partition("enum hogzelt_rules {")[2].partition("}")[0]
+        self.assertEqual(re.findall(r"HOGZELT_(\w+) = ([0-9]+)", listed),
+                         [("RULES_1", "1"), ("RULES_2", "2")])
         listed = self.text.partition("enum hogzelt_refusal {")[2].partition("}")[0]
         numbers = sorted(int(number) for number in re.findall(r"= ([0-9]+)", listed))
         self.assertEqual(numbers, [0, *sorted(refusals.REFUSALS)])

@@ -71,10 +71,13 @@ class Functions(unittest.TestCase):
                 if set(words[3::2]) <= {FORM_BYTES}:
                     found = self.answer(hogzelt.run_passes, data[:split], words[2::2])
                     self.assertEqual(found, (refusal, None if refusal else sheet))
+            elif sort == 15 and words[1:] == [FORM_BYTES]:
+                found = self.answer(hogzelt.normalize, data[:split], None, words[0])
+                self.assertEqual(found, (refusal, None if refusal else sheet))
             else:
                 continue
             seen[sort] = seen.get(sort, 0) + 1
-        self.assertEqual(sorted(seen), [1, 3, 4, 5, 6, 7, 8, 9, 10, 11, 12, 13, 14])
+        self.assertEqual(sorted(seen), [1, *range(3, 16)])
 
     def columns(self, data, split, refusal, classes):
         number, found = self.answer(hogzelt.columns, data[:split])

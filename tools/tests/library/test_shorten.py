@@ -138,8 +138,9 @@ class Shown(Calls):
     def test_json(self):
         out, _ = self.call("shorten", "-w8", "--json", "X1 | 15")
         self.assertEqual(json.loads(out), {
-            "width": 8, "text": "X1 | 15", "refusal": None, "sum": "15 + 1*(X1 & 240)",
-            "constant": 15, "terms": [{"coefficient": 1, "atom": "(X1 & 240)"}],
+            "width": 8, "rules": 1, "text": "X1 | 15", "refusal": None,
+            "sum": "15 + 1*(X1 & 240)", "constant": 15,
+            "terms": [{"coefficient": 1, "atom": "(X1 & 240)"}],
             "par": {"before": 2, "after": 1}, "variables": {"X1": 0}})
         out, _ = self.call("shorten", "-w8", "--json", "a +\n b*b", status=1)
         found = json.loads(out)

@@ -135,7 +135,7 @@ class StoredAnswers(unittest.TestCase):
 
     def test_stored(self):
         """Refusals 5 and 6 stand in well-formed files; 1, 3, 4 and 10 do not."""
-        seen = dict.fromkeys(range(15), 0)
+        seen = dict.fromkeys(range(16), 0)
         for sort, refusal, value, _, data in stored_entries():
             seen[sort] += 1
             if sort == 1:
@@ -146,10 +146,10 @@ class StoredAnswers(unittest.TestCase):
                 self.assertEqual(self.accepted(read_form, data), refusal not in (1, 10))
             elif sort in (7, 9, 10, 11, 12, 13) and refusal in (1, 10):
                 self.assertFalse(self.accepted(read_form, data))
-            elif sort in (8, 14) and refusal not in (2, 32):
+            elif sort in (8, 14, 15) and refusal not in (2, 18, 32):
                 split = len(data) - value % 2**32
                 found = self.accepted(read_expression, data[:split])
                 self.assertEqual(found, refusal not in (1, 3, 4))
                 if refusal == 0:
                     self.assertTrue(self.accepted(read_form, data[split:]))
-        self.assertTrue(seen[1] and seen[2] and all(seen[sort] for sort in range(6, 15)), seen)
+        self.assertTrue(seen[1] and seen[2] and all(seen[sort] for sort in range(6, 16)), seen)

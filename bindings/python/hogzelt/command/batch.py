@@ -5,6 +5,7 @@ from __future__ import annotations
 import json
 import os
 import sys
+from functools import partial
 from itertools import count
 from typing import Iterator, NamedTuple, Sequence, Tuple, Union
 
@@ -27,15 +28,16 @@ class Task(NamedTuple):
     """What is done with each line."""
 
     width: int
+    rules: int
     passes: tuple[int, ...]
     folds: bool
     as_json: bool
 
 
-def run_batch(given: Given, options: Options, passes: tuple[int, ...]) -> int:
+def run_batch(given: Given, options: Options, rules: int, passes: tuple[int, ...]) -> int:
     """A line for each line of the file. What is refused is a comment line, so that the output can
     be read again; blank lines and lines that begin with # stay as they are."""
-    task = Task(width_of(given, options), passes, "fold" in options, "json" in options)
+    task = Task(width_of(given, options), rules, passes, "fold" in options, "json" in options)
     text = given.text.replace("\r\n", "\n")
     lines = text.removesuffix("\n").split("\n") if text else []
     refused_lines = done = 0
@@ -83,7 +85,7 @@ def run_chunk(chunk: tuple[int, Sequence[str], Task]) -> tuple[str, int]:
     own = engine()
     read = [read_line(text, task) for text in lines]
     found = [shortened(own, one, task) if isinstance(one, Parsed) else one for one in read]
-    line_text = json_line if task.as_json else plain_line
+    line_text = partial(json_line, task.rules) if task.as_json else plain_line
     printed = [line_text(*each) for each in zip(count(first + 1), lines, read, found)]
     refused_lines = sum(isinstance(one, Refusing) for one in found)
     return "".join([line + "\n" for line in printed if line is not None]), refused_lines
@@ -103,9 +105,9 @@ def read_line(text: str, task: Task) -> Parsed | Refusing | None:
 def shortened(own: Engine, parsed: Parsed, task: Task) -> tuple[int, Sheet] | Refusing:
     """The par of the normalised sheet, and the shortened one."""
     try:
-        return own.shorten(parsed.data, task.passes)
+        return own.shorten(parsed.data, task.passes, task.rules)
     except Refused as bad:
-        return refusing(bad.number, parsed, None)
+        return refusing(bad.number, parsed, None, task.rules)
 
 
 def plain_line(number: int, text: str, read: Read, found: Found) -> str | None:
@@ -117,13 +119,13 @@ def plain_line(number: int, text: str, read: Read, found: Found) -> str | None:
     return sheet_text(found[1], read.names)
 
 
-def json_line(number: int, text: str, read: Read, found: Found) -> str | None:
+def json_line(rules: int, number: int, text: str, read: Read, found: Found) -> str | None:
     if isinstance(found, Refusing):
-        return json.dumps({"line": number, **refused(found, number)})
+        return json.dumps({"line": number, **refused(found, rules, number)})
     if found is None or not isinstance(read, Parsed):
         return None
     before, sheet = found
-    said = accepted(text, read.names, variables_of(read), before, sheet)
+    said = accepted(rules, text, read.names, variables_of(read), before, sheet)
     return json.dumps({"line": number, **said})
 
 

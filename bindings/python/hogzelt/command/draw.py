@@ -11,12 +11,13 @@ from .terminal import picture_lines, wants_colour
 
 
 def draw(options: Options) -> int:
+    rules = options.rules()
     given = read_given(options, "draw")
     if given.sort == "sheet":
         picture = picture_of(read_sheet(given, options))
     else:
         parsed = read_parsed(given, options)
-        picture = picture_of(run(given, parsed, options.passes(())), parsed.names)
+        picture = picture_of(run(given, parsed, rules, options.passes(())), parsed.names)
     output = options.get("svg")
     if output is None:
         print("\n".join(picture_lines(picture, wants_colour())))

@@ -72,12 +72,13 @@ def read_assignment(word: str, numbers: dict[str, int]) -> tuple[int, int]:
 
 def columns(options: Options) -> int:
     """The classes of places of a sheet, or of the sheet that an expression gives."""
+    rules = options.rules()
     given = read_given(options, "columns")
     if given.sort == "sheet":
         sheet, names = read_sheet(given, options), {}
     else:
         parsed = read_parsed(given, options)
-        sheet, names = run(given, parsed, options.passes(())), parsed.names
+        sheet, names = run(given, parsed, rules, options.passes(())), parsed.names
     print("\n".join(show_columns(sheet.form, columns_of(sheet), names)))
     return 0
 
@@ -133,9 +134,10 @@ def write(options: Options) -> int:
 
 def normalize(options: Options) -> int:
     """The tangle of a text and the sheet that normalising makes of it."""
+    rules = options.rules()
     given = read_given(options, "normalize")
     parsed = read_parsed(given, options)
-    sheet = run(given, parsed)
+    sheet = run(given, parsed, rules)
     print("\n".join(show_expression(parsed.expression, parsed.names)) + "\n")
     print("\n".join(show_form(sheet.form, parsed.names)))
     output = options.get("output")

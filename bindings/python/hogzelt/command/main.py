@@ -24,12 +24,12 @@ class Command(NamedTuple):
 
 
 TABLE = {
-    "shorten": Command("shorten", ("width", "file", "passes", "jobs"),
+    "shorten": Command("shorten", ("width", "file", "rules", "passes", "jobs"),
                        ("fold", "steps", "quiet", "json")),
     "value": Command("look", ("width", "file"), ("fold", "quiet")),
-    "draw": Command("draw", ("width", "file", "passes", "svg"), ("fold",)),
-    "columns": Command("look", ("width", "file", "passes"), ("fold",)),
-    "normalize": Command("look", ("width", "file", "output"), ("fold",)),
+    "draw": Command("draw", ("width", "file", "rules", "passes", "svg"), ("fold",)),
+    "columns": Command("look", ("width", "file", "rules", "passes"), ("fold",)),
+    "normalize": Command("look", ("width", "file", "rules", "output"), ("fold",)),
     "write": Command("look", ("width", "file", "output"), ("fold",)),
     "show": Command("look", ("width", "file"), ("text",)),
     "week": Command("week", ("file", "output"), ("quiet",)),

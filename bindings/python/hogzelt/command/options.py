@@ -36,6 +36,12 @@ class Options:
             raise Usage(f"a width is a number from 1 to 64, not {word!r}")
         return int(word)
 
+    def rules(self) -> int:
+        word = self.values.get("rules", "1")
+        if word not in ("1", "2"):
+            raise Usage(f"the rules are 1 or 2, not {word!r}")
+        return int(word)
+
     def passes(self, default: Sequence[int]) -> tuple[int, ...]:
         named = self.values.get("passes")
         if named is None:

@@ -30,12 +30,14 @@ def names_text(variables: Sequence[int], names: Mapping[int, str]) -> str:
 
 
 def accepted(
-    text: str | None, names: Mapping[int, str], variables: Sequence[int], before: int, sheet: Sheet
+    rules: int | None, text: str | None, names: Mapping[int, str], variables: Sequence[int],
+    before: int, sheet: Sheet,
 ) -> dict[str, object]:
-    """The object of an expression that is accepted; the text of a sheet is null."""
+    """The object of an expression that is accepted; rules and text of a sheet are null."""
     width, constant, terms = split_form(sheet.data)
     return {
         "width": width,
+        "rules": rules,
         "text": text,
         "refusal": None,
         "sum": sum_text(width, constant, terms, names),
@@ -46,10 +48,10 @@ def accepted(
     }
 
 
-def refused(bad: Refusing, line: int) -> dict[str, object]:
+def refused(bad: Refusing, rules: int, line: int) -> dict[str, object]:
     """The object of an expression that is refused, on this line of its source; the number is 0
     where a text is none."""
     refusal = {"number": bad.number, "line": line, "column": bad.place[1], "message": bad.message,
                "hint": bad.hint}
-    return {"width": bad.width, "text": bad.text, "refusal": refusal, "sum": None, "constant": None,
-            "terms": None, "par": None, "variables": None}
+    return {"width": bad.width, "rules": rules, "text": bad.text, "refusal": refusal, "sum": None,
+            "constant": None, "terms": None, "par": None, "variables": None}

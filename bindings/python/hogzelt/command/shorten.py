@@ -26,9 +26,11 @@ class Step(NamedTuple):
 
 
 class Shortened(NamedTuple):
-    """What is printed: the last sheet, or the first one where that has fewer terms."""
+    """What is printed: the last sheet, or the first one where that has fewer terms. A sheet that is
+    given has no text and no rules."""
 
     width: int
+    rules: int | None
     names: Mapping[int, str]
     variables: list[int]
     text: str | None
@@ -45,6 +47,7 @@ class Shortened(NamedTuple):
 
 
 def shorten(options: Options) -> int:
+    rules = options.rules()
     given = read_given(options, "shorten")
     passes = options.passes(SHORTENING)
     if given.sort == "par":
@@ -52,29 +55,30 @@ def shorten(options: Options) -> int:
     if given.sort == "text" and given.name is not None:
         if "steps" in options:
             raise Usage("--steps is for one expression; a file has one on each line")
-        return run_batch(given, options, passes)
+        return run_batch(given, options, rules, passes)
     try:
         if given.sort == "sheet":
             result = of_sheet(given, options, passes)
         else:
-            result = of_text(given, options, passes)
+            result = of_text(given, options, rules, passes)
     except Refusing as bad:
         if "json" not in options:
             raise
-        print(json.dumps(refused(bad, bad.place[0])))
+        print(json.dumps(refused(bad, rules, bad.place[0])))
         return 1
     if "json" in options:
-        first, last = result.first, result.last
-        print(json.dumps(accepted(result.text, result.names, result.variables, first.par, last)))
+        said = accepted(result.rules, result.text, result.names, result.variables,
+                        result.first.par, result.last)
+        print(json.dumps(said))
     else:
         print("\n".join(shown(result, "steps" in options, "quiet" in options)))
     return 0
 
 
-def of_text(given: Given, options: Options, passes: tuple[int, ...]) -> Shortened:
+def of_text(given: Given, options: Options, rules: int, passes: tuple[int, ...]) -> Shortened:
     parsed = read_parsed(given, options)
-    steps = steps_from(Step("normalise", run(given, parsed), 0), passes)
-    return Shortened(parsed.width, parsed.names, variables_of(parsed), parsed.text, steps)
+    steps = steps_from(Step("normalise", run(given, parsed, rules), 0), passes)
+    return Shortened(parsed.width, rules, parsed.names, variables_of(parsed), parsed.text, steps)
 
 
 def of_sheet(given: Given, options: Options, passes: tuple[int, ...]) -> Shortened:
@@ -82,7 +86,7 @@ def of_sheet(given: Given, options: Options, passes: tuple[int, ...]) -> Shorten
     form = sheet.form
     variables = {r.argument for atom in form.atoms for r in atom.records if r.kind == VARIABLE}
     steps = steps_from(Step("as given", sheet, 0), passes)
-    return Shortened(form.width, NO_NAMES, sorted(variables), None, steps)
+    return Shortened(form.width, None, NO_NAMES, sorted(variables), None, steps)
 
 
 def steps_from(first: Step, passes: tuple[int, ...]) -> list[Step]:
@@ -104,7 +108,8 @@ def shown(result: Shortened, with_steps: bool, quiet: bool) -> list[str]:
     lines = [step_line(step, result.names) for step in result.steps] if with_steps else []
     lines.append(answer)
     start = result.steps[0].name.replace("normalise", "normalised")
-    lines.append(f"par {result.last.par}, {start} {result.first.par}; width {result.width}")
+    rules = ", rules 2" if result.rules == 2 else ""
+    lines.append(f"par {result.last.par}, {start} {result.first.par}; width {result.width}{rules}")
     if result.variables:
         lines.append("variables: " + names_text(result.variables, result.names))
     other = plainer(result.last, result.names)

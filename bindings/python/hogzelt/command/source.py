@@ -161,6 +161,8 @@ def parsed_tangle(given: Given, options: Options) -> Parsed:
 
 def read_sheet(given: Given, options: Options) -> Sheet:
     """The sheet that a file holds."""
+    if "rules" in options:
+        raise Usage(f"{given.label}a sheet is normalised already; leave --rules out")
     try:
         form = read_form(given.data)
     except Fault as bad:
@@ -174,26 +176,25 @@ def check_width(given: Given, options: Options, width: int) -> None:
         raise Usage(f"{given.label}its width is {width}; leave -w out")
 
 
-def run(given: Given, parsed: Parsed, passes: tuple[int, ...] = ()) -> Sheet:
+def run(given: Given, parsed: Parsed, rules: int, passes: tuple[int, ...] = ()) -> Sheet:
     """The sheet after normalising and passes; a refusal comes with its place."""
     try:
-        return engine().run(parsed.data, passes)
+        return engine().run(parsed.data, passes, rules)
     except Refused as bad:
-        raise refusing(bad.number, parsed, given.name) from None
+        raise refusing(bad.number, parsed, given.name, rules) from None
 
 
-def refusing(number: int, parsed: Parsed, name: str | None) -> Refusing:
+def refusing(number: int, parsed: Parsed, name: str | None, rules: int = 1) -> Refusing:
     """What is said of a refusal: its place, a sentence and a hint."""
-    reason = explain(number, parsed, is_accepted)
-    at = parsed.place(reason.record)
-    found = Refusing(number, parsed.width, parsed.text, at, reason.message, reason.hint)
+    at, message, hint = explain(number, parsed, is_accepted, rules)
+    found = Refusing(number, parsed.width, parsed.text, at, message, hint)
     found.name = name
     return found
 
 
-def is_accepted(expression: bytes) -> bool:
+def is_accepted(expression: bytes, rules: int) -> bool:
     try:
-        engine().run(expression, ())
+        engine().run(expression, (), rules)
     except Refused:
         return False
     return True

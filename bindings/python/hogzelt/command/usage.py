@@ -31,7 +31,8 @@ A sum is a constant and numbers times atoms; an atom has only variables, literal
 So products of variables, and & | ^ ~ >> over a variable and + - *, are refused (8). A part without
 a variable is a number, as 3 & (1 + 2), wherever it is added or multiplied; beside a variable below
 & | ^ it must be written without + - *, or cut to one literal by --fold: x & -2 is then read as
-x & 254 at width 8.
+x & 254 at width 8. Under --rules 2 such a part is cut without --fold, and ~x over + - * counts as
+-x - 1.
 
 Exit status: 0 done; 1 a text is bad or something is refused; 2 wrong usage, or a file or the
 library is missing. HOGZELT_SO names the shared object of the library. In a checkout it is made
@@ -43,6 +44,12 @@ COMMON = """\
   -w, --width WIDTH   the width in bits, 1 to 64; a tangle or a sheet brings its own
   -f, --file FILE     read FILE in place of TEXT; - is standard input
   --fold              cut parts without a variable to one literal first
+"""
+
+RULES = """\
+  --rules 1|2         the rules of normalising (default: 1). Under rules 2 each part without a
+                      variable below & | ^ ~ is first cut to one literal, at width 8 x ^ -1 to
+                      x ^ 255; then ~x over + - * counts as -x - 1. Not for a sheet
 """
 
 PASSES = """\
@@ -64,17 +71,18 @@ the value. Where the truth tables of up to three variables give a plainer sum, a
 A text file has one expression a line; blank lines and lines that begin with # stay as they are. For
 each line there is one, in order; what is refused becomes a line that begins with #.
 
-{COMMON}{PASSES}\
+{COMMON}{RULES}{PASSES}\
                       (default: flatten,coalesce,recover,refine)
   --steps             show the sheet after each call
   -q, --quiet         print only the sum
-  --json              one object a line: width, text, refusal with its place, sum, constant, terms,
-                      par before and after, variables
+  --json              one object a line: width, rules, text, refusal with its place, sum, constant,
+                      terms, par before and after, variables
   --jobs N            processes for a file (default: one for each processor)
 
 Examples:
   tools/hogzelt shorten -w 8 'x ^ 15'
   tools/hogzelt shorten -w 8 --fold --steps '(x & -2) + (x & 1)'
+  tools/hogzelt shorten -w 8 --rules 2 '~(x + y) + (x ^ -1)'
   tools/hogzelt shorten -w 64 --json -f examples/daily.txt
 """,
     "value": f"""\
@@ -97,7 +105,7 @@ usage: hogzelt columns -w WIDTH TEXT
 Prints the classes of places: those at which every atom of the normalised sheet has the same table.
 Under each class stands each atom's table: a row of bits for each of its variables, then its own.
 
-{COMMON}{PASSES}\
+{COMMON}{RULES}{PASSES}\
                       (default: none)
 
 Examples:
@@ -113,7 +121,7 @@ joined; bits that cannot matter beside the coefficient are dimmed, and a second 
 even coefficient moves them and what it pushes off the end. Colours stand only in a terminal, and
 not where NO_COLOR is set.
 
-{COMMON}{PASSES}\
+{COMMON}{RULES}{PASSES}\
                       (default: none)
   --svg FILE          write the picture to FILE, for a browser
 
@@ -127,7 +135,7 @@ usage: hogzelt normalize -w WIDTH [-o FILE] TEXT
 
 Shows the tangle and its normalised sheet.
 
-{COMMON}\
+{COMMON}{RULES}\
   -o, --output FILE   also write the sheet's bytes to FILE; one that is there is replaced
 
 Examples:
