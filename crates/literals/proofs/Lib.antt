@@ -3,3 +3,4 @@ pub mod FoldingLaws
 mod RootLaws
 mod OneChildLaws
 mod TwoChildrenLaws
+mod LastChildLaws

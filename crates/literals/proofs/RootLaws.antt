@@ -91,15 +91,8 @@ length-folded {w} {b} {t} {at} {d} first room =
     ∙ length-put d at (encode w (foldLiterals w b t))
     (omega (arith, length-encode w (foldLiterals w b t), fold-size w b t, room))
 
--- a root of kind k that is no literal; `deeper` says that a bitwise operator stands above its children
-pub record Kept (w : ℕ) (s marks : List ℕ) (at : ℕ) (d : List ℕ) (below : Bool) (k : ℕ) (deeper : Bool) : Type 0 where
+-- a root that is no literal; `deeper` says that a bitwise operator stands above its children
+pub record Kept (w : ℕ) (s marks : List ℕ) (at : ℕ) (d : List ℕ) (below deeper : Bool) : Type 0 where
   pub room : FoldRoom w s marks at d
   pub off : isFolded below (decode s) ≡ false
-  pub kind-is : k ≡ kind s
-  pub deeper-is : deeper ≡ below || isBitwise k
-
--- `deeper` by the kind in the record
-pub deep : {w : ℕ} {s marks : List ℕ} {at : ℕ} {d : List ℕ} {below : Bool} {k : ℕ} {deeper : Bool}
-    → Kept w s marks at d below k deeper → below || isBitwise (kind s) ≡ deeper
-deep {below = below} kept =
-    sym (kept .deeper-is ∙ ap (λ (x : ℕ). below || isBitwise x) (kept .kind-is))
+  pub deeper-is : deeper ≡ below || isBitwise (kind s)

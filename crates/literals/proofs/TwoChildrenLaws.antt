@@ -1,6 +1,6 @@
 -- What `fold_literals` knows at a root with two children, and writes there: one folded child behind the other, and the
 -- root behind both.
-use mathlib.Core.Path.{_≡_, refl, ap, sym, _∙_}
+use mathlib.Core.Path.{_≡_, refl, ap, ap₂, sym, _∙_}
 use Prim.Native.Nat.{ℕ, _+_, _-_, _*_, _≤_, _<_}
 use native.Mathlib.Omega.{arith}
 use mathlib.Core.List.{List}
@@ -8,43 +8,56 @@ use mathlib.Core.Bool.{Bool}
 use lib.ListN.{length, take, drop}
 use Rattle.base.specs.Put.{put}
 use Rattle.base.proofs.PutLaws.{put-then-then}
-use Rattle.record.specs.Fields.{kind, size, arity}
+use Rattle.record.specs.Fields.{kind, byte1, size, literal, arity}
 use Rattle.record.specs.Span.{cut, left, right}
 use Rattle.record.specs.Tree.{Tree, sizeOf, recordBytes, encode}
 use Rattle.record.specs.Tree.Tree.{Binary}
 use Rattle.record.specs.Decode.{decode}
+use Rattle.record.proofs.FieldsLaws.{kind-of-arity-two}
 use Rattle.record.proofs.SpanLaws.{length-left, length-right, cut-le}
 use Rattle.record.proofs.EncodeLaws.{length-encode}
 use Rattle.record.proofs.DecodeLaws.{decode-two, child-left, child-right}
-use Rattle.expr_refusal.proofs.RefusalLaws.{accepted-left, accepted-right}
+use Rattle.expr_refusal.proofs.RefusalLaws.{fields-byte1, accepted-root, accepted-left, accepted-right}
 use Rattle.ways.specs.Marks.{marksOf}
 use Rattle.ways.proofs.MarksLaws.{left-marks, right-marks}
 use Rattle.rules_laws.specs.Rules.{foldLiterals}
 use Rattle.literals.specs.Folding.{FoldRoom, Folded, RootRoom, RootPut}
 use Rattle.literals.proofs.FoldingLaws.{isFolded, fold-binary, fold-size}
-use Rattle.literals.proofs.RootLaws.{sized-records, whole, marks-count, length-folded, Kept, deep}
+use Rattle.literals.proofs.RootLaws.{sized-records, whole, marks-count, length-folded, Kept}
 
 -- a root that is no literal, over two children; the left one is l, of so many records as `number` says
-pub record TwoChildren (w : ℕ) (s marks : List ℕ) (at : ℕ) (d : List ℕ) (below : Bool) (k : ℕ) (deeper : Bool)
-    (l : List ℕ) (number : ℕ) : Type 0 where
-  pub kept : Kept w s marks at d below k deeper
-  pub not-none : arity (kind s) ≡ 0 → ⊥
-  pub not-one : arity (kind s) ≡ 1 → ⊥
+pub record TwoChildren (w : ℕ) (s marks : List ℕ) (at : ℕ) (d : List ℕ) (below deeper : Bool) (l : List ℕ)
+    (number : ℕ) : Type 0 where
+  pub kept : Kept w s marks at d below deeper
+  pub two : arity (kind s) ≡ 2
   pub number-is : 16 * number ≡ cut s
   pub child : l ≡ left s
 
-module _ {w : ℕ} {s marks : List ℕ} {at : ℕ} {d : List ℕ} {below : Bool} {k : ℕ} {deeper : Bool} {l : List ℕ}
-    {number : ℕ} (x : TwoChildren w s marks at d below k deeper l number) where
+module _ {w : ℕ} {s marks : List ℕ} {at : ℕ} {d : List ℕ} {below deeper : Bool} {l : List ℕ} {number : ℕ}
+    (x : TwoChildren w s marks at d below deeper l number) where
   abbrev given : FoldRoom w s marks at d
   given = x .kept .room
 
+  not-none : arity (kind s) ≡ 0 → ⊥
+  not-none e = omega (arith, x .two)
+
+  not-one : arity (kind s) ≡ 1 → ⊥
+  not-one e = omega (arith, x .two)
+
+  -- such a root has no use for byte 1
+  no-byte1 : byte1 s ≡ 0
+  no-byte1 =
+      let root = accepted-root w s (given .accepted) in
+      let low = kind-of-arity-two (kind s) (x .two) (omega (arith, root .known)) in
+      fields-byte1 (kind s) (byte1 s) (literal s) (root .fields) (λ e. omega (arith, low .0)) (omega (arith, low .1))
+
   left-count : number ≡ sizeOf (decode l)
   left-count =
-      let first = child-left s (whole given) refl (x .not-none) (x .not-one) (x .child) in
+      let first = child-left s (whole given) refl not-none not-one (x .child) in
       omega (arith, x .number-is, ap length (x .child), length-left s, sized-records l (first .ok))
 
   tree : {r : List ℕ} → r ≡ right s → decode s ≡ Binary (kind s) (decode l) (decode r)
-  tree = decode-two s (whole given) refl (x .not-none) (x .not-one) (x .child)
+  tree = decode-two s (whole given) refl not-none not-one (x .child)
 
   records : {r : List ℕ} → r ≡ right s → sizeOf (decode l) * 16 + sizeOf (decode r) * 16 + 16 ≡ length s
   unfolding sizeOf
@@ -57,17 +70,17 @@ module _ {w : ℕ} {s marks : List ℕ} {at : ℕ} {d : List ℕ} {below : Bool}
 
   -- the children are smaller
   pub left-falls : size l < size s
-  left-falls = child-left s (whole given) refl (x .not-none) (x .not-one) (x .child) .falls
+  left-falls = child-left s (whole given) refl not-none not-one (x .child) .falls
 
   pub right-falls : {r : List ℕ} → r ≡ right s → size r < size s
-  right-falls er = child-right s (whole given) refl (x .not-none) (x .not-one) er .falls
+  right-falls er = child-right s (whole given) refl not-none not-one er .falls
 
   -- the left one is accepted, and its marks are the first
   pub left-room : {m : List ℕ} → m ≡ take number marks → FoldRoom w l m at d
   left-room em =
       let long : length l ≡ cut s = ap length (x .child) ∙ length-left s in
       record {
-        accepted = rw (x .child) (accepted-left w s (given .accepted) (x .not-none) (x .not-one));
+        accepted = rw (x .child) (accepted-left w s (given .accepted) not-none not-one);
         long = omega (arith, long, cut-le s, given .long);
         marked =
             em
@@ -78,7 +91,7 @@ module _ {w : ℕ} {s marks : List ℕ} {at : ℕ} {d : List ℕ} {below : Bool}
 
   -- the left child is folded: g is what is written, to i; the right one is r
   module _ {g : List ℕ} {i : ℕ} (first : Folded w deeper (decode l) at d g i) {r : List ℕ} (er : r ≡ right s) where
-    first-length : length g ≡ length d
+    pub first-length : length g ≡ length d
     first-length = length-folded first (omega (arith, records er, given .room))
 
     -- the right one is accepted, and its marks stand between the left one's and the root's
@@ -91,7 +104,7 @@ module _ {w : ℕ} {s marks : List ℕ} {at : ℕ} {d : List ℕ} {below : Bool}
         let rest : last - number ≡ sizeOf (decode r) =
         omega (arith, el, left-count, marks-count given, ap sizeOf (tree er)) in
         record {
-          accepted = rw er (accepted-right w s (given .accepted) (x .not-none) (x .not-one));
+          accepted = rw er (accepted-right w s (given .accepted) not-none not-one);
           long = omega (arith, long, given .long);
           marked =
               em
@@ -130,16 +143,17 @@ module _ {w : ℕ} {s marks : List ℕ} {at : ℕ} {d : List ℕ} {below : Bool}
           }
 
       -- and there it makes up the folded tree
-      pub folded-two : {f : List ℕ} {n : ℕ} → RootPut k 0 at j w o f n → Folded w below (decode s) at d f n
+      pub folded-two : {k a : ℕ} → k ≡ kind s → a ≡ byte1 s → {f : List ℕ} {n : ℕ} → RootPut k a at j w o f n
+          → Folded w below (decode s) at d f n
       unfolding encode sizeOf
-      folded-two root =
+      folded-two ek ea root =
           let u : Tree = foldLiterals w deeper (decode l) in
           let v : Tree = foldLiterals w deeper (decode r) in
           let same : foldLiterals w below (decode s) ≡ Binary (kind s) u v =
           ap (foldLiterals w below) (tree er)
           ∙ fold-binary w below (kind s) (decode l) (decode r) (ap (isFolded below) (sym (tree er)) ∙ x .kept .off)
           ∙ ap (λ (b : Bool). Binary (kind s) (foldLiterals w b (decode l)) (foldLiterals w b (decode r)))
-          (deep (x .kept)) in
+          (sym (x .kept .deeper-is)) in
           let root-bytes : List ℕ = recordBytes (kind s) 0 (sizeOf u + sizeOf v + 1) w 0 in
           let bytes-l = length-encode w u in
           let bytes-r = length-encode w v in
@@ -148,7 +162,7 @@ module _ {w : ℕ} {s marks : List ℕ} {at : ℕ} {d : List ℕ} {below : Bool}
           record {
             written =
                 root .written (sizeOf u + sizeOf v) (omega (arith, first .ends, second .ends))
-                ∙ ap (λ (y : ℕ). put o j (recordBytes y 0 (sizeOf u + sizeOf v + 1) w 0)) (x .kept .kind-is)
+                ∙ ap₂ (λ (y z : ℕ). put o j (recordBytes y z (sizeOf u + sizeOf v + 1) w 0)) ek (ea ∙ no-byte1)
                 ∙ ap (λ (b : List ℕ). put b j root-bytes) (second .written)
                 ∙ ap (λ (b : List ℕ). put (put b i (encode w v)) j root-bytes) (first .written)
                 ∙ put-then-then d at (encode w u) (encode w v) root-bytes i j

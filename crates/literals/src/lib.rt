@@ -62,14 +62,16 @@ pub fn fold_literals(t: &[u8], marks: &[u8], below: bool, w: u8, out: &mut [u8],
         write::put_bytes(out, at, t);
         return at + limits::RECORD_LENGTH;
     }
-    let k = record::kind(t);
-    let deeper = expr_utils::either(below, is_bitwise(k));
-    if children == 1 {
-        let end = fold_literals(record::body(t), &marks[..last], deeper, w, out, at);
-        return put_root(k, record::byte1(t), at, end, w, out);
+    let deeper = expr_utils::either(below, is_bitwise(record::kind(t)));
+    // Each call in the code has its own arguments in the frame, so the only child is folded by the
+    // call for the right one of two: it is one before which no record stands. What t tells is read
+    // again behind a call, since what is kept over it is in the frame too.
+    let mut middle = at;
+    if children == 2 {
+        let number = record::number_of(record::cut(t));
+        middle = fold_literals(record::left(t), &marks[..number], deeper, w, out, at);
     }
     let number = record::number_of(record::cut(t));
-    let middle = fold_literals(record::left(t), &marks[..number], deeper, w, out, at);
     let end = fold_literals(
         record::right(t),
         &marks[number..last],
@@ -78,5 +80,5 @@ pub fn fold_literals(t: &[u8], marks: &[u8], below: bool, w: u8, out: &mut [u8],
         out,
         middle,
     );
-    put_root(k, 0, at, end, w, out)
+    put_root(record::kind(t), record::byte1(t), at, end, w, out)
 }

@@ -1,22 +1,23 @@
 -- `fold_literals` meets its contract: a literal, a leaf as it stands, or the root behind its folded children. What is
--- known of a root that is no literal, and of its children, is said once for the state after which it is known.
+-- known of a root that is no literal, and of its children, is said once for the state after which it is known; for the
+-- last child that is a state after the ways meet, the one by the left child and the one past it.
 use mathlib.Core.Path.{refl, ap, sym, _∙_}
 use Prim.Native.Nat.{ℕ, _<_}
 use native.Mathlib.Omega.{arith}
 use mathlib.Core.Bool.{Bool, _||_}
+use mathlib.Core.Logic.{⊎-elim}
 use lib.Dec.{lit<}
 use lib.Seq.{length-take-le}
 use denote.Ref.{now}
 use borrow.Author.Needs.{needs}
-use Rattle.record.specs.Fields.{size, amount}
-use Rattle.record.proofs.PlaceLaws.{right-whole}
+use Rattle.record.specs.Fields.{size}
 use Rattle.expr_refusal.proofs.RefusalLaws.{accepted-root}
+use Rattle.rules_laws.specs.Rules.{isBitwise}
 use Rattle.literals.proofs.FoldingLaws.{mark-folded}
 use Rattle.literals.proofs.RootLaws.{whole, span-big, marks-some, record-room}
 use Rattle.literals.proofs.RootLaws.{folded-literal, folded-leaf, Kept}
-use Rattle.literals.proofs.OneChildLaws.{OneChild, one-falls, one-room, one-root, folded-one}
 use Rattle.literals.proofs.TwoChildrenLaws.{TwoChildren, number-le, left-falls, left-room}
-use Rattle.literals.proofs.TwoChildrenLaws.{right-falls, right-room, two-root, folded-two}
+use Rattle.literals.proofs.LastChildLaws.{arity-one, last-whole, LastChild, last-one, last-two, last-met}
 use borrow.Fn.Kinds.{In}
 use borrow.Fn.PlainCycle.{Measures, is, falls, and}
 use Rattle.literals.proofs.fold_literals.Reads as fold-literals
@@ -28,7 +29,6 @@ use Rattle.expr_utils.proofs.either.Reads as either-reads
 use Rattle.literals.proofs.is_bitwise.Reads as is-bitwise-reads
 use Rattle.literals.proofs.is_literal.Reads as is-literal-reads
 use Rattle.literals.proofs.put_root.Reads as put-root-reads
-use Rattle.record.proofs.body.Reads as body-reads
 use Rattle.record.proofs.byte1.Reads as byte1-reads
 use Rattle.record.proofs.cut.Reads as cut-reads
 use Rattle.record.proofs.kind.Reads as kind-reads
@@ -69,22 +69,20 @@ claims t = (
   is-bitwise-reads.Learnt,
   either-reads.Asked,
   either-reads.Learnt,
-  body-reads.Asked,
-  body-reads.Learnt,
-  fold-literals-below t,
-  fold-literals.Post,
-  byte1-reads.Asked,
-  byte1-reads.Learnt,
-  put-root-reads.Asked,
-  put-root-reads.Learnt,
   cut-reads.Asked,
   cut-reads.Learnt,
   number-of-reads.Asked,
   number-of-reads.Learnt,
   left-reads.Asked,
   left-reads.Learnt,
+  fold-literals-below t,
+  fold-literals.Post,
   right-reads.Asked,
   right-reads.Learnt,
+  byte1-reads.Asked,
+  byte1-reads.Learnt,
+  put-root-reads.Asked,
+  put-root-reads.Learnt,
 )
 
 fold-literals-sub-last : (t : ℕ) → fold-literals-lts.Need-sub-last (claims t) (fold-literals-at t) fold-literals.Post
@@ -170,14 +168,6 @@ fold-literals-either-requires : (t : ℕ)
     → fold-literals-lts.Need-either-requires (claims t) (fold-literals-at t) fold-literals.Post
 fold-literals-either-requires t c κs = tt
 
-fold-literals-body-requires : (t : ℕ)
-    → fold-literals-lts.Need-body-requires (claims t) (fold-literals-at t) fold-literals.Post
-fold-literals-body-requires t c κs = search needs
-
-fold-literals-slice-aggregate-fold-literals : (t : ℕ)
-    → fold-literals-lts.Need-slice-aggregate-fold-literals (claims t) (fold-literals-at t) fold-literals.Post
-fold-literals-slice-aggregate-fold-literals t c = sym (length-take-le _ _ (omega arith))
-
 -- where the function starts, from the state after which `deeper` is known
 abbrev start : (t : ℕ) → fold-literals-lts.After-either (claims t) (fold-literals-at t) fold-literals.Post
     → fold-literals-lts.Start (claims t) (fold-literals-at t) fold-literals.Post
@@ -186,65 +176,20 @@ start t c = c .before .before .before .before .before .before .before .before .b
 -- a root that is no literal
 kept : (t : ℕ) (c : fold-literals-lts.After-either (claims t) (fold-literals-at t) fold-literals.Post)
     → let args = start t c .args in
-    Kept (args .w) (now (args .t)) (now (args .marks)) (args .at) (now (args .out)) (args .below)
-    (c .before .before .kind .result) (c .either .result)
+    Kept (args .w) (now (args .t)) (now (args .marks)) (args .at) (now (args .out)) (args .below) (c .either .result)
 kept t c =
-    let at-kind = c .before .before in
+    let at-bitwise = c .before in
+    let at-kind = at-bitwise .before in
     let at-if1 = at-kind .before .before .before in
     let room = start t c .pre .1 in
     record {
       room = room;
       off = mark-folded _ _ (room .marked) (at-if1 .before .is-literal .ensures) (at-if1 .if1 .left);
-      kind-is = at-kind .kind .ensures;
       deeper-is =
-          c .either .ensures ∙ ap (λ (x : Bool). start t c .args .below || x) (c .before .is-bitwise .ensures);
+          c .either .ensures
+          ∙ ap (λ (x : Bool). start t c .args .below || x)
+          (at-bitwise .is-bitwise .ensures ∙ ap isBitwise (at-kind .kind .ensures));
     }
-
--- one that has a child
-one-child : (t : ℕ) (c : fold-literals-lts.After-body (claims t) (fold-literals-at t) fold-literals.Post)
-    → let at-either = c .before .before in
-    let args = start t at-either .args in
-    OneChild (args .w) (now (args .t)) (now (args .marks)) (args .at) (now (args .out)) (args .below)
-    (at-either .before .before .kind .result) (at-either .either .result) (now (c .body .result))
-one-child t c =
-    let at-if3 = c .before in
-    let at-arity = at-if3 .before .before .before .before .before in
-    record {
-      kept = kept t (at-if3 .before);
-      one = sym (at-arity .root-arity .ensures) ∙ at-if3 .if3 .taken;
-      child = c .body .ensures;
-    }
-
-fold-literals-fold-literals-requires : (t : ℕ)
-    → fold-literals-lts.Need-fold-literals-requires (claims t) (fold-literals-at t) fold-literals.Post
-fold-literals-fold-literals-requires t c κs =
-    let at-body = c .before .before in
-    let one = one-child t at-body in
-    (omega (arith, one-falls one, start t (at-body .before .before) .pre .0), one-room one refl refl)
-
-fold-literals-byte1-requires : (t : ℕ)
-    → fold-literals-lts.Need-byte1-requires (claims t) (fold-literals-at t) fold-literals.Post
-fold-literals-byte1-requires t c κs =
-    span-big (start t (c .before .before .before .before .before .before .before) .pre .1)
-
-fold-literals-put-root-requires : (t : ℕ)
-    → fold-literals-lts.Need-put-root-requires (claims t) (fold-literals-at t) fold-literals.Post
-fold-literals-put-root-requires t c κs =
-    let at-first = c .before .before .before .before in
-    one-root (one-child t (at-first .before .before .before)) (at-first .fold-literals .ensures)
-
-fold-literals-same-length-3 : (t : ℕ)
-    → fold-literals-lts.Need-same-length-3 (claims t) (fold-literals-at t) fold-literals.Post
-fold-literals-same-length-3 t c = search needs
-
-fold-literals-returns-3 : (t : ℕ) → fold-literals-lts.Need-returns-3 (claims t) (fold-literals-at t) fold-literals.Post
-unfolding amount
-fold-literals-returns-3 t c =
-    let at-root = c .before .before in
-    let at-byte1 = at-root .before .before in
-    let at-first = at-byte1 .before .before .before in
-    folded-one (one-child t (at-first .before .before .before)) (at-first .fold-literals .ensures)
-    (at-byte1 .byte1 .ensures) (at-root .put-root .ensures)
 
 fold-literals-cut-requires : (t : ℕ)
     → fold-literals-lts.Need-cut-requires (claims t) (fold-literals-at t) fold-literals.Post
@@ -253,10 +198,10 @@ fold-literals-cut-requires t c κs = search needs
 fold-literals-number-of-requires : (t : ℕ)
     → fold-literals-lts.Need-number-of-requires (claims t) (fold-literals-at t) fold-literals.Post
 fold-literals-number-of-requires t c κs =
-    let at-if3 = c .before in
-    let at-if2 = at-if3 .before .before .before .before in
-    right-whole _ (whole (start t (at-if3 .before) .pre .1)) (at-if2 .before .root-arity .ensures) (at-if2 .if2 .left)
-    (at-if3 .if3 .left) (c .cut .ensures .0)
+    let at-either = c .before .before in
+    let at-if2 = at-either .before .before .before in
+    last-whole _ (whole (start t at-either .pre .1)) (at-if2 .before .root-arity .ensures) (at-if2 .if2 .left)
+    (c .cut .ensures .0)
 
 fold-literals-left-requires : (t : ℕ)
     → fold-literals-lts.Need-left-requires (claims t) (fold-literals-at t) fold-literals.Post
@@ -264,86 +209,138 @@ fold-literals-left-requires t c κs = search needs
 
 -- one that has two children
 two-children : (t : ℕ) (c : fold-literals-lts.After-left (claims t) (fold-literals-at t) fold-literals.Post)
-    → let at-either = c .before .before .before .before in
+    → let at-number = c .before in
+    let at-either = at-number .before .before .before in
     let args = start t at-either .args in
     TwoChildren (args .w) (now (args .t)) (now (args .marks)) (args .at) (now (args .out)) (args .below)
-    (at-either .before .before .kind .result) (at-either .either .result) (now (c .left .result))
-    (c .before .number-of .result)
+    (at-either .either .result) (now (c .left .result)) (at-number .number-of .result)
 two-children t c =
     let at-number = c .before in
     let at-if3 = at-number .before .before in
-    let at-if2 = at-if3 .before .before .before .before in
-    let arity = at-if2 .before .root-arity .ensures in
+    let at-either = at-if3 .before in
     record {
-      kept = kept t (at-if3 .before);
-      not-none = λ e. at-if2 .if2 .left (arity ∙ e);
-      not-one = λ e. at-if3 .if3 .left (arity ∙ e);
+      kept = kept t at-either;
+      two = sym (at-either .before .before .before .before .root-arity .ensures) ∙ at-if3 .if3 .taken;
       number-is = at-number .number-of .ensures ∙ at-number .before .cut .ensures .0;
       child = c .left .ensures;
     }
 
-fold-literals-slice-aggregate-fold-literals-2 : (t : ℕ)
-    → fold-literals-lts.Need-slice-aggregate-fold-literals-2 (claims t) (fold-literals-at t) fold-literals.Post
-fold-literals-slice-aggregate-fold-literals-2 t c =
+fold-literals-slice-aggregate-fold-literals : (t : ℕ)
+    → fold-literals-lts.Need-slice-aggregate-fold-literals (claims t) (fold-literals-at t) fold-literals.Post
+fold-literals-slice-aggregate-fold-literals t c =
     sym (length-take-le _ _ (omega (arith, number-le (two-children t (c .before)))))
 
-fold-literals-fold-literals-requires-2 : (t : ℕ)
-    → fold-literals-lts.Need-fold-literals-requires-2 (claims t) (fold-literals-at t) fold-literals.Post
-fold-literals-fold-literals-requires-2 t c κs =
+fold-literals-fold-literals-requires : (t : ℕ)
+    → fold-literals-lts.Need-fold-literals-requires (claims t) (fold-literals-at t) fold-literals.Post
+fold-literals-fold-literals-requires t c κs =
     let at-left = c .before .before in
     let two = two-children t at-left in
     (omega (arith, left-falls two, start t (at-left .before .before .before .before) .pre .0), left-room two refl)
+
+fold-literals-cut-requires-2 : (t : ℕ)
+    → fold-literals-lts.Need-cut-requires-2 (claims t) (fold-literals-at t) fold-literals.Post
+fold-literals-cut-requires-2 t c κs = search needs
+
+fold-literals-number-of-requires-2 : (t : ℕ)
+    → fold-literals-lts.Need-number-of-requires-2 (claims t) (fold-literals-at t) fold-literals.Post
+fold-literals-number-of-requires-2 t c κs =
+    let at-either = c .before .before in
+    let at-if2 = at-either .before .before .before in
+    last-whole _ (whole (start t at-either .pre .1)) (at-if2 .before .root-arity .ensures) (at-if2 .if2 .left)
+    (c .cut2 .ensures .0)
 
 fold-literals-right-requires : (t : ℕ)
     → fold-literals-lts.Need-right-requires (claims t) (fold-literals-at t) fold-literals.Post
 fold-literals-right-requires t c κs = search needs
 
+-- the last child, the left one folded or not there
+last-child : (t : ℕ) (c : fold-literals-lts.After-right (claims t) (fold-literals-at t) fold-literals.Post)
+    → let at-number = c .before in
+    let met = at-number .before .before in
+    let at-either = met .before in
+    let args = start t at-either .args in
+    LastChild (args .w) (now (args .t)) (now (args .marks)) (args .at) (now (args .out)) (args .below)
+    (at-either .either .result) (now (c .right .result)) (at-number .number-of2 .result) (met .if3 .out)
+    (met .if3 .middle)
+last-child t c =
+    let at-number = c .before in
+    let met = at-number .before .before in
+    let at-either = met .before in
+    let at-if2 = at-either .before .before .before in
+    let arity = at-if2 .before .root-arity .ensures in
+    let number-is = at-number .number-of2 .ensures ∙ at-number .before .cut2 .ensures .0 in
+    let right = c .right .ensures in
+    ⊎-elim
+    (λ k. last-met (k .9) (k .10)
+    (last-two
+    (record {
+      kept = kept t at-either;
+      two = sym arity ∙ k .0 .taken;
+      number-is = number-is;
+      child = k .3 .ensures;
+    })
+    (k .6 .ensures) right))
+    (λ k. last-met (k .1) (k .2)
+    (last-one
+    (record {
+      kept = kept t at-either;
+      one = arity-one _ (λ e. at-if2 .if2 .left (arity ∙ e)) (λ e. k .0 .left (arity ∙ e));
+      number-is = number-is;
+      child = right;
+    })))
+    (met .if3 .came)
+
 fold-literals-sub-fold-literals : (t : ℕ)
     → fold-literals-lts.Need-sub-fold-literals (claims t) (fold-literals-at t) fold-literals.Post
-fold-literals-sub-fold-literals t c = number-le (two-children t (c .before .before .before .before .before .before))
+fold-literals-sub-fold-literals t c = last-child t c .count-le
 
 fold-literals-part-fold-literals-start : (t : ℕ)
     → fold-literals-lts.Need-part-fold-literals-start (claims t) (fold-literals-at t) fold-literals.Post
-fold-literals-part-fold-literals-start t c =
-    number-le (two-children t (c .before .before .before .before .before .before))
+fold-literals-part-fold-literals-start t c = last-child t c .count-le
 
 fold-literals-part-fold-literals-end : (t : ℕ)
     → fold-literals-lts.Need-part-fold-literals-end (claims t) (fold-literals-at t) fold-literals.Post
 fold-literals-part-fold-literals-end t c = omega arith
 
-fold-literals-fold-literals-requires-3 : (t : ℕ)
-    → fold-literals-lts.Need-fold-literals-requires-3 (claims t) (fold-literals-at t) fold-literals.Post
-fold-literals-fold-literals-requires-3 t c κs =
+fold-literals-fold-literals-requires-2 : (t : ℕ)
+    → fold-literals-lts.Need-fold-literals-requires-2 (claims t) (fold-literals-at t) fold-literals.Post
+fold-literals-fold-literals-requires-2 t c κs =
     let at-right = c .before .before in
-    let at-first = at-right .before .before .before in
-    let at-left = at-first .before .before .before in
-    let two = two-children t at-left in
-    let right = at-right .right .ensures in (
-      omega (arith, right-falls two right, start t (at-left .before .before .before .before) .pre .0),
-      right-room two (at-first .fold-literals2 .ensures) right refl refl,
-    )
+    let last = last-child t at-right in
+    (omega (arith, last .falls, start t (at-right .before .before .before .before) .pre .0), last .room _ _ refl refl)
 
-fold-literals-put-root-requires-2 : (t : ℕ)
-    → fold-literals-lts.Need-put-root-requires-2 (claims t) (fold-literals-at t) fold-literals.Post
-fold-literals-put-root-requires-2 t c κs =
-    let at-second = c .before .before .before in
-    let at-right = at-second .before .before .before in
-    let at-first = at-right .before .before .before in
-    two-root (two-children t (at-first .before .before .before)) (at-first .fold-literals2 .ensures)
-    (at-right .right .ensures) (at-second .fold-literals3 .ensures)
+fold-literals-kind-requires-2 : (t : ℕ)
+    → fold-literals-lts.Need-kind-requires-2 (claims t) (fold-literals-at t) fold-literals.Post
+fold-literals-kind-requires-2 t c κs =
+    let at-right = c .before .before .before .before .before in
+    span-big (start t (at-right .before .before .before .before) .pre .1)
 
-fold-literals-same-length-4 : (t : ℕ)
-    → fold-literals-lts.Need-same-length-4 (claims t) (fold-literals-at t) fold-literals.Post
-fold-literals-same-length-4 t c = search needs
+fold-literals-byte1-requires : (t : ℕ)
+    → fold-literals-lts.Need-byte1-requires (claims t) (fold-literals-at t) fold-literals.Post
+fold-literals-byte1-requires t c κs =
+    let at-right = c .before .before .before .before .before .before in
+    span-big (start t (at-right .before .before .before .before) .pre .1)
 
-fold-literals-returns-4 : (t : ℕ) → fold-literals-lts.Need-returns-4 (claims t) (fold-literals-at t) fold-literals.Post
-fold-literals-returns-4 t c =
+fold-literals-put-root-requires : (t : ℕ)
+    → fold-literals-lts.Need-put-root-requires (claims t) (fold-literals-at t) fold-literals.Post
+fold-literals-put-root-requires t c κs =
+    let at-second = c .before .before .before .before .before in
+    last-child t (at-second .before .before .before) .root _ _ (at-second .fold-literals2 .ensures)
+
+fold-literals-same-length-3 : (t : ℕ)
+    → fold-literals-lts.Need-same-length-3 (claims t) (fold-literals-at t) fold-literals.Post
+fold-literals-same-length-3 t c =
+    let at-second = c .before .before .before .before .before .before .before .before in
+    omega (arith, last-child t (at-second .before .before .before) .long)
+
+fold-literals-returns-3 : (t : ℕ) → fold-literals-lts.Need-returns-3 (claims t) (fold-literals-at t) fold-literals.Post
+fold-literals-returns-3 t c =
     let at-root = c .before .before in
-    let at-second = at-root .before .before .before .before in
-    let at-right = at-second .before .before .before in
-    let at-first = at-right .before .before .before in
-    folded-two (two-children t (at-first .before .before .before)) (at-first .fold-literals2 .ensures)
-    (at-right .right .ensures) (at-second .fold-literals3 .ensures) (at-root .put-root2 .ensures)
+    let at-byte1 = at-root .before .before in
+    let at-kind = at-byte1 .before in
+    let at-second = at-kind .before .before .before in
+    last-child t (at-second .before .before .before) .folded _ _ (at-second .fold-literals2 .ensures) _ _
+    (at-kind .kind2 .ensures) (at-byte1 .byte1 .ensures) _ _ (at-root .put-root .ensures)
 
 pub +fold-literals-spec : {M : Type 1} → statement M
 +fold-literals-spec = close μ-fold-literals λ t. fold-literals-lts.spec (claims t)
@@ -365,23 +362,20 @@ pub +fold-literals-spec : {M : Type 1} → statement M
     (fold-literals-kind-requires t)
     (fold-literals-is-bitwise-requires t)
     (fold-literals-either-requires t)
-    (fold-literals-body-requires t)
-    (fold-literals-slice-aggregate-fold-literals t)
-    (fold-literals-fold-literals-requires t)
-    (fold-literals-byte1-requires t)
-    (fold-literals-put-root-requires t)
-    (fold-literals-same-length-3 t)
-    (fold-literals-returns-3 t)
     (fold-literals-cut-requires t)
     (fold-literals-number-of-requires t)
     (fold-literals-left-requires t)
-    (fold-literals-slice-aggregate-fold-literals-2 t)
-    (fold-literals-fold-literals-requires-2 t)
+    (fold-literals-slice-aggregate-fold-literals t)
+    (fold-literals-fold-literals-requires t)
+    (fold-literals-cut-requires-2 t)
+    (fold-literals-number-of-requires-2 t)
     (fold-literals-right-requires t)
     (fold-literals-sub-fold-literals t)
     (fold-literals-part-fold-literals-start t)
     (fold-literals-part-fold-literals-end t)
-    (fold-literals-fold-literals-requires-3 t)
-    (fold-literals-put-root-requires-2 t)
-    (fold-literals-same-length-4 t)
-    (fold-literals-returns-4 t)
+    (fold-literals-fold-literals-requires-2 t)
+    (fold-literals-kind-requires-2 t)
+    (fold-literals-byte1-requires t)
+    (fold-literals-put-root-requires t)
+    (fold-literals-same-length-3 t)
+    (fold-literals-returns-3 t)
