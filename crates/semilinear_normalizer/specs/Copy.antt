@@ -4,7 +4,7 @@ use Prim.Native.Nat.{ℕ, _≤_}
 use mathlib.Core.List.{List}
 use mathlib.Core.Bool.{false}
 use lib.ListN.{length, take}
-use Rattle.base.specs.Limits.{exprBytes, formBytes}
+use Rattle.base.specs.Limits.{exprBytes}
 use Rattle.record.specs.Fields.{size}
 use Rattle.record.specs.Decode.{decode}
 use Rattle.expr_refusal.specs.Refusal.{treeRefusal}
@@ -24,10 +24,3 @@ pub record Copied (w : ℕ) (t after : List ℕ) (end : ℕ) : Type 0 where
   pub inside : end ≤ length after
   pub count : length (take end after) ≡ end
   pub few : end ≤ length t
-
--- an accepted expression t of at most 1,024 records, room for the copy, and the result slice
-pub record FoldRoom (w : ℕ) (t folded out : List ℕ) : Type 0 where
-  pub accepted : treeRefusal w t ≡ 0
-  pub long : length t ≤ exprBytes
-  pub room : length t ≤ length folded
-  pub written : length out ≡ formBytes

@@ -21,7 +21,7 @@ ghost use Rattle.normalizer_laws.specs.Normalize.{normalizeTree, normalizeToSem
 ghost use Rattle.rules_laws.specs.Rules.{ruledTree, normalizeRuled, normalizeByRules};
 ghost use Rattle.base.specs.Limits.{exprBytes, formBytes, recordLength};
 ghost use Rattle.semilinear_normalizer.specs.WorkRoom.{WorkRoom, descended};
-ghost use Rattle.semilinear_normalizer.specs.Copy.{CopyRoom, Copied, FoldRoom};
+ghost use Rattle.semilinear_normalizer.specs.Copy.{CopyRoom, Copied};
 ghost use Rattle.semilinear_normalizer.specs.FileRefusal.{fileRefusal};
 
 // A file of at most so many records is worked on in short arrays.
@@ -123,7 +123,8 @@ fn normalize_long(t: &[u8], w: u8, nots: bool, out: &mut [u8]) -> Answer
     )
 }
 
-// The same in arrays by the length of the file.
+// The same in arrays by the length of the file. It is called where a copy is in the frame, and has
+// the arrays in a frame of its own.
 fn normalize_file(t: &[u8], w: u8, nots: bool, out: &mut [u8]) -> Answer
     requires { ⌜ (treeRefusal w (now t) ≡ 0) × (length (now t) ≤ exprBytes)
         × (length (now out) ≡ formBytes) ⌝ }
@@ -147,19 +148,9 @@ fn fold_file(t: &[u8], w: u8, marks: &mut [u8], folded: &mut [u8]) -> usize
     literals::fold_literals(t, &marks[..n], false, w, folded, 0)
 }
 
-// The form of the accepted expression t by rules 2: that of a copy with its literals folded, of which
-// the descent turns the Nots. The marks for the copy stand in the result slice, all of which is
-// written afterwards.
-fn normalize_folded(t: &[u8], w: u8, folded: &mut [u8], out: &mut [u8]) -> Answer
-    requires { ⌜ FoldRoom w (now t) (now folded) (now out) ⌝ }
-    ensures { λ r. ⌜ GivesForm (normalizeTree w (ruledTree true w (decode (now (t .entry)))))
-        formBytes r (now (out .exit)) ⌝ }
-{
-    let end = fold_file(t, w, out, folded);
-    normalize_file(&folded[..end], w, true, out)
-}
-
-// The same with room for the copy of a file of at most 64 records.
+// The form of the accepted expression t of at most 64 records by rules 2: that of a copy with its
+// literals folded, of which the descent turns the Nots. The marks for the copy stand in the result
+// slice, all of which is written afterwards.
 fn folded_short(t: &[u8], w: u8, out: &mut [u8]) -> Answer
     requires { ⌜ (treeRefusal w (now t) ≡ 0) × (length (now t) ≤ 64 * recordLength)
         × (length (now out) ≡ formBytes) ⌝ }
@@ -167,10 +158,11 @@ fn folded_short(t: &[u8], w: u8, out: &mut [u8]) -> Answer
         formBytes r (now (out .exit)) ⌝ }
 {
     let mut folded = [0u8; SHORT_BYTES];
-    normalize_folded(t, w, &mut folded, out)
+    let end = fold_file(t, w, out, &mut folded);
+    normalize_file(&folded[..end], w, true, out)
 }
 
-// The same with room for the copy of a file of at most 1,024 records.
+// The same for at most 1,024 records.
 fn folded_long(t: &[u8], w: u8, out: &mut [u8]) -> Answer
     requires { ⌜ (treeRefusal w (now t) ≡ 0) × (length (now t) ≤ exprBytes)
         × (length (now out) ≡ formBytes) ⌝ }
@@ -178,7 +170,8 @@ fn folded_long(t: &[u8], w: u8, out: &mut [u8]) -> Answer
         formBytes r (now (out .exit)) ⌝ }
 {
     let mut folded = [0u8; limits::EXPR_BYTES];
-    normalize_folded(t, w, &mut folded, out)
+    let end = fold_file(t, w, out, &mut folded);
+    normalize_file(&folded[..end], w, true, out)
 }
 
 // Refusals 1 to 6 of the expression t beside a result slice of so many bytes, the first that applies;
@@ -206,7 +199,11 @@ pub fn normalize_to_semilinear(t: &[u8], out: &mut [u8]) -> Answer
     if number != 0 {
         return outcome::refuse(out, number);
     }
-    normalize_file(t, record::width(t), false, out)
+    let w = record::width(t);
+    if t.len() <= SHORT_BYTES {
+        return normalize_short(t, w, false, out);
+    }
+    normalize_long(t, w, false, out)
 }
 
 // The same by rules 2.

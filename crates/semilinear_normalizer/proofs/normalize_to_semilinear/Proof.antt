@@ -29,12 +29,12 @@ width-requires c κs =
     let zero = sym (c .before .file-refusal .ensures) ∙ c .if1 .left in
     accepted-big _ _ (accepted-tree _ (file-reached _ _ zero .0))
 
-normalize-file-requires : tie.Need-normalize-file-requires
-normalize-file-requires c κs =
-    let at-width = c .before in
+normalize-short-requires : tie.Need-normalize-short-requires
+normalize-short-requires c κs =
+    let at-width = c .before .before in
     let at-if = at-width .before in
     let reached = file-reached _ _ (sym (at-if .before .file-refusal .ensures) ∙ at-if .if1 .left) in
-    (rw (at-width .width .ensures) (accepted-tree _ (reached .0)), accepted-length _ (reached .0), reached .1)
+    (rw (at-width .width .ensures) (accepted-tree _ (reached .0)), c .before .if2 .taken, reached .1)
 
 same-length-2 : tie.Need-same-length-2
 same-length-2 c = search needs
@@ -42,10 +42,28 @@ same-length-2 c = search needs
 returns-2 : tie.Need-returns-2
 returns-2 c =
     let at-form = c .before .before in
-    let at-width = at-form .before .before in
+    let at-width = at-form .before .before .before in
     let at-if = at-width .before in
     gives-plain _ _ (at-width .width .ensures) (sym (at-if .before .file-refusal .ensures) ∙ at-if .if1 .left)
-    (at-form .normalize-file .result) (at-form .normalize-file .ensures)
+    (at-form .normalize-short .result) (at-form .normalize-short .ensures)
+
+normalize-long-requires : tie.Need-normalize-long-requires
+normalize-long-requires c κs =
+    let at-width = c .before .before in
+    let at-if = at-width .before in
+    let reached = file-reached _ _ (sym (at-if .before .file-refusal .ensures) ∙ at-if .if1 .left) in
+    (rw (at-width .width .ensures) (accepted-tree _ (reached .0)), accepted-length _ (reached .0), reached .1)
+
+same-length-3 : tie.Need-same-length-3
+same-length-3 c = search needs
+
+returns-3 : tie.Need-returns-3
+returns-3 c =
+    let at-form = c .before .before in
+    let at-width = at-form .before .before .before in
+    let at-if = at-width .before in
+    gives-plain _ _ (at-width .width .ensures) (sym (at-if .before .file-refusal .ensures) ∙ at-if .if1 .left)
+    (at-form .normalize-long .result) (at-form .normalize-long .ensures)
 
 pub normalize-to-semilinear-spec : {M : Type 1} → statement M
 normalize-to-semilinear-spec =
@@ -56,6 +74,9 @@ normalize-to-semilinear-spec =
     same-length
     returns
     width-requires
-    normalize-file-requires
+    normalize-short-requires
     same-length-2
-    returns-2)
+    returns-2
+    normalize-long-requires
+    same-length-3
+    returns-3)
