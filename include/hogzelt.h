@@ -5,9 +5,9 @@
  * number of threads may call at a time. Nothing is allocated; what a call needs beside its results is
  * on its stack. That is measured, not proved, and at most, rounded up to a KiB, on the longest inputs:
  *
- *   hogzelt_normalize_to_semilinear    257 KiB      hogzelt_refine_terms            426 KiB
- *   hogzelt_normalize_by_rules         257 KiB      hogzelt_recover_structure       437 KiB
- *   hogzelt_run_passes                 257 KiB      hogzelt_coalesce_terms          412 KiB
+ *   hogzelt_normalize_to_semilinear    265 KiB      hogzelt_refine_terms            426 KiB
+ *   hogzelt_normalize_by_rules         281 KiB      hogzelt_recover_structure       437 KiB
+ *   hogzelt_run_passes                 265 KiB      hogzelt_coalesce_terms          412 KiB
  *   hogzelt_expr_value                 129 KiB      hogzelt_flatten_complex_atoms   395 KiB
  *   hogzelt_semilinear_value           393 KiB      hogzelt_compact_atom_table      393 KiB
  *   hogzelt_compute_partitions         413 KiB      the three mask functions          1 KiB
