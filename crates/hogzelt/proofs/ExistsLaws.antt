@@ -19,7 +19,7 @@ use Rattle.atom_table.proofs.MadeLaws.{Made, made, not-made}
 use Rattle.semilinear.proofs.OutcomeLaws.{formAnswer, gives-form, gives-refused, gives-two}
 use Rattle.atom_table.proofs.PassLaws.{gives-same}
 use Rattle.normalizer_laws.specs.Normalize.{normalizeToSemilinear}
-use Rattle.normalizer_laws.proofs.NormalizeLaws.{normalize-form}
+use Rattle.normalizer_laws.proofs.NormalizeLaws.{Normalized, normalize-form}
 use Rattle.rules_laws.specs.Rules.{normalizeByRules}
 use Rattle.rules_laws.proofs.RulesLaws.{rules-form}
 use Rattle.claims.specs.Calls.{Pass, Call, refine-terms, recover-structure, coalesce-terms, flatten-complex-atoms}
@@ -124,38 +124,39 @@ form-traced f ok (c ∷ l) s e =
     (call-bytes f ok c e call ∙ ap (afterCall c) e ∙ next .encoded) in
     record { last = rest .last; trace = then call (rest .trace) }
 
+-- the answer of normalising that gave the bytes b of a form
+abbrev answerOf : {s b ns : List ℕ} → Normalized s b ns → Answer
+answerOf {b = b} n = record { refusal = 0; used = length b; terms = termCount (n .form .rows); flag = false }
+
+normal-given : {o : Outcome} {s b ns : List ℕ} (n : Normalized s b ns) (len : ℕ) → o ≡ accepted b ns
+    → Gives o len 0 (answerOf n .used ∷ answerOf n .terms ∷ []) (padded len b)
+unfolding refusalOf numbersOf writtenOf
+normal-given n len e = rw e (record { number = refl; beside = sym (ap (take 2) (n .counted)); written = refl })
+
 -- normalising itself
 pub started : (s : List ℕ) → IsBytes s → (len : ℕ) (b ns : List ℕ) → normalizeToSemilinear s len ≡ accepted b ns
     → Started 1 s len
-unfolding refusalOf numbersOf writtenOf
 started s h len b ns e =
     let n = normalize-form s h len b ns e in
-    let a : Answer = record { refusal = 0; used = length b; terms = termCount (n .form .rows); flag = false } in
-    let given : Gives (normalizeToSemilinear s len) len 0 (a .used ∷ a .terms ∷ []) (padded len b) =
-    rw e (record { number = refl; beside = sym (ap (take 2) (n .counted)); written = refl }) in
     record {
-      used = a .used;
+      used = length b;
       out = padded len b;
       accepts =
           record {
             are-bytes = h;
             returned =
-                plain (returned normalize-reads.Learnt s len a (padded len b)
-                (rw (length-replicate {A = ℕ} len 0) given));
+                plain (returned normalize-reads.Learnt s len (answerOf n) (padded len b)
+                (rw (length-replicate {A = ℕ} len 0) (normal-given n len e)));
           };
     }
 
 -- and by rules
 pub started-by : (rules : ℕ) (s : List ℕ) → IsBytes s → (len : ℕ) (b ns : List ℕ)
     → normalizeByRules rules s len ≡ accepted b ns → Started rules s len
-unfolding refusalOf numbersOf writtenOf
 started-by rules s h len b ns e =
     let n = rules-form rules s len h b ns e in
-    let a : Answer = record { refusal = 0; used = length b; terms = termCount (n .form .rows); flag = false } in
-    let given : Gives (normalizeByRules rules s len) len 0 (a .used ∷ a .terms ∷ []) (padded len b) =
-    rw e (record { number = refl; beside = sym (ap (take 2) (n .counted)); written = refl }) in
     record {
-      used = a .used;
+      used = length b;
       out = padded len b;
       accepts =
           record {
@@ -165,8 +166,8 @@ started-by rules s h len b ns e =
                 (record {
                   κs = lifetimes;
                   args = (rules, given-args s len);
-                  exit = (rules, left-args s a (padded len b));
-                  learnt = rw (length-replicate {A = ℕ} len 0) given;
+                  exit = (rules, left-args s (answerOf n) (padded len b));
+                  learnt = rw (length-replicate {A = ℕ} len 0) (normal-given n len e);
                   named = refl;
                   reads = refl;
                   sized = length-replicate len 0;
