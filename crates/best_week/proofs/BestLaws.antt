@@ -12,13 +12,14 @@ use lib.Signed.{ltZ, _<ℤ_, _≤ℤ_, ≤ℤ-refl, <ℤ-≤ℤ-trans}
 use borrow.Author.Tests.{ltb-true, ltb-false, lt-ltb, le-ltb, eq-eqb, ne-eqb}
 use Rattle.base.specs.Choice.{when}
 use Rattle.base.proofs.BoolLaws.{false-true, and-true}
+use Rattle.base.proofs.SearchLaws.{first-is, first-past}
 use Rattle.best_week.specs.Run.{records, day, noneIn, runRefusal}
 use Rattle.best_week.specs.BestWeek.{weekDays, isWeek, weekTotal, isLower, isLowest, bestAt, hasWeek}
 use Rattle.best_week.specs.BestWeek.{bestTotal, bestDay}
 use Rattle.best_week.specs.Told.{IsBest}
 use Rattle.best_week.specs.Walk.{BestUpTo, takeWeek}
 use Rattle.best_week.specs.declared.best.Best.{Best}
-use Rattle.best_week.proofs.SearchLaws.{first-is, first-none, none-of, none-fails}
+use Rattle.best_week.proofs.SearchLaws.{none-of, none-fails}
 use Rattle.best_week.proofs.WeekLaws.{both-true, second-false, week-inside, lower-true, lower-false, lower-of}
 use Rattle.best_week.proofs.WeekLaws.{lower-not, weaken, second-of}
 
@@ -177,7 +178,7 @@ module _ (s : List ℕ) where
   -- no week, no best one
   pub best-at-none : ((j : ℕ) → j + weekDays ≤ records s → isWeek s j ≡ false) → records s ≤ bestAt s
   unfolding bestAt isLowest
-  best-at-none h = first-none (isLowest s) 0 (records s) (λ j l u. go j (isWeek s j) refl)
+  best-at-none h = first-past (isLowest s) 0 (records s) (λ j l u. go j (isWeek s j) refl)
     where
       go : (j : ℕ) (w : Bool) → isWeek s j ≡ w → isWeek s j && noneIn (isLower s j) 0 (records s) ≡ false
       go j true e = false-true (sym (h j (week-inside s j e)) ∙ e)

@@ -12,9 +12,10 @@ use Rattle.base.specs.Limits.{recordLength}
 use Rattle.base.specs.Loop.{firstIn}
 use Rattle.record.specs.Fields.{u16, u32, u64}
 use Rattle.base.proofs.BoolLaws.{and-true}
+use Rattle.base.proofs.SearchLaws.{first-past}
 use Rattle.best_week.specs.Run.{runRecords, records, day, rest, noneIn, filled, falls, wellFormed, runRefusal}
 use Rattle.best_week.specs.Told.{Rises}
-use Rattle.best_week.proofs.SearchLaws.{first-none, none-at, none-fails}
+use Rattle.best_week.proofs.SearchLaws.{none-at, none-fails}
 use Rattle.best_week.proofs.WeekLaws.{both-true, second-false}
 
 -- the records are as many as the bytes that they take say
@@ -169,8 +170,8 @@ module _ (s : List ℕ) where
   pub rises-accepted : Rises s → runRefusal s ≡ 0
   rises-accepted r =
       run-accepted s refl (r .few) (r .whole)
-      (first-none (filled s) 0 (records s) (λ i _ l. filled-no s i refl (of-zeros i (r .zeros i l))))
-      (first-none (falls s) 1 (records s) (λ i a l. falls-no s i refl refl (r .rising i a l)))
+      (first-past (filled s) 0 (records s) (λ i _ l. filled-no s i refl (of-zeros i (r .zeros i l))))
+      (first-past (falls s) 1 (records s) (λ i a l. falls-no s i refl refl (r .rising i a l)))
 
   -- 21 for a day that is not above the one before, where all else is right
   pub twenty-one : wellFormed s ≡ true → (i : ℕ) → 1 ≤ i → i < records s → day s i ≤ day s (i - 1) → runRefusal s ≡ 21

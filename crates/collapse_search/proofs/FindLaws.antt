@@ -10,13 +10,14 @@ use borrow.Author.Tests.{eq-eqb, ne-eqb, lt-ltb, le-ltb}
 use Rattle.base.specs.Loop.{firstIn}
 use Rattle.base.proofs.BoolLaws.{and-true}
 use Rattle.base.proofs.LoopLaws.{first-next, first-here, first-end}
+use Rattle.base.proofs.SearchLaws.{first-none}
 use Rattle.group.specs.declared.Group.{Group}
 use Rattle.collapse_search.specs.declared.find.Two.{Two}
 use Rattle.collapse_search.specs.declared.find.Three.{Three}
 use Rattle.group.specs.Group.{at, isLive}
 use Rattle.group.specs.Collapse.{thirdFits, findThird, secondFits, findSecond, firstFits, findFirst}
 use Rattle.collapse_search.specs.Links.{lent, apartAt, thirdIn, secondIn, FoundTwo, FoundThree}
-use Rattle.group.proofs.SearchLaws.{false-of-implied, first-none, when-ltb, when-found}
+use Rattle.group.proofs.SearchLaws.{false-of-implied, when-ltb, when-found}
 use Rattle.collapse_search.proofs.ThirdLaws.{third-apart}
 
 -- ---- the second entry

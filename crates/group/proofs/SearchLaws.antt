@@ -1,28 +1,20 @@
--- Laws of the search `firstIn` (record/specs/Loop.antt): where no number passes, none is found; and where one test
--- implies another, the first number that passes it is found from the first one on that passes the other.
+-- Laws of the search `firstIn` (base/specs/Loop.antt): where one test implies another, the first number that passes it
+-- is found from the first one on that passes the other.
 use mathlib.Core.Path.{_≡_, refl, ap, sym, _∙_}
 use Prim.Native.Nat.{ℕ, zero, suc, _+_, _-_, _≤_, _<_}
 use native.Mathlib.Omega.{arith}
-use native.Mathlib.Decide.{decLt}
 use mathlib.Core.Bool.{Bool, true, false, _&&_}
 use lib.Dec.{ltb}
 use borrow.Author.Tests.{le-ltb}
 use Rattle.base.specs.Choice.{when}
 use Rattle.base.specs.Loop.{firstIn}
 use Rattle.base.proofs.BoolLaws.{false-true}
-use Rattle.base.proofs.LoopLaws.{first-from, first-le, first-true, first-next, first-here, first-end}
+use Rattle.base.proofs.LoopLaws.{first-next, first-here, first-end}
 
 -- a test that implies one that fails
 pub false-of-implied : (s t : Bool) → (s ≡ true → t ≡ true) → t ≡ false → s ≡ false
 false-of-implied true t h e = false-true (sym e ∙ h refl)
 false-of-implied false t h e = refl
-
-pub first-none : (p : ℕ → Bool) (a b : ℕ) → a ≤ b → ((k : ℕ) → a ≤ k → k < b → p k ≡ false) → firstIn p a b ≡ b
-first-none p a b h fails = go (decLt (firstIn p a b) b)
-  where
-    go : Dec (firstIn p a b < b) → firstIn p a b ≡ b
-    go (yes l) = false-true (sym (fails (firstIn p a b) (first-from p a b) l) ∙ first-true p a b l)
-    go (no l) = omega (arith, first-le p a b h)
 
 module _ (p q : ℕ → Bool) where
   implied-step : (a b : ℕ) → a < b → (p a ≡ true → q a ≡ true)

@@ -51,7 +51,7 @@ impl Running {
 }
 
 // The constant and each coefficient times its atom, modulo 2^w; the terms begin at `terms`.
-fn sum_rows(f: &[u8], terms: usize, constant: u64, vars: &[u64], w: u32) -> u64
+pub fn sum_rows(f: &[u8], terms: usize, constant: u64, vars: &[u64], w: u32) -> u64
     requires { ⌜ SumReady w (now f) terms constant ⌝ }
     ensures { λ r. ⌜ r ≡ (constant + sumRows w (now (vars .entry)) (rowsOf 0 (now (f .entry)) (afterAtoms (now (f .entry))))) % 2 ^ w ⌝ }
 {
