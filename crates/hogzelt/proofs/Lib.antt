@@ -1,7 +1,8 @@
--- Any list of calls of the exported functions, and the best week, by their own contracts.
+-- Any list of calls of the exported functions, the best week and the judge, by their own contracts.
 pub mod Trace
 pub mod TraceLaws
 mod ExistsLaws
 mod RunLaws
 pub mod AnyCalls
 pub mod BestWeekLaws
+pub mod JudgeCallLaws

@@ -16,6 +16,8 @@ ghost use Rattle.structure_laws.specs.FlattenComplexAtoms.{flattenComplexAtoms}
 ghost use Rattle.partition_laws.specs.Partition.{computePartitions};
 ghost use Rattle.runner.specs.RunPasses.{runPasses};
 ghost use Rattle.best_week.specs.BestWeek.{IsBestWeek};
+ghost use Rattle.judge_laws.specs.Judge.{judgeOf};
+ghost use Rattle.judge_laws.specs.Judged.{IsVerdict};
 
 // The value of an expression under an assignment; returns the refusal, 0 where it is accepted.
 #[no_mangle]
@@ -253,4 +255,25 @@ pub extern "C" fn hogzelt_best_week(
     *total = sum;
     *day = best.day;
     best.refusal
+}
+
+// Whether two expressions have the same value under every assignment: 1 in equal where they have;
+// where they have not, the place and the index of the first assignment that tells them apart.
+// Returns the refusal, 0 where they are judged.
+#[no_mangle]
+pub extern "C" fn hogzelt_judge(
+    left: &[u8],
+    right: &[u8],
+    equal: &mut u64,
+    place: &mut u64,
+    index: &mut u64,
+) -> u64
+    ensures { λ r. ⌜ IsVerdict (judgeOf (now (left .entry)) (now (right .entry))) r
+        (now (equal .exit)) (now (place .exit)) (now (index .exit)) ⌝ }
+{
+    let verdict = judge::judge(left, right);
+    *equal = verdict.equal;
+    *place = verdict.place;
+    *index = verdict.index;
+    verdict.refusal
 }
