@@ -3,10 +3,10 @@
 #   run.sh vectors OUT       write the vector file OUT (docs/VECTORS.md) and print its counts
 #   run.sh dump FILE [N]     print a vector file, or its entry N, as text
 #   run.sh test              check the models against document 01's examples and the published Rust
-#   run.sh compare [normalize | rules | passes | lists | weeks]
+#   run.sh compare [normalize | rules | passes | lists | weeks | judge]
 #                            compare the static library with the models and the published Rust, or
 #                            normalising alone, normalising by rules alone, the passes and columns alone,
-#                            lists of passes alone, or best weeks alone
+#                            lists of passes alone, best weeks alone, or the judge alone
 #   run.sh stack             measure the stack and the time of the functions that walk trees or a run
 #   run.sh bench [DOC]       time the library beside the published Rust and print one table; with DOC,
 #                            put what is printed between the marks of that document
@@ -33,13 +33,14 @@ dump) [ $# -eq 2 ] || [ $# -eq 3 ] || stop "usage: run.sh dump FILE [N]" ;;
 compare)
     case "$*" in
     compare | "compare normalize" | "compare rules" | "compare passes" | "compare lists" | "compare weeks") ;;
-    *) stop "usage: run.sh compare [normalize | rules | passes | lists | weeks]" ;;
+    "compare judge") ;;
+    *) stop "usage: run.sh compare [normalize | rules | passes | lists | weeks | judge]" ;;
     esac
     ;;
 bench) [ $# -eq 1 ] || [ $# -eq 2 ] || stop "usage: run.sh bench [DOC]" ;;
 both) [ $# -eq 3 ] || [ $# -eq 4 ] || stop "usage: run.sh both BEFORE AFTER [SECONDS]" ;;
 test | stack) [ $# -eq 1 ] || stop "usage: run.sh $command" ;;
-*) stop "usage: run.sh vectors OUT | dump FILE [N] | test | compare [normalize | rules | passes | lists | weeks] | stack | bench [DOC] | both BEFORE AFTER [SECONDS]" ;;
+*) stop "usage: run.sh vectors OUT | dump FILE [N] | test | compare [normalize | rules | passes | lists | weeks | judge] | stack | bench [DOC] | both BEFORE AFTER [SECONDS]" ;;
 esac
 
 command -v cargo >/dev/null 2>&1 || stop "cargo is missing"

@@ -21,7 +21,8 @@ pub fn malformed() -> Answer {
 }
 
 // The used length in the low half, then the count of terms or classes, and the flag in the highest
-// bit. Where one is too long for its place, the answer is a number that no entry expects.
+// bit; of a verdict the index, the place, and whether the two are equal. Where one is too long for
+// its place, the answer is a number that no entry expects.
 pub fn packed(used: u64, count: u64, flag: u64) -> u64 {
     if 0xFFFF_FFFF < used {
         return UNWRITTEN;

@@ -66,16 +66,16 @@ pub fn read_words(bytes: &[u8], words: &mut [u64], count: usize)
 }
 
 // One more in the count of a type. It does not wrap, since the number of entries is bounded.
-fn count(counts: &mut [u64; 16], kind: u8)
-    requires { ⌜ kind < 16 ⌝ }
+fn count(counts: &mut [u64; 18], kind: u8)
+    requires { ⌜ kind < 18 ⌝ }
 {
     let k = kind as usize;
     counts[k] = std::num::wrapping_add_u64(counts[k], 1);
 }
 
 // Counts a difference; the first five of a type are printed.
-fn differ(at: u64, head: Head, found: Answer, differences: &mut [u64; 16])
-    requires { ⌜ head .kind < 16 ⌝ }
+fn differ(at: u64, head: Head, found: Answer, differences: &mut [u64; 18])
+    requires { ⌜ head .kind < 18 ⌝ }
 {
     let k = head.kind as usize;
     if differences[k] < 5 {
@@ -89,10 +89,10 @@ pub fn compare(
     at: u64,
     head: Head,
     found: Answer,
-    entries: &mut [u64; 16],
-    differences: &mut [u64; 16],
+    entries: &mut [u64; 18],
+    differences: &mut [u64; 18],
 )
-    requires { ⌜ head .kind < 16 ⌝ }
+    requires { ⌜ head .kind < 18 ⌝ }
 {
     count(entries, head.kind);
     let expected = head.expected;

@@ -55,7 +55,9 @@ fn name(kind: usize) {
         12 => text(b"recover_structure"),
         13 => text(b"coalesce_terms"),
         14 => text(b"run_passes"),
-        _ => text(b"normalize_by_rules"),
+        15 => text(b"normalize_by_rules"),
+        16 => text(b"judge"),
+        _ => text(b"judge_forms"),
     }
 }
 

@@ -1,6 +1,7 @@
 // The functions under test, each run on an entry's words and bytes.
 use crate::columns;
 use crate::lists;
+use crate::pairs;
 use crate::rules;
 use stored::answer;
 use stored::answer::Answer;
@@ -133,6 +134,7 @@ pub fn answer_of(
         11 => columns::partitioning(bytes, words, used, classes),
         14 => lists::running(bytes, words, used, out),
         15 => rules::normalizing(bytes, words, used, out),
+        16 | 17 => pairs::judging(kind, bytes, words),
         _ => masks(kind, words),
     }
 }

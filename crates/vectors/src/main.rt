@@ -4,6 +4,7 @@ mod calls;
 mod columns;
 mod lists;
 mod one_entry;
+mod pairs;
 mod rules;
 
 use stored::report;
@@ -16,8 +17,8 @@ fn replay(
     bytes: &mut [u8; 193056],
     out: &mut [u8; 57376],
     classes: &mut [u64; 16464],
-    entries: &mut [u64; 16],
-    differences: &mut [u64; 16],
+    entries: &mut [u64; 18],
+    differences: &mut [u64; 18],
 ) {
     let mut at = 0;
     while at < MOST_ENTRIES {
@@ -30,9 +31,9 @@ fn replay(
 }
 
 // A line for each type.
-fn summary(entries: &[u64; 16], differences: &[u64; 16]) {
+fn summary(entries: &[u64; 18], differences: &[u64; 18]) {
     let mut kind = 1;
-    while kind < 16 {
+    while kind < 18 {
         report::summary(kind, entries[kind], differences[kind]);
         kind += 1;
     }
@@ -43,8 +44,8 @@ fn main() {
     let mut bytes = [0u8; 193056];
     let mut out = [0u8; 57376];
     let mut classes = [0u64; 16464];
-    let mut entries = [0u64; 16];
-    let mut differences = [0u64; 16];
+    let mut entries = [0u64; 18];
+    let mut differences = [0u64; 18];
     replay(
         &mut bytes,
         &mut out,

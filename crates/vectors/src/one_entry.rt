@@ -34,10 +34,10 @@ fn body(
     bytes: &mut [u8; 193056],
     out: &mut [u8; 57376],
     classes: &mut [u64; 16464],
-    entries: &mut [u64; 16],
-    differences: &mut [u64; 16],
+    entries: &mut [u64; 18],
+    differences: &mut [u64; 18],
 ) -> bool
-    requires { ⌜ head .kind < 16 ⌝ }
+    requires { ⌜ head .kind < 18 ⌝ }
 {
     if 512 < head.words {
         report::malformed(at, b"too many words");
@@ -68,8 +68,8 @@ pub fn step(
     bytes: &mut [u8; 193056],
     out: &mut [u8; 57376],
     classes: &mut [u64; 16464],
-    entries: &mut [u64; 16],
-    differences: &mut [u64; 16],
+    entries: &mut [u64; 18],
+    differences: &mut [u64; 18],
 ) -> bool {
     let mut front = [0u8; 16];
     if io::read_full(0, &mut front) != 16 {
@@ -82,7 +82,7 @@ pub fn step(
         entry::end(at, expected.value);
         return false;
     }
-    if 15 < head.kind {
+    if 17 < head.kind {
         report::malformed(at, b"unknown type");
         return false;
     }

@@ -1,6 +1,7 @@
 //! All cases of the vector file: the hand-chosen expression files, random and damaged ones, hashes,
 //! calls of the mask functions, semilinear forms, expressions to be normalised, forms for the passes
-//! and columns, lists of passes, and normalising by rules.
+//! and columns, lists of passes, normalising by rules, and pairs that are judged, of
+//! expressions and of forms.
 
 use crate::entry::{
     self, Entry, CHANGE_COEFFICIENT, CHANGE_MASK, COALESCE, FLATTEN, RECOVER, REDUCE_MASK, REFINE,
@@ -14,8 +15,8 @@ use crate::record::{
     XOR,
 };
 use crate::{
-    edges, form_edges, form_limits, form_random, list, list_cases, masks, normal_cases,
-    number_cases, pass_cases, published, rules_cases, stacked_cases, sum_cases,
+    edges, form_edges, form_limits, form_random, judge_cases, judge_forms, list, list_cases, masks,
+    normal_cases, number_cases, pass_cases, published, rules_cases, stacked_cases, sum_cases,
 };
 
 /// The seed of the vector file: the letters of "hogzelt".
@@ -28,6 +29,10 @@ const SUM_SEED: u64 = 40;
 const STACKED_SEED: u64 = 60;
 /// The same for normalising by rules.
 const RULES_SEED: u64 = 80;
+/// The same for pairs that are judged.
+const JUDGE_SEED: u64 = 100;
+/// The same for pairs of forms that are judged.
+const JUDGE_FORMS_SEED: u64 = 120;
 
 const RANDOM_TREES: usize = 700;
 const RANDOM_ALL_KINDS: usize = 200;
@@ -85,6 +90,10 @@ pub fn entries() -> Vec<Entry> {
     }
     let rules = rules_cases::stored(&mut Prng::new(SEED + RULES_SEED));
     all.extend(rules.into_iter().map(entry::by_rules));
+    let pairs = judge_cases::stored(&mut Prng::new(SEED + JUDGE_SEED));
+    all.extend(pairs.into_iter().map(entry::judge));
+    let pairs = judge_forms::stored(&mut Prng::new(SEED + JUDGE_FORMS_SEED));
+    all.extend(pairs.into_iter().map(entry::judge_forms));
     all
 }
 

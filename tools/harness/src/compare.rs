@@ -17,8 +17,8 @@ use crate::random::{self, Kinds};
 use crate::refusal::{NUMBERS, OF_COMPACT, OF_EXPR_VALUE, OF_FORM_VALUE};
 use crate::written::Written;
 use crate::{
-    form_random, library, library_forms, list_compare, masks, normal_compare, number_cases,
-    pass_compare, rules_compare, week_compare,
+    form_random, judge_compare, library, library_forms, list_compare, masks, normal_compare,
+    number_cases, pass_compare, rules_compare, week_compare,
 };
 
 /// Random inputs for each function, beside the cases of the vector file.
@@ -41,7 +41,8 @@ pub fn run() -> Result<(), String> {
     rules_compare::run()?;
     pass_compare::run()?;
     list_compare::run()?;
-    week_compare::run()
+    week_compare::run()?;
+    judge_compare::run()
 }
 
 /// How many inputs had which refusal.

@@ -1,8 +1,8 @@
 //! A vector file as text, one block of lines for each entry.
 
 use crate::entry::{
-    Entry, BY_RULES, COALESCE, COLUMNS, COMPACT, FLATTEN, FORM_VALUE, HASH, NORMALIZE, RECOVER,
-    REDUCE_MASK, REFINE, RUN, TYPE_NAMES, VALUE,
+    Entry, BY_RULES, COALESCE, COLUMNS, COMPACT, EQUAL, FLATTEN, FORM_VALUE, HASH, JUDGE,
+    JUDGE_FORMS, NORMALIZE, RECOVER, REDUCE_MASK, REFINE, RUN, TYPE_NAMES, VALUE,
 };
 use crate::record::{split, RECORD_BYTES};
 use crate::{form_model, model, published, refusal};
@@ -27,6 +27,7 @@ fn entry_text(number: usize, entry: &Entry) -> String {
         VALUE | HASH => expression_text(&entry.bytes),
         FORM_VALUE => form_text("form", &entry.bytes),
         COMPACT..=BY_RULES => writing_text(entry),
+        JUDGE | JUDGE_FORMS => pair_text(entry),
         _ => String::new(),
     };
     format!(
@@ -50,6 +51,15 @@ fn writing_text(entry: &Entry) -> String {
         _ => form_text("form", input),
     };
     input + &result
+}
+
+/// The left and the right.
+fn pair_text(entry: &Entry) -> String {
+    let (left, right) = entry.bytes.split_at(entry.words[0] as usize);
+    match entry.kind {
+        JUDGE => expression_text(left) + &expression_text(right),
+        _ => form_text("form", left) + &form_text("form", right),
+    }
 }
 
 /// Atoms and terms where the bytes are a valid form, else the bytes, a record to a line.
@@ -80,7 +90,7 @@ pub fn expression_text(file: &[u8]) -> String {
     text + &lines(file)
 }
 
-fn lines(bytes: &[u8]) -> String {
+pub fn lines(bytes: &[u8]) -> String {
     let mut text = String::new();
     for line in bytes.chunks(RECORD_BYTES) {
         let digits: Vec<String> = line.iter().map(|byte| format!("{byte:02x}")).collect();
@@ -115,6 +125,8 @@ fn outcomes(kind: u8) -> Vec<&'static str> {
         NORMALIZE => refused(refusal::OF_NORMALIZE),
         RUN => refused(refusal::OF_LISTS),
         BY_RULES => refused(refusal::OF_RULES),
+        JUDGE => verdicts(refusal::OF_JUDGE),
+        JUDGE_FORMS => verdicts(refusal::OF_JUDGE_FORMS),
         REDUCE_MASK => vec!["mask 0", "another mask"],
         _ => vec!["false", "true"],
     }
@@ -129,8 +141,16 @@ fn refused(refusals: &[u64]) -> Vec<&'static str> {
         .collect()
 }
 
+/// Equal, unlike, and each of the refusals.
+fn verdicts(refusals: &[u64]) -> Vec<&'static str> {
+    [&["equal", "unlike"], &refused(refusals)[1..]].concat()
+}
+
 fn outcome(entry: &Entry) -> &'static str {
     match (entry.kind, entry.expected) {
+        (JUDGE | JUDGE_FORMS, EQUAL) => "equal",
+        (JUDGE | JUDGE_FORMS, _) if entry.refusal == 0 => "unlike",
+        (JUDGE | JUDGE_FORMS, _) => refusal::name(u64::from(entry.refusal)),
         (VALUE | FORM_VALUE..=BY_RULES, _) => refusal::name(u64::from(entry.refusal)),
         (HASH, _) => "hash",
         (REDUCE_MASK, 0) => "mask 0",

@@ -6,7 +6,8 @@ use crate::pass::{self, Pass};
 use crate::record::RECORD_BYTES;
 use crate::written::{self, Written};
 use crate::{
-    columns, form, list, model, normal_model, published, record, rules_cases, rules_model,
+    columns, form, judge_cases, judge_model, list, model, normal_model, published, record,
+    rules_cases, rules_model,
 };
 
 pub const HEAD_BYTES: usize = 16;
@@ -30,9 +31,14 @@ pub const RECOVER: u8 = 12;
 pub const COALESCE: u8 = 13;
 pub const RUN: u8 = 14;
 pub const BY_RULES: u8 = 15;
+pub const JUDGE: u8 = 16;
+pub const JUDGE_FORMS: u8 = 17;
+
+/// The expected value of two that are judged equal.
+pub const EQUAL: u64 = 1 << 63;
 
 /// The names of the entry types, by number.
-pub const TYPE_NAMES: [&str; 16] = [
+pub const TYPE_NAMES: [&str; 18] = [
     "end",
     "expression value",
     "structural hash",
@@ -49,6 +55,8 @@ pub const TYPE_NAMES: [&str; 16] = [
     "coalesce_terms",
     "run_passes",
     "normalize_by_rules",
+    "judge",
+    "judge_forms",
 ];
 
 #[derive(Clone, Debug, PartialEq, Eq)]
@@ -57,7 +65,8 @@ pub struct Entry {
     pub refusal: u8,
     pub expected: u64,
     pub words: Vec<u64>,
-    /// the expression or the form; from type 7 on the used part of the result stands behind it
+    /// the expression or the form; from type 7 on the used part of the result stands behind it, and
+    /// in types 16 and 17 the right behind the left
     pub bytes: Vec<u8>,
 }
 
@@ -181,6 +190,29 @@ pub fn by_rules(case: rules_cases::Case) -> Entry {
     let mut entry = writing(BY_RULES, case.file, case.length, &written);
     entry.words.insert(0, case.rules);
     entry
+}
+
+/// An entry of two expressions that are judged.
+pub fn judge(pair: judge_cases::Pair) -> Entry {
+    let verdict = judge_model::answer(&pair.left, &pair.right);
+    judged(JUDGE, pair, verdict)
+}
+
+/// An entry of two forms that are judged.
+pub fn judge_forms(pair: judge_cases::Pair) -> Entry {
+    let verdict = judge_model::of_forms(&pair.left, &pair.right);
+    judged(JUDGE_FORMS, pair, verdict)
+}
+
+/// An entry of a pair: its word is the length of the left.
+fn judged(kind: u8, pair: judge_cases::Pair, verdict: judge_model::Verdict) -> Entry {
+    Entry {
+        kind,
+        refusal: verdict.refusal as u8,
+        expected: verdict.equal * EQUAL | verdict.place << 32 | verdict.index,
+        words: vec![pair.left.len() as u64],
+        bytes: [pair.left, pair.right].concat(),
+    }
 }
 
 /// An entry of a function that writes a form, with what it is to write.

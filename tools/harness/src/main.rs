@@ -38,6 +38,17 @@ mod form_model;
 mod form_random;
 #[cfg(test)]
 mod head_tests;
+mod judge_cases;
+#[cfg(feature = "library")]
+mod judge_compare;
+mod judge_forms;
+mod judge_forms_random;
+mod judge_model;
+mod judge_random;
+#[cfg(feature = "library")]
+mod judge_stack;
+#[cfg(test)]
+mod judge_tests;
 #[cfg(feature = "library")]
 mod library;
 #[cfg(feature = "library")]
@@ -138,6 +149,8 @@ fn main() -> ExitCode {
         ["compare", "rules"] => rules_compare::run(),
         #[cfg(feature = "library")]
         ["compare", "weeks"] => week_compare::run(),
+        #[cfg(feature = "library")]
+        ["compare", "judge"] => judge_compare::run(),
         #[cfg(feature = "library")]
         ["stack"] => stack::run(),
         #[cfg(feature = "library")]

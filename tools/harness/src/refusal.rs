@@ -10,6 +10,10 @@ pub const SHIFT_COUNT: u64 = 6;
 pub const NONLINEAR: u64 = 8;
 pub const TABLE_FULL: u64 = 9;
 pub const NO_FORM: u64 = 10;
+/// Of two sides that are judged: their widths, their variables together, a shift over one.
+pub const WIDTHS_DIFFER: u64 = 11;
+pub const TOO_MANY_VARIABLES: u64 = 12;
+pub const SHIFTED_VARIABLE: u64 = 13;
 /// Rules other than those of request #109.
 pub const RULES: u64 = 18;
 /// A run of days: its length or a byte that must be 0, and the order of the days.
@@ -20,8 +24,8 @@ pub const DAYS_NOT_RISING: u64 = 21;
 /// A list of calls that is none.
 pub const NO_LIST: u64 = 32;
 
-/// The names of 0, which is no refusal, and of each refusal, 7 among them.
-const NAMES: [&str; 11] = [
+/// The names of 0, which is no refusal, and of each refusal up to 13, 7 among them.
+const NAMES: [&str; 14] = [
     "accepted",
     "refusal 1",
     "refusal 2",
@@ -33,9 +37,12 @@ const NAMES: [&str; 11] = [
     "refusal 8",
     "refusal 9",
     "refusal 10",
+    "refusal 11",
+    "refusal 12",
+    "refusal 13",
 ];
 
-/// How many numbers there are up to 10, 0 among them.
+/// How many numbers there are up to 13, 0 among them.
 #[cfg_attr(not(feature = "library"), allow(dead_code))]
 pub const NUMBERS: usize = NAMES.len();
 
@@ -77,6 +84,27 @@ pub const OF_LISTS: &[u64] = &[
     SHIFT_COUNT,
     NONLINEAR,
     TABLE_FULL,
+];
+/// In the order in which they are looked for, up to 9 in the left and then in the right.
+pub const OF_JUDGE: &[u64] = &[
+    INPUT_LENGTH,
+    MALFORMED,
+    WIDTH,
+    CAST,
+    SHIFT_COUNT,
+    NONLINEAR,
+    TABLE_FULL,
+    WIDTHS_DIFFER,
+    TOO_MANY_VARIABLES,
+    SHIFTED_VARIABLE,
+];
+/// In the order in which they are looked for, 1 and 10 in the left and then in the right.
+pub const OF_JUDGE_FORMS: &[u64] = &[
+    INPUT_LENGTH,
+    NO_FORM,
+    WIDTHS_DIFFER,
+    TOO_MANY_VARIABLES,
+    SHIFTED_VARIABLE,
 ];
 
 /// The name of a number that an answer has.

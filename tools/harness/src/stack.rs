@@ -7,6 +7,7 @@ use crate::cases::SEED;
 use crate::form::{Form, ATOM, HEAD_BYTE, MAX_ATOMS, MAX_TREE_RECORDS, RESULT_BYTES, SUM};
 use crate::form_model;
 use crate::form_random;
+use crate::judge_stack;
 use crate::library;
 use crate::library_forms::pass_into;
 use crate::list_stack;
@@ -39,7 +40,8 @@ pub fn run() -> Result<(), String> {
         .max(rules_stack::stacks()?)
         .max(list_stack::stacks()?)
         .max(pass_stack::stacks()?)
-        .max(week_compare::stacks()?);
+        .max(week_compare::stacks()?)
+        .max(judge_stack::stacks()?);
     println!("stack, most: {most} bytes");
     if most > STACK_BAR {
         return Err(format!(
@@ -50,6 +52,7 @@ pub fn run() -> Result<(), String> {
     form_times();
     pass_stack::times();
     week_compare::times();
+    judge_stack::times();
     normal_stack::times()?;
     rules_stack::times()
 }

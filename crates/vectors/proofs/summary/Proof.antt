@@ -5,10 +5,10 @@ use Rattle.vectors.proofs.summary.Statement.{statement}
 use Rattle.vectors.proofs.summary.Tie as tie
 
 abbrev Inv-loop : tie.InvT-loop
-Inv-loop entries differences kind₀ kind = kind ≤ 16
+Inv-loop entries differences kind₀ kind = kind ≤ 18
 
 abbrev μ-loop : tie.MeasureT-loop
-μ-loop entries differences kind₀ kind = 16 - kind
+μ-loop entries differences kind₀ kind = 18 - kind
 
 loop-holds : tie.Need-loop-holds Inv-loop μ-loop
 loop-holds c = search needs
