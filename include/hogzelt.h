@@ -11,13 +11,14 @@
  *   hogzelt_expr_value                 129 KiB      hogzelt_flatten_complex_atoms   395 KiB
  *   hogzelt_semilinear_value           393 KiB      hogzelt_compact_atom_table      393 KiB
  *   hogzelt_compute_partitions         413 KiB      the three mask functions          1 KiB
- *   hogzelt_best_week                    1 KiB
+ *   hogzelt_judge                      377 KiB      hogzelt_best_week                 1 KiB
  *
- * Every pointer must be valid for its length: expr for expr_len bytes, s for s_len bytes, vars for
- * vars_len words, out for out_len bytes (for out_len words of 64 bits in hogzelt_compute_partitions),
- * calls for calls_len words, sheet for sheet_len, spare for spare_len and run for run_len bytes, value,
- * used, terms, flattened, classes, found, total and day for one word. A pointer with length 0 must not
- * be null and must be aligned. What is written to must overlap neither the inputs nor one another.
+ * Every pointer must be valid for its length: expr for expr_len bytes, s for s_len bytes, left for
+ * left_len and right for right_len bytes, vars for vars_len words, out for out_len bytes (for out_len
+ * words of 64 bits in hogzelt_compute_partitions), calls for calls_len words, sheet for sheet_len, spare
+ * for spare_len and run for run_len bytes, value, used, terms, flattened, classes, equal, place, index,
+ * found, total and day for one word. A pointer with length 0 must not be null and must be aligned. What
+ * is written to must overlap neither the inputs nor one another.
  */
 #ifndef HOGZELT_H
 #define HOGZELT_H
@@ -31,8 +32,8 @@ extern "C" {
 #endif
 
 /* The version: major * 10000 + minor * 100 + patch, and as text. */
-#define HOGZELT_VERSION 10500
-#define HOGZELT_VERSION_TEXT "1.5.0"
+#define HOGZELT_VERSION 10600
+#define HOGZELT_VERSION_TEXT "1.6.0"
 
 /* Lengths: of a record, of the longest expression, and of the result slices. */
 #define HOGZELT_RECORD_BYTES 16
@@ -95,6 +96,9 @@ enum hogzelt_refusal {
     HOGZELT_NONLINEAR = 8,
     HOGZELT_TABLE_FULL = 9,
     HOGZELT_NO_FORM = 10,
+    HOGZELT_WIDTHS_DIFFER = 11,
+    HOGZELT_TOO_MANY_VARIABLES = 12,
+    HOGZELT_SHIFTED_VARIABLE = 13,
     HOGZELT_NO_RULES = 18,
     HOGZELT_NO_RUN = 20,
     HOGZELT_DAYS_NOT_RISING = 21,
@@ -124,6 +128,9 @@ static inline const char *hogzelt_refusal_text(uint64_t refusal)
     case HOGZELT_NONLINEAR: return "not a sum of weighted bitwise atoms";
     case HOGZELT_TABLE_FULL: return "more than 256 atoms, or more than 3,072 records in their trees";
     case HOGZELT_NO_FORM: return "not a semilinear form, or a hash that is not its tree's";
+    case HOGZELT_WIDTHS_DIFFER: return "the widths of the two differ";
+    case HOGZELT_TOO_MANY_VARIABLES: return "more than five variables in the two together";
+    case HOGZELT_SHIFTED_VARIABLE: return "a shift by more than 0 over a variable";
     case HOGZELT_NO_RULES: return "rules other than 1 and 2";
     case HOGZELT_NO_RUN: return "not a run: a wrong length, or a non-zero byte that must be 0";
     case HOGZELT_DAYS_NOT_RISING: return "a day that is not above the one before";
@@ -327,6 +334,25 @@ uint64_t hogzelt_compute_partitions(const uint8_t *s, size_t s_len, uint64_t *ou
 uint64_t hogzelt_run_passes(const uint8_t *expr, size_t expr_len, const uint64_t *calls,
                             size_t calls_len, uint8_t *sheet, size_t sheet_len, uint8_t *spare,
                             size_t spare_len, uint64_t *used, uint64_t *terms);
+
+/*
+ * The judge of two expression files: whether they have the same value under every assignment. Both
+ * must be such that hogzelt_normalize_to_semilinear takes them, which is by rules 1. Returns 0 where
+ * the two are judged, else the first of these that applies:
+ *   1, 3 to 6, 8, 9  the lowest refusal of the left, as for hogzelt_normalize_to_semilinear; then that
+ *       of the right
+ *   11  the widths differ
+ *   12  the two have more than five variables together
+ *   13  a shift with a count above 0 has a variable below it, in either
+ * The variables and shifts of the files as they are given count, also below a factor of 0.
+ * *equal is 1 exactly where the two have the same value under every assignment; then *place and *index
+ * are 0. Else *equal is 0, and *place and *index name an assignment under which the values differ: at
+ * that place the j-th smallest of the variables of the two together, j from 0, has bit j of the index,
+ * and all other bits are 0. It is the first such assignment by place, then by index; place 0 and index
+ * 0 are all zeros. Beside a refusal *equal, *place and *index are 0.
+ */
+uint64_t hogzelt_judge(const uint8_t *left, size_t left_len, const uint8_t *right, size_t right_len,
+                       uint64_t *equal, uint64_t *place, uint64_t *index);
 
 /*
  * The best seven days of a run. A run is at most 4,096 records of 16 bytes, one for each day that was

@@ -21,11 +21,14 @@ MOST_NUMBER = (1 << 64) - 1
 
 
 class Refused(Exception):
-    """The library refused a call; `number` is that of include/hogzelt.h."""
+    """The library refused a call; `number` is that of include/hogzelt.h. Where it is the refusal of
+    one of two expressions, `side` is left or right."""
 
-    def __init__(self, number: int) -> None:
-        super().__init__(f"refusal {number}: {meaning(number)}")
+    def __init__(self, number: int, side: str | None = None) -> None:
+        where = f"{side}: " if side else ""
+        super().__init__(f"{where}refusal {number}: {meaning(number)}")
         self.number = number
+        self.side = side
 
 
 class Pass(IntEnum):

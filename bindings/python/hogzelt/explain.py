@@ -12,10 +12,10 @@ from .facts import facts_of
 from .fold import fold
 from .parser import Parsed
 from .records import (
-    ADD, AND, ARITHMETIC, CASTS, CONSTANT, KIND_NAMES, MOST_ATOMS, MOST_SHIFT, MOST_TREE_RECORDS,
-    MUL, NEG, NOT, OR, SHR, XOR, Record,
+    ADD, AND, ARITHMETIC, CASTS, CONSTANT, KIND_NAMES, MOST_ATOMS, MOST_JOINT_VARIABLES, MOST_SHIFT,
+    MOST_TREE_RECORDS, MUL, NEG, NOT, OR, SHR, VARIABLE, XOR, Record,
 )
-from .refusals import meaning
+from .refusals import TOO_MANY_VARIABLES, meaning
 from .render import expression_text, literal_text
 from .rules import with_literals
 from .tokens import clip
@@ -44,6 +44,37 @@ def explain(number: int, parsed: Parsed, accepts: Accepts, rules: int = 1) -> Re
     reasons = {5: tree.cast, 6: tree.shift_count, 8: tree.nonlinear, 9: tree.full}
     found = reasons[number]() if number in reasons else None
     return found or tree.reason(len(tree.records) - 1, meaning(number))
+
+
+def explain_pair(number: int, left: Parsed, right: Parsed) -> tuple[str, Reason]:
+    """The reason of the judge's refusal 12 or 13, and the side that its place is in."""
+    return too_many(left, right) if number == TOO_MANY_VARIABLES else shifted(left, right)
+
+
+def too_many(left: Parsed, right: Parsed) -> tuple[str, Reason]:
+    """The first variable that is one too many, the left read before the right."""
+    firsts: dict[int, tuple[str, Parsed, int]] = {}
+    for side, parsed in (("left", left), ("right", right)):
+        for i, record in enumerate(parsed.expression.records):
+            if record.kind == VARIABLE:
+                firsts.setdefault(record.argument, (side, parsed, i))
+    side, parsed, at = list(firsts.values())[MOST_JOINT_VARIABLES]
+    message = (f"{len(firsts)} variables in the two together; the judge takes at most"
+               f" {MOST_JOINT_VARIABLES}")
+    return side, Reason(parsed.place(at), message, "")
+
+
+def shifted(left: Parsed, right: Parsed) -> tuple[str, Reason]:
+    """The first shift with a count above 0 over a variable, the left read before the right."""
+    for side, parsed in (("left", left), ("right", right)):
+        records = parsed.expression.records
+        facts = facts_of(records, parsed.width)
+        for i, record in enumerate(records):
+            if record.kind == SHR and record.argument and facts[i].variable:
+                message = (f">> {record.argument} has a variable below it; the judge takes a shift"
+                           " of numbers alone")
+                return side, Reason(parsed.place(i), message, "")
+    raise AssertionError("neither side shifts a variable")
 
 
 class Tree:

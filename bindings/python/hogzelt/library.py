@@ -28,6 +28,7 @@ SIGNATURES = {
     "hogzelt_run_passes": [
         c_char_p, c_size_t, WORDS, c_size_t, BYTES, c_size_t, BYTES, c_size_t, NUMBER, NUMBER,
     ],
+    "hogzelt_judge": [c_char_p, c_size_t, c_char_p, c_size_t, NUMBER, NUMBER, NUMBER],
     "hogzelt_best_week": [c_char_p, c_size_t, NUMBER, POINTER(c_int64), NUMBER],
 }
 TESTS = ("hogzelt_can_change_mask_to", "hogzelt_can_change_coefficient_to")

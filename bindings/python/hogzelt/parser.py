@@ -7,12 +7,13 @@ the text a token stands is looked up only for a message."""
 
 from __future__ import annotations
 
-from typing import Any, Iterator, NamedTuple, NoReturn, Tuple
+from typing import Any, Iterable, Iterator, Mapping, NamedTuple, NoReturn, Tuple
 
 from .records import (
     ADD, AND, CASTS, CONCAT, CONSTANT, KIND_NAMES, LAYOUT, MOST_RECORDS, MOST_SHIFT, MUL, NEG, NOT,
     OR, SEXT, SHR, TRUNC, VARIABLE, XOR, ZEXT, Expression, record_bytes, tree_records,
 )
+from .render import NO_NAMES
 from .tokens import (
     MOST_VARIABLES, NAME, TOKEN, BadText, BadWord, clip, line_and_column, literal_value,
     token_place, variable_number, variable_text,
@@ -112,9 +113,40 @@ NODES = [Nodes(width) for width in range(65)]
 LEAVES: list[dict[str, bytes]] = [{} for _ in range(65)]
 
 
-def parse(text: str, width: int) -> Parsed:
-    """The records of the text at this width; BadText where it is no expression."""
-    parser = Parser(text, width)
+class Numbering:
+    """The numbers of names that have none of their own, for all texts that are read with it: those
+    that some have already, and for each other one the lowest that no token and no name has."""
+
+    def __init__(self, tokens: Iterable[str], names: Mapping[int, str] = NO_NAMES) -> None:
+        self.free = free_numbers(tokens, names)
+        self.numbers = {name: number for number, name in names.items()}
+
+    def number(self, name: str) -> int | None:
+        """None where no number is left."""
+        if name not in self.numbers:
+            free = next(self.free, None)
+            if free is None:
+                return None
+            self.numbers[name] = free
+        return self.numbers[name]
+
+
+def free_numbers(tokens: Iterable[str], names: Mapping[int, str]) -> Iterator[int]:
+    """The numbers that neither a token nor a name has, rising. Tokens are looked at once a number
+    is asked for: most texts have no name that needs one."""
+    taken = {*map(variable_number, tokens), *names}
+    yield from (number for number in range(MOST_VARIABLES) if number not in taken)
+
+
+def numbering_of(texts: Iterable[str]) -> Numbering:
+    """One numbering for several texts: a name is the same variable in all of them."""
+    return Numbering(token for text in texts for token in TOKEN.findall(text))
+
+
+def parse(text: str, width: int, numbering: Numbering | None = None) -> Parsed:
+    """The records of the text at this width; BadText where it is no expression. Where no
+    numbering is given, names get numbers by this text alone."""
+    parser = Parser(text, width, numbering)
     parser.run()
     count = len(parser.records)
     if count > MOST_RECORDS:
@@ -148,7 +180,7 @@ def notes(parsed: Parsed) -> list[tuple[int, str]]:
 class Parser:
     """A text on its way to records. Operators wait until what binds tighter has its operands."""
 
-    def __init__(self, text: str, width: int) -> None:
+    def __init__(self, text: str, width: int, numbering: Numbering | None) -> None:
         self.text = text
         self.tokens = TOKEN.findall(text)
         self.tokens.append("")
@@ -158,8 +190,7 @@ class Parser:
         self.sizes: list[int] = []  # those of the operands that have no parent yet
         self.waiting: list[Waiting] = [BOTTOM]
         self.names: dict[int, str] = {}
-        self.numbers: dict[str, int] = {}
-        self.free: Iterator[int] | None = None  # the numbers that no name has, rising
+        self.numbering = numbering
 
     def run(self) -> None:
         """An operand, with what opens before it, and then what comes behind it, by turns. In this
@@ -278,18 +309,15 @@ class Parser:
             if name[0] == "v" and name[1:].isdigit():
                 raise BadText(self.place(at), f'unknown name "{clip(name)}"',
                               f"v and digits are variables by number, v0 to v{MOST_VARIABLES - 1}")
-            if name not in self.numbers:
-                self.numbers[name] = self.free_number(name, at)
-            number = self.numbers[name]
+            number = self.given_number(name, at)
         if name != variable_text(number):
             self.names[number] = name
         return number
 
-    def free_number(self, name: str, at: int) -> int:
-        if self.free is None:
-            taken = {variable_number(token) for token in self.tokens}
-            self.free = (i for i in range(MOST_VARIABLES) if i not in taken)
-        number = next(self.free, None)
+    def given_number(self, name: str, at: int) -> int:
+        if self.numbering is None:
+            self.numbering = Numbering(self.tokens)
+        number = self.numbering.number(name)
         if number is None:
             raise BadText(self.place(at), f'no number is left for "{clip(name)}"',
                           f"there are {MOST_VARIABLES:,} variables")

@@ -29,6 +29,7 @@ MOST_ATOMS = 256
 MOST_TREE_RECORDS = 3072
 FORM_BYTES = 57360
 MOST_SHIFT = 63
+MOST_JOINT_VARIABLES = 5  # of two expressions that are judged
 
 # kind, byte 1, size, width, byte 5, literal or word; byte 5 is the high byte of a variable number
 LAYOUT = struct.Struct("<BBHBBxxQ")

@@ -45,7 +45,7 @@ def piece(tree: bytes, width: int, names: Mapping[int, str]) -> tuple[int, str]:
             stack.append((kind, literal_text(literal, width), None))
         elif kind == VARIABLE:
             number = argument | high << 8
-            stack.append((kind, names.get(number) or variable_text(number), None))
+            stack.append((kind, name_of(number, names), None))
         elif ARITY[kind] == 2:
             right = stack.pop()
             stack.append((kind, binary_text(kind, stack.pop(), right), None))
@@ -73,6 +73,11 @@ def unary_text(kind: int, argument: int, inner: Piece) -> str:
     bare = inner[0] in (BARE_LEFT[SHR] if kind == SHR else BARE_INNER[kind])
     operand = inner[1] if bare else f"({inner[1]})"
     return f"{operand} >> {argument}" if kind == SHR else SYMBOLS[kind] + operand
+
+
+def name_of(variable: int, names: Mapping[int, str]) -> str:
+    """The name that the text gives a variable, or that of its number."""
+    return names.get(variable) or variable_text(variable)
 
 
 def literal_text(value: int, width: int) -> str:
@@ -136,6 +141,12 @@ def number_text(value: int, width: int) -> str:
 def bits_text(value: int, width: int) -> str:
     """The bits by place, place 0 on the right, in groups of eight from there."""
     return grouped(format(value % (1 << width), f"0{width}b"))
+
+
+def value_text(value: int, width: int) -> str:
+    """A value in every way that it is read: 10  0x0a  00001010  signed 10."""
+    return (f"{value}  {mask_text(value, width)}  {bits_text(value, width)}"
+            f"  signed {signed(value, width)}")
 
 
 def grouped(places: str) -> str:

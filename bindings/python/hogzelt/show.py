@@ -11,9 +11,8 @@ from .records import (
 )
 from .refusals import meaning
 from .render import (
-    NO_NAMES, bits_text, expression_text, factor_text, mask_text, signed, sum_text,
+    NO_NAMES, bits_text, expression_text, factor_text, mask_text, name_of, signed, sum_text,
 )
-from .tokens import variable_text
 
 
 def counted(count: int, noun: str) -> str:
@@ -114,7 +113,7 @@ def table_lines(atom: Atom, table: int, width: int, names: Mapping[int, str]) ->
     if table >= OPAQUE:
         return [f"{text}: a shift, or more than five variables; no table"]
     variables = sorted({r.argument for r in atom.records if r.kind == VARIABLE})
-    labels = [names.get(i) or variable_text(i) for i in variables]
+    labels = [name_of(i, names) for i in variables]
     room = max(len(label) for label in (*labels, text))
     rows = range(1 << len(variables))
     lines = [

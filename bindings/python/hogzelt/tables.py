@@ -3,8 +3,8 @@
 No pass joins atoms of several variables. But a sum of weighted atoms without literals and shifts is
 known by what it gives where each variable has the same bit at all places: two such sums that agree
 there agree everywhere, since a place adds 2^p times the same weighted sum of bits. So the terms are
-written anew from that list of numbers, and the shortest way is taken. This is not a part of the
-library, and is not proved."""
+written anew from that list of numbers, and the shortest way is taken. This search is not a part of
+the library, and is not proved. What it finds is given to the judge beside the expression."""
 
 from __future__ import annotations
 
@@ -12,10 +12,11 @@ from typing import Iterator, Mapping, NamedTuple
 
 from .calls import Sheet
 from .fold import node_value
-from .parser import parse
-from .records import AND, ARITY, NOT, OR, VARIABLE, XOR, split_form, tree_records
+from .parser import Numbering, Parsed, parse
+from .records import AND, ARITY, NOT, OR, RECORD, VARIABLE, XOR, split_form, tree_records
 from .render import NO_NAMES, sum_text
-from .tokens import variable_text
+from .tokens import BadText, variable_text
+from .verdict import call_judge
 
 PURE = frozenset((VARIABLE, AND, OR, XOR, NOT))
 MOST_VARIABLES = 3
@@ -35,6 +36,35 @@ class Rewritten(NamedTuple):
     terms: list[tuple[int, str]]
 
 
+class Plainer(NamedTuple):
+    """The text of a plainer sum, and whether it is proved to have the value of the expression."""
+
+    text: str
+    proved: bool
+
+
+def judged_plainer(sheet: Sheet, parsed: Parsed | None) -> Plainer | None:
+    """A plainer sum for the sheet of an expression. It is proved where the judge finds its text
+    equal to the expression, and not where the judge refuses, or where the sheet was given by
+    itself. None where the judge tells the two apart."""
+    text = plainer(sheet, parsed.names if parsed else NO_NAMES)
+    if text is None:
+        return None
+    same = is_same(text, parsed) if parsed else None
+    return None if same is False else Plainer(text, same is True)
+
+
+def is_same(text: str, parsed: Parsed) -> bool | None:
+    """Whether the judge finds a text equal to an expression with the same names; none where it
+    refuses."""
+    try:
+        again = parse(text, parsed.width, Numbering((), parsed.names))
+    except BadText:  # it makes more records than a tangle has
+        return None
+    numbers = call_judge(parsed.data, again.data)
+    return None if numbers.refusal else numbers.equal == 1
+
+
 def plainer(sheet: Sheet, names: Mapping[int, str] = NO_NAMES) -> str | None:
     """A sum of the same value with fewer terms, or with as many in a shorter text."""
     width, constant, terms = split_form(sheet.data)
@@ -47,16 +77,19 @@ def plainer(sheet: Sheet, names: Mapping[int, str] = NO_NAMES) -> str | None:
     best = (len(terms), len(sum_text(width, constant, terms, names)))
     found = None
     for way in ways(signature(pure, variables, width), variables, width):
+        count = len(way.terms) + len(others)
+        if count > best[0]:
+            continue
         made = [(c, parse(text, width).data) for c, text in way.terms]
         text = sum_text(width, (constant + way.constant) % (1 << width), made + others, names)
-        if (len(made + others), len(text)) < best:
-            best, found = (len(made + others), len(text)), text
+        if (count, len(text)) < best:
+            best, found = (count, len(text)), text
     return found
 
 
 def is_pure(tree: bytes) -> bool:
     """Whether a tree has neither literals nor shifts."""
-    return all(record.kind in PURE for record in tree_records(tree))
+    return PURE.issuperset(tree[::RECORD])
 
 
 def signature(terms: list[tuple[int, bytes]], variables: list[int], width: int) -> list[int]:

@@ -27,7 +27,10 @@ class BadWord(Exception):
 
 
 class BadText(Exception):
-    """The text is no expression. `at` is the index of the fault in the text."""
+    """The text is no expression. `at` is the index of the fault in the text. Where it is one of two
+    texts, `side` is left or right."""
+
+    side: str | None = None
 
     def __init__(self, at: int, message: str, hint: str = "") -> None:
         super().__init__(f"{message}; {hint}" if hint else message)

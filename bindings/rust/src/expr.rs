@@ -2,7 +2,7 @@ use crate::{Refusal, RECORD_BYTES};
 use std::ops::{Add, BitAnd, BitOr, BitXor, Mul, Neg, Not, Shr, Sub};
 
 const CONSTANT: u8 = 0;
-const VARIABLE: u8 = 1;
+pub const VARIABLE: u8 = 1;
 const ADD: u8 = 2;
 const MUL: u8 = 3;
 const AND: u8 = 4;

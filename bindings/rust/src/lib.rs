@@ -22,6 +22,7 @@
 
 mod columns;
 mod expr;
+mod judge;
 pub mod raw;
 mod refusal;
 mod sheet;
@@ -29,12 +30,13 @@ mod week;
 
 pub use columns::{Class, Columns, OPAQUE};
 pub use expr::Expr;
+pub use judge::{judge, Assignment, Verdict};
 pub use refusal::Refusal;
 pub use sheet::{Sheet, Term};
 pub use week::{best_week, run_bytes, Played, Week};
 
 /// The version: major * 10000 + minor * 100 + patch.
-pub const VERSION: u64 = 10_500;
+pub const VERSION: u64 = 10_600;
 /// The bytes of a record.
 pub const RECORD_BYTES: usize = 16;
 /// The most bytes of an expression.

@@ -86,6 +86,15 @@ extern "C" {
         total: *mut i64,
         day: *mut u64,
     ) -> u64;
+    pub fn hogzelt_judge(
+        left: *const u8,
+        left_len: usize,
+        right: *const u8,
+        right_len: usize,
+        equal: *mut u64,
+        place: *mut u64,
+        index: *mut u64,
+    ) -> u64;
     pub fn hogzelt_reduce_mask(coeff: u64, mask: u64, w: u32) -> u64;
     pub fn hogzelt_can_change_mask_to(coeff: u64, old_mask: u64, new_mask: u64, w: u32) -> bool;
     pub fn hogzelt_can_change_coefficient_to(

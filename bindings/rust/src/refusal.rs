@@ -23,6 +23,12 @@ pub enum Refusal {
     TableFull = 9,
     /// Not a semilinear form, or a hash that is not its tree's.
     NoForm = 10,
+    /// Two expressions of different widths.
+    WidthsDiffer = 11,
+    /// More than five variables in two expressions together.
+    TooManyVariables = 12,
+    /// A shift by a count above 0 over a variable.
+    ShiftedVariable = 13,
     /// Rules other than 1 and 2, which [`Rules`](crate::Rules) does not have.
     NoRules = 18,
     /// Not a run: a length that is not a multiple of 16 or too great, or a non-zero byte that
@@ -36,7 +42,7 @@ pub enum Refusal {
 
 impl Refusal {
     /// Every refusal, by rising number.
-    pub const ALL: [Refusal; 13] = [
+    pub const ALL: [Refusal; 16] = [
         Refusal::InputLength,
         Refusal::ResultLength,
         Refusal::Malformed,
@@ -46,6 +52,9 @@ impl Refusal {
         Refusal::Nonlinear,
         Refusal::TableFull,
         Refusal::NoForm,
+        Refusal::WidthsDiffer,
+        Refusal::TooManyVariables,
+        Refusal::ShiftedVariable,
         Refusal::NoRules,
         Refusal::NoRun,
         Refusal::DaysNotRising,
@@ -87,6 +96,9 @@ impl fmt::Display for Refusal {
             Refusal::Nonlinear => "not a sum of weighted bitwise atoms",
             Refusal::TableFull => "more than 256 atoms, or more than 3,072 records in their trees",
             Refusal::NoForm => "not a semilinear form, or a hash that is not its tree's",
+            Refusal::WidthsDiffer => "two expressions of different widths",
+            Refusal::TooManyVariables => "more than five variables in two expressions together",
+            Refusal::ShiftedVariable => "a shift by a count above 0 over a variable",
             Refusal::NoRules => "rules other than 1 and 2",
             Refusal::NoRun => "not a run: a wrong length, or a non-zero byte that must be 0",
             Refusal::DaysNotRising => "a day that is not above the one before",

@@ -19,7 +19,10 @@ fn number(value: u64) -> Expr {
 #[test]
 fn refusals() {
     let numbers: Vec<u64> = Refusal::ALL.iter().map(|r| r.number()).collect();
-    assert_eq!(numbers, [1, 2, 3, 4, 5, 6, 8, 9, 10, 18, 20, 21, 32]);
+    assert_eq!(
+        numbers,
+        [1, 2, 3, 4, 5, 6, 8, 9, 10, 11, 12, 13, 18, 20, 21, 32]
+    );
     for refusal in Refusal::ALL {
         assert_eq!(Refusal::check(refusal.number()), Err(refusal));
         let error: Box<dyn Error> = refusal.into();

@@ -1,9 +1,9 @@
 //! Replays the stored answers of crates/vectors (docs/VECTORS.md) through the safe functions.
 
 use hogzelt::{
-    can_change_coefficient_to, can_change_mask_to, columns_into, expr_value,
+    can_change_coefficient_to, can_change_mask_to, columns_into, expr_value, judge,
     normalize_by_rules_into, normalize_into, raw, reduce_mask, run_calls_into, run_pass_into,
-    sheet_value, Call, Pass, Refusal, Rules, Written,
+    sheet_value, Call, Pass, Refusal, Rules, Verdict, Written,
 };
 use std::path::PathBuf;
 
@@ -73,6 +73,7 @@ impl Entry<'_> {
             13 => self.pass_holds(Pass::Coalesce),
             14 => self.list_holds(),
             15 => self.rules_hold(),
+            16 => self.verdict_holds(),
             _ => unreachable!("type {}", self.sort),
         }
     }
@@ -94,6 +95,21 @@ impl Entry<'_> {
             None => by_number(self.words[0], input, &mut out),
         };
         self.form_is(found, &out)
+    }
+
+    /// The left is as long as the word says. Where the two differ, the assignment tells them apart.
+    fn verdict_holds(&self) -> bool {
+        let (left, right) = self.bytes.split_at(self.words[0] as usize);
+        match judge(left, right) {
+            Ok(Verdict::Equal) => self.refusal == 0 && self.value == FLAG,
+            Ok(Verdict::Unlike(found)) => {
+                let words = found.words();
+                assert_ne!(expr_value(left, &words), expr_value(right, &words));
+                let value = u64::from(found.place) << 32 | u64::from(found.index);
+                self.refusal == 0 && self.value == value
+            }
+            Err(refusal) => refusal.number() == self.refusal && self.value == 0,
+        }
     }
 
     fn columns_hold(&self) -> bool {
@@ -185,14 +201,14 @@ fn stored_answers() {
     let package = PathBuf::from(env!("CARGO_MANIFEST_DIR"));
     let path = package.join("../../crates/vectors/stdin");
     let file = std::fs::read(&path).expect("the vector file");
-    let mut seen = [0; 16];
+    let mut seen = [0; 18];
     for (number, entry) in entries(&file).iter().enumerate() {
-        // the structural hash is no function of the library
-        if entry.sort != 2 {
+        // the structural hash and the judge of two forms are no functions of the library
+        if ![2, 17].contains(&entry.sort) {
             assert!(entry.holds(), "entry {number}, type {}", entry.sort);
             seen[usize::from(entry.sort)] += 1;
         }
     }
-    let tried: Vec<usize> = (0..16).filter(|&sort| seen[sort] > 0).collect();
-    assert_eq!(tried, [1, 3, 4, 5, 6, 7, 8, 9, 10, 11, 12, 13, 14, 15]);
+    let tried: Vec<usize> = (0..18).filter(|&sort| seen[sort] > 0).collect();
+    assert_eq!(tried, [1, 3, 4, 5, 6, 7, 8, 9, 10, 11, 12, 13, 14, 15, 16]);
 }

@@ -55,6 +55,46 @@ accepted, 112 bytes, 2 terms, value 248
 rules other than 1 and 2, 0 bytes, 0 terms, value 0
 """
 
+# a | b, a + b, a of another width and a shift, each beside a + b; as C and as C++
+JUDGE = rb"""
+#include "hogzelt.h"
+#include <stdio.h>
+
+#define RECORD(kind, argument, size, width) \
+    kind, argument, size, 0, width, 0, 0, 0, 0, 0, 0, 0, 0, 0, 0, 0
+#define A RECORD(HOGZELT_VARIABLE, 0, 1, 8)
+#define B RECORD(HOGZELT_VARIABLE, 1, 1, 8)
+
+static const uint8_t either[] = {A, B, RECORD(HOGZELT_OR, 0, 3, 8)};
+static const uint8_t sum[] = {A, B, RECORD(HOGZELT_ADD, 0, 3, 8)};
+static const uint8_t wide[] = {RECORD(HOGZELT_VARIABLE, 0, 1, 9)};
+static const uint8_t shifted[] = {A, RECORD(HOGZELT_SHR, 1, 2, 8)};
+
+static uint64_t beside_sum(const uint8_t *left, size_t left_len)
+{
+    uint64_t equal = 7, place = 7, index = 7;
+    uint64_t refusal = hogzelt_judge(left, left_len, sum, sizeof sum, &equal, &place, &index);
+    printf("%s, equal %u, place %u, index %u\n", hogzelt_refusal_text(refusal), (unsigned)equal,
+           (unsigned)place, (unsigned)index);
+    return refusal;
+}
+
+int main(void)
+{
+    return beside_sum(either, sizeof either) != HOGZELT_ACCEPTED ||
+           beside_sum(sum, sizeof sum) != HOGZELT_ACCEPTED ||
+           beside_sum(wide, sizeof wide) != HOGZELT_WIDTHS_DIFFER ||
+           beside_sum(shifted, sizeof shifted) != HOGZELT_SHIFTED_VARIABLE ||
+           HOGZELT_TOO_MANY_VARIABLES != 12;
+}
+"""
+JUDGE_ANSWER = """\
+accepted, equal 0, place 0, index 3
+accepted, equal 1, place 0, index 0
+the widths of the two differ, equal 0, place 0, index 0
+a shift by more than 0 over a variable, equal 0, place 0, index 0
+"""
+
 
 class Installed(Calls):
     def setUp(self):
@@ -64,7 +104,7 @@ class Installed(Calls):
         self.env = dict(os.environ)
         self.env.setdefault("HOGZELT_LIB", os.path.join(ROOT, build.ARCHIVE))
         out = self.sh(os.path.join(ROOT, "tools", "install.sh"), self.prefix)
-        self.assertEqual(out, f"hogzelt 1.5.0: {os.path.realpath(self.prefix)}\n")
+        self.assertEqual(out, f"hogzelt 1.6.0: {os.path.realpath(self.prefix)}\n")
 
     def sh(self, *words, **env):
         done = subprocess.run(words, cwd=self.folder, env={**self.env, **env}, check=False,
@@ -78,7 +118,7 @@ class Installed(Calls):
         self.assertEqual(found, [
             "include/hogzelt.h", "lib/cmake/hogzelt/hogzelt-config-version.cmake",
             "lib/cmake/hogzelt/hogzelt-config.cmake", "lib/libhogzelt.a", "lib/libhogzelt.so",
-            "lib/libhogzelt.so.1", "lib/libhogzelt.so.1.5.0", "lib/pkgconfig/hogzelt.pc"])
+            "lib/libhogzelt.so.1", "lib/libhogzelt.so.1.6.0", "lib/pkgconfig/hogzelt.pc"])
         self.assertIn("usage", self.refused("install.sh"))
         self.assertIn("usage", self.refused("install.sh", "--help"))
 
@@ -93,13 +133,14 @@ class Installed(Calls):
                 f"-I{self.prefix}/include", source, f"{self.prefix}/lib/libhogzelt.a", "-o", "use")
         self.assertEqual(self.sh("./use"), ANSWER)
 
-    def test_rules(self):
-        for compiler, name in (("cc", "rules.c"), ("c++", "rules.cc")):
-            need(self, compiler)
-            self.sh(compiler, "-Wall", "-Wextra", "-pedantic", "-Werror",
-                    f"-I{self.prefix}/include", self.path(name, RULES),
-                    f"{self.prefix}/lib/libhogzelt.a", "-o", "rules")
-            self.assertEqual(self.sh("./rules"), RULES_ANSWER)
+    def test_programs(self):
+        for source, answer in ((RULES, RULES_ANSWER), (JUDGE, JUDGE_ANSWER)):
+            for compiler, name in (("cc", "program.c"), ("c++", "program.cc")):
+                need(self, compiler)
+                self.sh(compiler, "-Wall", "-Wextra", "-pedantic", "-Werror",
+                        f"-I{self.prefix}/include", self.path(name, source),
+                        f"{self.prefix}/lib/libhogzelt.a", "-o", "program")
+                self.assertEqual(self.sh("./program"), answer)
 
     def test_pkg_config(self):
         need(self, "pkg-config")

@@ -305,7 +305,7 @@ class Help(Calls):
         self.assertEqual(self.call("--version")[0], f"hogzelt {__version__}\n")
 
     def test_commands(self):
-        self.assertIn("shorten, value, draw", self.call(status=2)[1])
+        self.assertIn("shorten, judge, value, draw", self.call(status=2)[1])
         self.assertIn("no command 'frob'", self.call("frob", status=2)[1])
 
     def test_example_files(self):

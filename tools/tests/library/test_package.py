@@ -74,10 +74,18 @@ class Functions(unittest.TestCase):
             elif sort == 15 and words[1:] == [FORM_BYTES]:
                 found = self.answer(hogzelt.normalize, data[:split], None, words[0])
                 self.assertEqual(found, (refusal, None if refusal else sheet))
-            else:
+            elif sort == 16:
+                left, right = data[: words[0]], data[words[0] :]
+                equal, place, index = numbers_of = c_uint64(7), c_uint64(7), c_uint64(7)
+                number = engine().library.hogzelt_judge(
+                    left, len(left), right, len(right), *map(byref, numbers_of)
+                )
+                found = equal.value << 63 | place.value << 32 | index.value
+                self.assertEqual((number, found), (refusal, value))
+            else:  # among them types 2 and 17, which are no functions of the library
                 continue
             seen[sort] = seen.get(sort, 0) + 1
-        self.assertEqual(sorted(seen), [1, *range(3, 16)])
+        self.assertEqual(sorted(seen), [1, *range(3, 17)])
 
     def columns(self, data, split, refusal, classes):
         number, found = self.answer(hogzelt.columns, data[:split])

@@ -121,7 +121,7 @@ class Command(Calls):
         self.assertEqual(found, {
             "width": 8, "rules": 2, "text": "~(a + 1)", "refusal": None, "sum": "-2 - 1*a",
             "constant": 254, "terms": [{"coefficient": 255, "atom": "a"}],
-            "par": {"before": 1, "after": 1}, "variables": {"a": 0}})
+            "par": {"before": 1, "after": 1}, "plainer": None, "variables": {"a": 0}})
         for words, rules in (((), 1), (("--rules", "1"), 1), (("--rules", "2"), 2)):
             for text in ("a & b", "a*b", "a +"):
                 out, _ = self.call("shorten", "-w8", "--json", *words, text, status=None)

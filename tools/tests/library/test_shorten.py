@@ -96,7 +96,7 @@ class Shown(Calls):
         out, _ = self.call("shorten", "-w8", "(x^y)+2*(x&y)")
         self.assertEqual(out.split("\n"), [
             "1*(x ^ y) + 2*(x & y)", "par 2, normalised 2; width 8",
-            "variables: x is v23, y is v24", "by truth tables, not proved: 1*x + 1*y", ""])
+            "variables: x is v23, y is v24", "by truth tables, proved equal: 1*x + 1*y", ""])
 
     def test_steps(self):
         out, _ = self.call("shorten", "-w8", "--steps", "--passes", "refine,compact",
@@ -141,7 +141,7 @@ class Shown(Calls):
             "width": 8, "rules": 1, "text": "X1 | 15", "refusal": None,
             "sum": "15 + 1*(X1 & 240)", "constant": 15,
             "terms": [{"coefficient": 1, "atom": "(X1 & 240)"}],
-            "par": {"before": 2, "after": 1}, "variables": {"X1": 0}})
+            "par": {"before": 2, "after": 1}, "plainer": None, "variables": {"X1": 0}})
         out, _ = self.call("shorten", "-w8", "--json", "a +\n b*b", status=1)
         found = json.loads(out)
         self.assertEqual(found["refusal"], {

@@ -134,9 +134,10 @@ class StoredAnswers(unittest.TestCase):
         return True
 
     def test_stored(self):
-        """Refusals 5 and 6 stand in well-formed files; 1, 3, 4 and 10 do not."""
-        seen = dict.fromkeys(range(16), 0)
-        for sort, refusal, value, _, data in stored_entries():
+        """Refusals 5 and 6 stand in well-formed files; 1, 3, 4 and 10 do not. Of two files that are
+        judged, one at least has the refusal that is given."""
+        seen = dict.fromkeys(range(18), 0)
+        for sort, refusal, value, words, data in stored_entries():
             seen[sort] += 1
             if sort == 1:
                 self.assertEqual(self.accepted(read_expression, data), refusal not in (1, 3, 4))
@@ -152,4 +153,12 @@ class StoredAnswers(unittest.TestCase):
                 self.assertEqual(found, refusal not in (1, 3, 4))
                 if refusal == 0:
                     self.assertTrue(self.accepted(read_form, data[split:]))
-        self.assertTrue(seen[1] and seen[2] and all(seen[sort] for sort in range(6, 16)), seen)
+            elif sort in (16, 17):
+                read = read_expression if sort == 16 else read_form
+                sides = data[: words[0]], data[words[0] :]
+                found = [self.accepted(read, side) for side in sides]
+                if refusal in (0, 11, 12, 13):
+                    self.assertEqual(found, [True, True])
+                elif refusal in (1, 3, 4, 10):
+                    self.assertIn(False, found)
+        self.assertTrue(seen[1] and seen[2] and all(seen[sort] for sort in range(6, 18)), seen)

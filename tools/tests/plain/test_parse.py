@@ -4,7 +4,7 @@ import ast
 import random
 import unittest
 
-from hogzelt.parser import notes, parse
+from hogzelt.parser import Numbering, notes, numbering_of, parse
 from hogzelt.records import (
     ADD, AND, CONCAT, CONSTANT, MUL, NEG, NOT, OR, SEXT, SHR, TRUNC, VARIABLE, XOR, ZEXT, Record,
 )
@@ -122,6 +122,24 @@ class Operands(unittest.TestCase):
             parsed = parse(text, 8)
             variables = [r.argument for r in parsed.expression.records if r.kind == VARIABLE]
             self.assertEqual((variables, parsed.names), (numbers, names), text)
+
+    def test_names_of_two_texts(self):
+        """With one numbering a name is the same variable in both, and no other name's."""
+        for left, right, numbers in (
+            ("flags", "a", [[1], [0]]),
+            ("a", "flags", [[0], [1]]),
+            ("X1 + X2", "X2 + b + X3", [[0, 2], [2, 1, 3]]),
+            ("X1 + v0", "X2 + v2 + X1", [[1, 0], [3, 2, 1]]),
+        ):
+            numbering = numbering_of((left, right))
+            found = [parse(text, 8, numbering) for text in (left, right)]
+            self.assertEqual([[r.argument for r in parsed.expression.records if r.kind == VARIABLE]
+                              for parsed in found], numbers, (left, right))
+            for parsed in found:
+                again = parse(parsed.text, 8, Numbering((), parsed.names))
+                self.assertEqual(again.data, parsed.data)
+        self.assertEqual(parse("X1 + X2", 8, Numbering((), {1: "X2", 0: "flags"})).names,
+                         {1: "X2", 2: "X1"})
 
     def test_most_names(self):
         names = [f"n{i}" for i in range(65537)]

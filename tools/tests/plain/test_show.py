@@ -145,7 +145,7 @@ class Answers(unittest.TestCase):
         for number in numbers:
             line = show_answer(read_answer(b"R %d\n" % number))
             self.assertEqual(line, [f"refusal {number}: {REFUSALS[number]}"])
-        self.assertEqual(sorted(REFUSALS), [*numbers, 18, 20, 21, 32])
+        self.assertEqual(sorted(REFUSALS), [*numbers, 11, 12, 13, 18, 20, 21, 32])
 
     def test_refusal_of_before(self):
         """What `par` wrote before 1.2.0 for a sum below bitwise operators is still read."""

@@ -10,12 +10,12 @@ from ..calls import columns as columns_of
 from ..calls import value as value_of
 from ..parser import notes
 from ..records import Fault, read_answer, read_expression, read_form
-from ..render import bits_text, expression_text, mask_text, signed
+from ..render import expression_text, name_of, value_text
 from ..show import counted, show_answer, show_columns, show_expression, show_form
 from ..tokens import MOST_VARIABLES, BadWord, literal_value, located, variable_number
 from .files import write_whole
 from .options import Options, Usage
-from .report import name_of, variables_of
+from .report import variables_of
 from .source import Given, read_file, read_given, read_parsed, read_sheet, refusing, run
 
 ASSIGNING = re.compile(r"\s*[A-Za-z_][0-9A-Za-z_]*\s*=(?!=)")
@@ -45,8 +45,7 @@ def value(options: Options) -> int:
     if "quiet" in options:
         print(found)
         return 0
-    print(f"{found}  {mask_text(found, width)}  {bits_text(found, width)}"
-          f"  signed {signed(found, width)}")
+    print(value_text(found, width))
     unset = [name for name, number in numbers.items() if number not in assigned]
     if unset:
         print(f"0 where nothing is given: {', '.join(unset)}")

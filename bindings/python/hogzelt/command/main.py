@@ -16,16 +16,21 @@ from .source import Refusing
 
 
 class Command(NamedTuple):
-    """The module of a command, loaded where it is called, and the options that it knows."""
+    """The module of a command, loaded where it is called, the options that it knows, and its status
+    where something is refused and where the reader of what is printed has gone."""
 
     module: str
     valued: Sequence[str]
     flags: Sequence[str] = ()
+    refused: int = 1
+    unread: int = 0
 
 
 TABLE = {
     "shorten": Command("shorten", ("width", "file", "rules", "passes", "jobs"),
                        ("fold", "steps", "quiet", "json")),
+    "judge": Command("judge", ("width", "file", "left", "right", "jobs"), ("fold", "quiet", "json"),
+                     refused=2, unread=2),
     "value": Command("look", ("width", "file"), ("fold", "quiet")),
     "draw": Command("draw", ("width", "file", "rules", "passes", "svg"), ("fold",)),
     "columns": Command("look", ("width", "file", "rules", "passes"), ("fold",)),
@@ -40,12 +45,12 @@ def main(words: Sequence[str]) -> int:
     try:
         return finish(run(words))
     except (Refusing, Fault, Refused) as bad:
-        return complain(str(bad), 1)
+        return complain(str(bad), TABLE[words[0]].refused)
     except (Usage, NoLibrary) as bad:
         return complain(str(bad), 2)
     except BrokenPipeError:
         os.dup2(os.open(os.devnull, os.O_WRONLY), sys.stdout.fileno())
-        return 0
+        return TABLE[words[0]].unread if words[0] in TABLE else 0
     except KeyboardInterrupt:
         return 130
     except OSError as bad:

@@ -6,9 +6,10 @@ import json
 from typing import Mapping, NamedTuple
 
 from ..calls import SHORTENING, Pass, Refused, Sheet, run_pass
+from ..parser import Parsed
 from ..records import VARIABLE
 from ..render import NO_NAMES
-from ..tables import plainer
+from ..tables import judged_plainer
 from .batch import run_batch
 from .options import PASSES, Options, Usage
 from .report import accepted, names_text, refused, sheet_text, variables_of
@@ -31,10 +32,13 @@ class Shortened(NamedTuple):
 
     width: int
     rules: int | None
-    names: Mapping[int, str]
+    parsed: Parsed | None
     variables: list[int]
-    text: str | None
     steps: list[Step]
+
+    @property
+    def names(self) -> Mapping[int, str]:
+        return self.parsed.names if self.parsed else NO_NAMES
 
     @property
     def first(self) -> Sheet:
@@ -67,8 +71,8 @@ def shorten(options: Options) -> int:
         print(json.dumps(refused(bad, rules, bad.place[0])))
         return 1
     if "json" in options:
-        said = accepted(result.rules, result.text, result.names, result.variables,
-                        result.first.par, result.last)
+        said = accepted(result.rules, result.parsed, result.variables, result.first.par,
+                        result.last)
         print(json.dumps(said))
     else:
         print("\n".join(shown(result, "steps" in options, "quiet" in options)))
@@ -78,7 +82,7 @@ def shorten(options: Options) -> int:
 def of_text(given: Given, options: Options, rules: int, passes: tuple[int, ...]) -> Shortened:
     parsed = read_parsed(given, options)
     steps = steps_from(Step("normalise", run(given, parsed, rules), 0), passes)
-    return Shortened(parsed.width, rules, parsed.names, variables_of(parsed), parsed.text, steps)
+    return Shortened(parsed.width, rules, parsed, variables_of(parsed), steps)
 
 
 def of_sheet(given: Given, options: Options, passes: tuple[int, ...]) -> Shortened:
@@ -86,7 +90,7 @@ def of_sheet(given: Given, options: Options, passes: tuple[int, ...]) -> Shorten
     form = sheet.form
     variables = {r.argument for atom in form.atoms for r in atom.records if r.kind == VARIABLE}
     steps = steps_from(Step("as given", sheet, 0), passes)
-    return Shortened(form.width, None, NO_NAMES, sorted(variables), None, steps)
+    return Shortened(form.width, None, None, sorted(variables), steps)
 
 
 def steps_from(first: Step, passes: tuple[int, ...]) -> list[Step]:
@@ -112,9 +116,10 @@ def shown(result: Shortened, with_steps: bool, quiet: bool) -> list[str]:
     lines.append(f"par {result.last.par}, {start} {result.first.par}; width {result.width}{rules}")
     if result.variables:
         lines.append("variables: " + names_text(result.variables, result.names))
-    other = plainer(result.last, result.names)
+    other = judged_plainer(result.last, result.parsed)
     if other is not None:
-        lines.append(f"by truth tables, not proved: {other}")
+        proved = "proved equal" if other.proved else "not proved"
+        lines.append(f"by truth tables, {proved}: {other.text}")
     return lines
 
 

@@ -10,7 +10,7 @@ from typing import NamedTuple
 from ..calls import Refused, Sheet, engine, is_form
 from ..explain import explain
 from ..fold import fold
-from ..parser import Parsed, parse
+from ..parser import Numbering, Parsed, parse
 from ..records import Fault, read_expression, read_form
 from ..render import expression_text
 from ..tokens import BadText, line_and_column, located
@@ -49,6 +49,7 @@ class Refusing(Exception):
         self.number, self.width, self.text, self.at = number, width, text, at
         self.message, self.hint = message, hint
         self.name: str | None = None
+        self.side: str | None = None  # left or right, where it is one of two
 
     @property
     def sentence(self) -> str:
@@ -80,13 +81,22 @@ def read_given(options: Options, command: str) -> Given:
     if named is not None:
         if words:
             raise Usage("a text or -f FILE, not both")
-        data = read_bytes(named)
-        return Given(sort_of(data), "standard input" if named == "-" else named, data)
+        return given_file(named)
     if not words:
         raise Usage(f"the text is missing (hogzelt {command} --help)")
     if len(words) > 1:
         raise Usage(f"one text, in quotes; these are {len(words)} words (hogzelt {command} --help)")
-    return Given("text", None, words[0].encode("utf-8", "surrogateescape"))
+    return given_text(words[0])
+
+
+def given_text(word: str) -> Given:
+    return Given("text", None, word.encode("utf-8", "surrogateescape"))
+
+
+def given_file(name: str) -> Given:
+    """What a file holds, or standard input where its name is -."""
+    data = read_bytes(name)
+    return Given(sort_of(data), "standard input" if name == "-" else name, data)
 
 
 def read_file(options: Options, command: str) -> Given:
@@ -96,9 +106,7 @@ def read_file(options: Options, command: str) -> Given:
         raise Usage(f"one file at a time (hogzelt {command} --help)")
     if not words and named is None and sys.stdin.isatty():
         raise Usage(f"say which file to read (hogzelt {command} --help)")
-    name = named or (words[0] if words else "-")
-    data = read_bytes(name)
-    return Given(sort_of(data), "standard input" if name == "-" else name, data)
+    return given_file(named or (words[0] if words else "-"))
 
 
 def read_bytes(name: str) -> bytes:
@@ -108,24 +116,26 @@ def read_bytes(name: str) -> bytes:
         return source.read()
 
 
-def width_of(given: Given, options: Options) -> int:
+def width_of(given: Given, options: Options, option: str = "-f") -> int:
     width = options.width()
     if width is None:
-        hint = file_hint(given)
+        hint = file_hint(given, option)
         raise Usage("the width is missing: -w and a number from 1 to 64" + (hint and f" ({hint})"))
     return width
 
 
-def file_hint(given: Given) -> str:
+def file_hint(given: Given, option: str = "-f") -> str:
     """A file's name in place of a text is a likely slip."""
     if given.name is None and os.path.isfile(given.data):
-        return f"there is a file {given.text}: -f {given.text} reads it"
+        return f"there is a file {given.text}: {option} {given.text} reads it"
     return ""
 
 
-def parsed_text(text: str, width: int, folds: bool) -> Parsed:
+def parsed_text(
+    text: str, width: int, folds: bool, numbering: Numbering | None = None
+) -> Parsed:
     try:
-        parsed = parse(text, width)
+        parsed = parse(text, width, numbering)
     except BadText as bad:
         raise Refusing(0, width, text, bad.at, bad.message, bad.hint) from None
     return fold(parsed) if folds else parsed
@@ -134,11 +144,9 @@ def parsed_text(text: str, width: int, folds: bool) -> Parsed:
 def read_parsed(given: Given, options: Options) -> Parsed:
     """The expression of a text or a tangle. A tangle is read as the text that it is shown as, which
     has the same bytes."""
+    check_expression(given)
     if given.sort == "tangle":
-        return parsed_tangle(given, options)
-    if given.sort != "text":
-        raise Usage(f"{given.label}a text or a tangle is needed here, and this is"
-                    f" {'a sheet' if given.sort == 'sheet' else 'what par printed'}")
+        return parsed_text(*tangle_text(given, options), "fold" in options)
     width = width_of(given, options)
     try:
         parsed = parsed_text(given.text, width, False)
@@ -149,14 +157,20 @@ def read_parsed(given: Given, options: Options) -> Parsed:
     return fold(parsed) if "fold" in options else parsed
 
 
-def parsed_tangle(given: Given, options: Options) -> Parsed:
+def check_expression(given: Given) -> None:
+    if given.sort not in ("text", "tangle"):
+        raise Usage(f"{given.label}a text or a tangle is needed here, and this is"
+                    f" {'a sheet' if given.sort == 'sheet' else 'what par printed'}")
+
+
+def tangle_text(given: Given, options: Options) -> tuple[str, int]:
+    """The text that a tangle is shown as, and its width."""
     try:
         expression = read_expression(given.data)
     except Fault as bad:
         raise Fault(f"{given.label}{bad}") from None
     check_width(given, options, expression.width)
-    text = expression_text(expression.records, expression.width)
-    return parsed_text(text, expression.width, "fold" in options)
+    return expression_text(expression.records, expression.width), expression.width
 
 
 def read_sheet(given: Given, options: Options) -> Sheet:

@@ -2,6 +2,7 @@
 
 HELP = """\
 usage: hogzelt shorten -w WIDTH TEXT             a sum of few terms, by a list of passes
+       hogzelt judge -w WIDTH TEXT TEXT          whether two have the same value, proved
        hogzelt value -w WIDTH TEXT NAME=NUMBER   the value under an assignment
        hogzelt draw -w WIDTH TEXT                the masks by place, as a picture
        hogzelt columns -w WIDTH TEXT             the places in classes, with each atom's table
@@ -35,9 +36,10 @@ x & 254 at width 8. Under --rules 2 such a part is cut without --fold, and ~x ov
 -x - 1.
 
 Exit status: 0 done; 1 a text is bad or something is refused; 2 wrong usage, or a file or the
-library is missing. HOGZELT_SO names the shared object of the library. In a checkout it is made
-where it is missing: 'rt staticlib hogzelt' proves and builds the archive, cc makes a shared object
-of it.
+library is missing. For judge it is as for cmp: 0 equal, 1 different, 2 anything else.
+
+HOGZELT_SO names the shared object of the library. In a checkout it is made where it is missing:
+'rt staticlib hogzelt' proves and builds the archive, cc makes a shared object of it.
 """
 
 COMMON = """\
@@ -66,7 +68,8 @@ Normalises, runs a list of passes and prints the sum on one line, which can be r
 par (the count of its terms) and the numbers of the variables. Where the passes would leave more
 terms than normalising, the normalised sum is printed. Normalising and each pass are proved to keep
 the value. Where the truth tables of up to three variables give a plainer sum, as x + y for
-(x ^ y) + 2*(x & y), a last line has that too; this step is tested and not proved.
+(x ^ y) + 2*(x & y), a last line has that too: "proved equal" where the judge (hogzelt judge) finds
+it equal to the text, "not proved" where that refuses the two.
 
 A text file has one expression a line; blank lines and lines that begin with # stay as they are. For
 each line there is one, in order; what is refused becomes a line that begins with #.
@@ -76,7 +79,7 @@ each line there is one, in order; what is refused becomes a line that begins wit
   --steps             show the sheet after each call
   -q, --quiet         print only the sum
   --json              one object a line: width, rules, text, refusal with its place, sum, constant,
-                      terms, par before and after, variables
+                      terms, par before and after, plainer sum and whether it is proved, variables
   --jobs N            processes for a file (default: one for each processor)
 
 Examples:
@@ -84,6 +87,42 @@ Examples:
   tools/hogzelt shorten -w 8 --fold --steps '(x & -2) + (x & 1)'
   tools/hogzelt shorten -w 8 --rules 2 '~(x + y) + (x ^ -1)'
   tools/hogzelt shorten -w 64 --json -f examples/daily.txt
+""",
+    "judge": f"""\
+usage: hogzelt judge -w WIDTH [OPTIONS] TEXT TEXT
+       hogzelt judge -w WIDTH [OPTIONS] 'TEXT == TEXT'
+       hogzelt judge [OPTIONS] --left FILE --right FILE    or one of them, and a TEXT
+       hogzelt judge -w WIDTH [OPTIONS] -f FILE            or - for standard input
+
+Says whether two expressions have the same value under every assignment. That is proved either way:
+where they differ, it shows the first assignment that tells them apart, of one bit at most in each
+variable and at the lowest place, with both values. A name is one variable in both.
+
+Both must be sums as 'hogzelt --help' has them, by rules 1, of one width (11), with at most five
+variables together (12) and no >> by more than 0 over a variable (13), also where a factor is 0.
+
+A file that -f names has a pair a line: TEXT == TEXT, or two texts with a tab between. Blank lines
+and lines that begin with # stay as they are. For each line there is one, in order; what is refused
+becomes a line that begins with #.
+
+  -w, --width WIDTH   the width in bits, 1 to 64; a tangle brings its own, for a text beside it too
+  --left FILE         read FILE, a text or a tangle, as the left one; - is standard input
+  --right FILE        read FILE as the right one
+  -f, --file FILE     read pairs from FILE; - is standard input
+  --fold              cut parts without a variable to one literal first
+  -q, --quiet         print nothing but what is wrong; the status tells
+  --json              one object a line: width, text, refusal with its side, line and column, equal,
+                      proved, place, index, variables with their values, left, right
+  --jobs N            processes for a file (default: one for each processor)
+
+Exit status: 0 equal, 1 different, 2 refused, wrong usage, or a file or the library is missing. For
+a file of pairs: 2 where a line is refused, else 1 where a pair is different, else 0.
+
+Examples:
+  tools/hogzelt judge -w 64 'x + y' '(x ^ y) + 2*(x & y)'
+  tools/hogzelt judge -w 8 'x | y == x + y'
+  tools/hogzelt judge --left examples/xor15.tangle 'a + 15 - 2*(a & 15)'
+  tools/hogzelt judge -w 64 -f examples/pairs.txt
 """,
     "value": f"""\
 usage: hogzelt value -w WIDTH [--fold] [-q] TEXT [NAME=NUMBER]..
