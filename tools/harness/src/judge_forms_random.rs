@@ -60,17 +60,9 @@ fn passed_once(rng: &mut Prng) -> (Form, Form) {
     }
 }
 
-/// `count` pairs, each in either order.
+/// `count` pairs of forms, each in either order.
 fn pairs(rng: &mut Prng, count: usize, make: fn(&mut Prng) -> (Form, Form)) -> Vec<Pair> {
-    (0..count)
-        .map(|_| {
-            let (left, right) = make(rng);
-            match rng.one_in(2) {
-                true => pair(&left, &right),
-                false => pair(&right, &left),
-            }
-        })
-        .collect()
+    judge_random::either_order(rng, count, make, pair)
 }
 
 /// Forms beside what a pass makes of them.

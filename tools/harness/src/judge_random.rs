@@ -217,10 +217,11 @@ impl Over {
 }
 
 /// `count` pairs, each in either order.
-fn pairs(
+pub fn either_order<T>(
     rng: &mut Prng,
     count: usize,
-    make: impl Fn(&mut Prng) -> (Records, Records),
+    make: impl Fn(&mut Prng) -> (T, T),
+    pair: impl Fn(&T, &T) -> Pair,
 ) -> Vec<Pair> {
     (0..count)
         .map(|_| {
@@ -231,6 +232,15 @@ fn pairs(
             }
         })
         .collect()
+}
+
+/// `count` pairs of expressions, each in either order.
+fn pairs(
+    rng: &mut Prng,
+    count: usize,
+    make: impl Fn(&mut Prng) -> (Records, Records),
+) -> Vec<Pair> {
+    either_order(rng, count, make, |left, right| pair(left, right))
 }
 
 /// Sums beside their rewritings.
