@@ -1,4 +1,6 @@
 // The number of a tree among the atoms of a pass's table, to which it is added where it has none.
+#![tactic(auto)]
+
 pub mod constant;
 
 ghost use Rattle.std.specs.Prelude.{◌≡◌, true, ◌+◌, ◌^◌, ◌<◌, get_or};

@@ -1,4 +1,6 @@
 // The best seven days of a run: the lowest total of moves minus par over seven consecutive days.
+#![tactic(auto)]
+
 pub mod best;
 pub mod run;
 pub mod streak;

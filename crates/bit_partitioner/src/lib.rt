@@ -1,4 +1,6 @@
 // The partition of the places by the profiles of the atoms.
+#![tactic(auto)]
+
 pub mod places;
 
 ghost use Rattle.std.specs.Prelude.{◌≡◌, true, [], ◌∷◌, length};

@@ -1,5 +1,7 @@
 // One walk of a tree that should have no Add, Mul and Neg: its refusals, its variables and its hash
 // together.
+#![tactic(auto)]
+
 ghost use Rattle.std.specs.Prelude.{◌≡◌, true, ℕ, ◌≤◌, length};
 ghost use Rattle.bitwise.specs.Bitwise.{root_ok, refused, last_child, leaf_checked, one_checked};
 ghost use Rattle.bitwise.specs.Bitwise.{two_checked, checked};

@@ -1,4 +1,6 @@
 // The coefficient of each bit of a group, the bits that carry it, and the new terms for them.
+#![tactic(auto)]
+
 ghost use Rattle.std.specs.Prelude.{◌≡◌, ◌<◌, ◌≤◌};
 ghost use Rattle.record.specs.Decode.{decode};
 ghost use Rattle.made.specs.Made.{Makes};

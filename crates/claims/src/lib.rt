@@ -1,1 +1,2 @@
 // The theorems about lists of calls and the worked examples.
+#![tactic(auto)]

@@ -1,4 +1,6 @@
 // The classes in the words of the result: for each its mask, then its profile.
+#![tactic(auto)]
+
 ghost use Rattle.std.specs.Prelude.{◌≡◌, ℕ, ◌+◌, ◌*◌, ◌<◌, ◌≤◌, length};
 ghost use Rattle.base.specs.Lists.{eq_list};
 ghost use Rattle.base.specs.Loop.{first_in};

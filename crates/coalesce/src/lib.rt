@@ -1,4 +1,6 @@
 // Coalescing the terms of one variable by the coefficient of each bit.
+#![tactic(auto)]
+
 ghost use Rattle.std.specs.Prelude.{◌≡◌, true, false, [], ◌*◌, length};
 ghost use Rattle.base.specs.Put.{padded};
 ghost use Rattle.record.specs.Decode.{decode};

@@ -1,4 +1,6 @@
 // Compacting the atom table: atoms without a term go, the others are renumbered in order.
+#![tactic(auto)]
+
 ghost use Rattle.std.specs.Prelude.{◌≡◌, true, false, ◌+◌, ◌-◌, ◌≤◌, length, []};
 ghost use Rattle.semilinear.specs.Items.{after_atoms};
 ghost use Rattle.base.specs.Put.{padded};

@@ -1,4 +1,6 @@
 // An atom seen as `basis & mask`.
+#![tactic(auto)]
+
 ghost use Rattle.std.specs.Prelude.{◌≡◌, true, false, ◌≤◌};
 ghost use Rattle.record.specs.Span.{left, right, sized};
 ghost use Rattle.record.specs.Fields.{kind};
@@ -10,7 +12,7 @@ use base::limits;
 use expr::value;
 
 // Where the basis stands in the atom's tree, and the mask. Where it is not valid there is no basis.
-#[derive(Drop)]
+#[derive(Clone, Copy)]
 pub struct Basis {
     pub valid: bool,
     pub start: usize,

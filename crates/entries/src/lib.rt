@@ -1,4 +1,6 @@
 // Tests on the entries of a group, which read its arrays as lent; and the marks of entries.
+#![tactic(auto)]
+
 pub mod pair;
 pub mod single;
 pub mod stages;

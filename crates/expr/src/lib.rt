@@ -1,4 +1,6 @@
 // Expressions in 16-byte records: their value, structural hash and variables.
+#![tactic(auto)]
+
 pub mod hash;
 pub mod value;
 pub mod vars;

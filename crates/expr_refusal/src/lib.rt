@@ -1,4 +1,6 @@
 // The refusals of an expression file: the lowest that applies to any of its records.
+#![tactic(auto)]
+
 ghost use Rattle.std.specs.Prelude.{◌≡◌, ℕ, ◌≤◌, length};
 ghost use Rattle.expr_refusal.specs.Refusal.{lowest, uses_byte1, fields_ok, unused, size_ok};
 ghost use Rattle.expr_refusal.specs.Refusal.{form_ok, width_ok, root_refusal, tree_refusal, expr_refusal};

@@ -1,5 +1,7 @@
 // Flattening the atoms of one variable: f(0), and the bits that the variable passes or inverts. The
 // table of the result is in lent words beside its bytes, the coefficients in words of their own.
+#![tactic(auto)]
+
 ghost use Rattle.std.specs.Prelude.{◌≡◌, true, [], ◌-◌, ◌^◌, ◌<◌, ◌≤◌, length, get_or};
 ghost use Rattle.std.specs.Int.Bits.{bit_and};
 ghost use Rattle.base.specs.Put.{padded};

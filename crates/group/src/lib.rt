@@ -1,4 +1,6 @@
 // The group of a pass: the terms of one basis, and the steps of refining on them.
+#![tactic(auto)]
+
 pub mod collapse;
 pub mod gather;
 pub mod keys;

@@ -1,4 +1,6 @@
 // What users link: every entry point, exported for C. include/hogzelt.h declares them.
+#![tactic(auto)]
+
 ghost use Rattle.std.specs.Prelude.{◌≡◌, [], ◌∷◌, length, replicate};
 ghost use Rattle.arith.specs.Effective.{reduce_mask, can_change_mask_to, can_change_coefficient_to};
 ghost use Rattle.expr.specs.ExprValue.{IsExprValue};

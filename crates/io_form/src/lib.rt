@@ -1,5 +1,7 @@
 // What the programs share: an expression is read from standard input and normalised, and a refusal
 // is printed.
+#![tactic(auto)]
+
 ghost use Rattle.io_form.specs.Used.{IsUsed};
 
 use base::limits;

@@ -1,6 +1,8 @@
 // The judge of two sides: their forms are compared under the assignments of one bit place. An
 // expression is normalised first; a semilinear form is taken as it is. At a place all indices are
 // looked at together: each form has a running sum for each of them.
+#![tactic(auto)]
+
 pub mod sides;
 pub mod sums;
 

@@ -1,5 +1,7 @@
 // The variable-free subtrees below a bitwise operator as literals (rules 2): the tree of a file
 // written anew, by the marks of its records.
+#![tactic(auto)]
+
 ghost use Rattle.std.specs.Prelude.{◌≡◌, not, ◌&&◌};
 ghost use Rattle.record.specs.Decode.{decode};
 ghost use Rattle.ways.specs.Marks.{mark_variable};

@@ -1,4 +1,6 @@
 // A basis that one row alone has. Most groups are such, and need no group to be gathered.
+#![tactic(auto)]
+
 ghost use Rattle.std.specs.Prelude.{◌≡◌, true, false, ℕ, ◌<◌, ◌≤◌};
 ghost use Rattle.views.specs.Views.{view_at, has_basis, Readable};
 ghost use Rattle.group.specs.Gathered.{gathered};

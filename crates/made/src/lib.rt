@@ -1,5 +1,7 @@
 // The atom table of a pass in lent words, beside the lent bytes that hold the atoms: a step of a
 // group takes the words and the bytes, and gives only the group back.
+#![tactic(auto)]
+
 ghost use Rattle.std.specs.Prelude.{◌≡◌, ◌+◌, ◌^◌, ◌<◌, length, get_or};
 ghost use Rattle.record.specs.Tree.{encode};
 ghost use Rattle.record.specs.Tree.Tree.{Constant, Binary};

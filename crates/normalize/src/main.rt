@@ -1,6 +1,8 @@
 // Reads an expression on standard input (document 01: a tangle) and writes the bytes of its
 // semilinear form (document 01: sheet); or R and the refusal. The first byte tells which: that of a
 // form is 32 or 33.
+#![tactic(auto)]
+
 use base::limits;
 
 fn main() {

@@ -1,1 +1,2 @@
 // What normalising gives: definitions and laws, without code.
+#![tactic(auto)]

@@ -1,6 +1,8 @@
 // Reads an expression on standard input (document 01: a tangle) and prints its semilinear form: C
 // and the constant, then for each term T, the atom's number and the coefficient; or R and the
 // refusal.
+#![tactic(auto)]
+
 ghost use Rattle.std.specs.Prelude.{◌≤◌, length};
 ghost use Rattle.base.specs.Limits.{record_length};
 

@@ -1,1 +1,2 @@
 // What the partition classes are: definitions and laws, without code.
+#![tactic(auto)]

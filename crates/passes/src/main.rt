@@ -7,6 +7,8 @@
 // Without arguments each of the five runs once, in the order in which document 01 names them:
 // refining, recovering, coalescing, flattening, and compacting last, since the others leave atoms
 // that no term uses.
+#![tactic(auto)]
+
 mod names;
 
 ghost use Rattle.std.specs.Prelude.{◌≡◌, ◌+◌, ◌*◌, ◌≤◌, ◌<◌, length};

@@ -1,4 +1,6 @@
 // The profile of a place: a word for each atom.
+#![tactic(auto)]
+
 pub mod facts;
 pub mod index;
 

@@ -1,5 +1,7 @@
 // Readers of 16-byte records: numbers, the fields of a span's root, and the spans of its children;
 // the writers stand in `write`.
+#![tactic(auto)]
+
 pub mod write;
 
 ghost use Rattle.std.specs.Prelude.{◌≡◌, ℕ, ◌+◌, ◌-◌, ◌*◌, ◌%◌, ◌^◌, ◌<◌, ◌≤◌, length};

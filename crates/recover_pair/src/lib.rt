@@ -1,2 +1,4 @@
 // Recovering within a group: entries with complement masks.
+#![tactic(auto)]
+
 pub mod pair;

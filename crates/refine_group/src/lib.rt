@@ -1,4 +1,6 @@
 // Refining one group.
+#![tactic(auto)]
+
 ghost use Rattle.record.specs.Decode.{decode};
 ghost use Rattle.group.specs.Gathered.{gathered};
 ghost use Rattle.group.specs.Ready.{GroupReady};

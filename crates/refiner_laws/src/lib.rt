@@ -1,1 +1,2 @@
 // What refining gives, and that it keeps the value.
+#![tactic(auto)]

@@ -1,5 +1,7 @@
 // The atom table that the collected atoms make: each is shared with an atom that is there, or
 // appended.
+#![tactic(auto)]
+
 pub mod index;
 
 ghost use Rattle.std.specs.Prelude.{◌≡◌, [], ◌∷◌, ◌++◌, ◌+◌, ◌*◌, ◌<◌, ◌≤◌, length, get_or, set};

@@ -1,4 +1,6 @@
 // Runs a list of passes on the form that normalising gives.
+#![tactic(auto)]
+
 ghost use Rattle.std.specs.Prelude.{◌≡◌, true, ◌≤◌, length, take};
 ghost use Rattle.semilinear.specs.Answers.{GivesForm};
 ghost use Rattle.claims.specs.Calls.{pass_gives, after_call, in_use};

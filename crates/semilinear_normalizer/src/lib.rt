@@ -1,5 +1,7 @@
 // Normalising an expression to its semilinear form: the descent collects a constant and weighted
 // atoms, and the atoms make the table.
+#![tactic(auto)]
+
 pub mod form;
 
 ghost use Rattle.std.specs.Prelude.{true, ◌≡◌, ◌*◌, ◌≤◌, length};

@@ -1,4 +1,6 @@
 // The value of a semilinear form under an assignment: atoms and terms are read side by side, once.
+#![tactic(auto)]
+
 ghost use Rattle.std.specs.Prelude.{◌≡◌, ◌+◌, ◌%◌, ◌^◌};
 ghost use Rattle.semilinear.specs.Form.{sum_rows};
 ghost use Rattle.semilinear.specs.Items.{after_atoms};

@@ -1,4 +1,6 @@
 // Stored answers (docs/VECTORS.md): their entries read, results held to them, and the lines printed.
+#![tactic(auto)]
+
 pub mod answer;
 pub mod entry;
 pub mod report;

@@ -1,1 +1,2 @@
 // What recovering, coalescing and flattening give: definitions and laws, without code.
+#![tactic(auto)]

@@ -1,5 +1,7 @@
 // Truth tables on words: bit i of a word is a tree's bit at one place under assignment number i, in
 // which the j-th variable of a list has bit j of i. One walk gives all 64 rows.
+#![tactic(auto)]
+
 pub mod key;
 
 ghost use Rattle.std.specs.Prelude.{◌≡◌, true, ℕ, ◌-◌, ◌^◌, ◌/◌, ◌%◌, ◌<◌, ◌≤◌, length};

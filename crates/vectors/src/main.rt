@@ -1,5 +1,7 @@
 // Replays the vector file on standard input (docs/VECTORS.md): runs the function that each entry
 // names, compares refusal and value with the expected ones, and prints a line for each type.
+#![tactic(auto)]
+
 mod calls;
 mod columns;
 mod lists;

@@ -1,6 +1,8 @@
 // The rows of a form as a pass sees them, in lent words, five to a row: the coefficient, the hash of
 // the basis, where the basis starts and ends in the form, and the mask. A row that is in no group
 // has the end 0. Each atom is split once.
+#![tactic(auto)]
+
 pub mod bases;
 
 ghost use Rattle.std.specs.Prelude.{◌≡◌, ◌+◌, ◌-◌, ◌*◌, ◌≤◌, length, take, drop};
@@ -22,7 +24,7 @@ pub const SHORT_VIEWS: usize = VIEW_WORDS * limits::SHORT_ATOMS;
 pub const LONG_VIEWS: usize = VIEW_WORDS * limits::ATOM_LIMIT;
 
 // The view of a row; the end is 0 where it is in no group.
-#[derive(Drop)]
+#[derive(Clone, Copy)]
 pub struct View {
     pub coeff: u64,
     pub hash: u64,

@@ -12,7 +12,7 @@ use crate::marks;
 use base::limits;
 
 // A coefficient, and the bytes of the file that hold a subtree.
-#[derive(Drop)]
+#[derive(Clone, Copy)]
 pub struct Spot {
     pub coeff: u64,
     pub start: usize,
@@ -21,7 +21,7 @@ pub struct Spot {
 
 // The side of a root with two children that has a variable, where the other side has none: its
 // bytes, its marks, and the other side's value.
-#[derive(Drop)]
+#[derive(Clone, Copy)]
 pub struct Side {
     pub found: bool,
     pub start: usize,

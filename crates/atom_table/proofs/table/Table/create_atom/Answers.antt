@@ -1,0 +1,48 @@
+-- `Table::create_atom` meets its contract: one law of `create_atom` for each return.
+use mathlib.Core.Path.{sym}
+use native.Mathlib.Omega.{arith}
+use Rattle.record.proofs.SizedLaws.{sized_big, sized_length}
+use Rattle.atom_table.specs.Table.{full_table}
+use Rattle.atom_table.proofs.TableLaws.{create_full, create_past, fits_more_count, fits_more_records, created}
+use borrow.Author.Rules.{rules}
+use Rattle.atom_table.proofs.table.Table.create_atom.Goals as goal
+
+
+pub returns-then-self : goal.returns-then-self
+returns-then-self c =
+    let a = c.args in
+    sym (create_full a.w a.t.now a.self a.out.now c.if-self.true)
+
+pub size-size-requires : goal.size-size-requires
+size-size-requires c = sized_big _ c.requires.1
+
+pub returns-then-count-ge-ATOM_LIMIT_U64 : goal.returns-then-count-ge-ATOM_LIMIT_U64
+unfolding full_table
+returns-then-count-ge-ATOM_LIMIT_U64 c =
+    let a = c.args in
+    sym
+    (create_past a.w a.t.now a.self a.out.now c.if-self.false
+    (fits_more_count a.self a.t.now c.if-count-ge-ATOM_LIMIT_U64.true))
+
+pub returns-then-records-size-gt-TREE_RECORD_LIMIT_U64 : goal.returns-then-records-size-gt-TREE_RECORD_LIMIT_U64
+unfolding full_table
+returns-then-records-size-gt-TREE_RECORD_LIMIT_U64 c =
+    let a = c.args in
+    sym
+    (create_past a.w a.t.now a.self a.out.now c.if-self.false
+    (fits_more_records a.self a.t.now (omega (arith, c.if-count-ge-ATOM_LIMIT_U64.false))
+    (omega (arith, c.size-size.ensures.0, c.if-records-size-gt-TREE_RECORD_LIMIT_U64.true))))
+
+pub put_atom-requires : goal.put_atom-requires
+put_atom-requires c =
+    let a = c.args in
+    let pre = c.requires in
+    let n = c.size-size in
+    (omega (arith, sized_length a.t.now pre.1, n.ensures.0, pre.0.place, pre.0.room), pre.1, pre.2)
+
+pub returns : goal.returns
+returns c =
+    let a = c.args in
+    created a.w a.t.now a.self a.out.now c.if-self.false
+    (omega (arith, c.if-count-ge-ATOM_LIMIT_U64.false)) c.size-size.ensures.0
+    (omega (arith, c.if-records-size-gt-TREE_RECORD_LIMIT_U64.false)) c.put_atom.ensures

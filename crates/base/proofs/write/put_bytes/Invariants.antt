@@ -1,0 +1,16 @@
+-- `put_bytes` meets its contract: after i turns the first i bytes of s stand in d.
+use mathlib.Core.Path.{◌≡◌, refl, ◌∙◌}
+use Prim.Native.Nat.{◌+◌, ◌-◌, ◌<◌, ◌≤◌}
+use native.Mathlib.Omega.{arith}
+use native.Mathlib.Numerals.{add-one}
+use lib.ListN.{length, length-set}
+use lib.Seq.{paste, paste-zero, paste-suc}
+use Rattle.base.proofs.PutLaws.{put_all}
+use Rattle.base.proofs.write.put_bytes.Given as goal
+
+
+abbrev pub invariant-loop-i : goal.invariant-loop-i
+invariant-loop-i l = (l.d ≡ paste l.initial.d l.at l.s l.i) × (l.i ≤ length l.s) × (length l.d ≡ length l.initial.d)
+
+abbrev pub decreases-loop-i : goal.decreases-loop-i
+decreases-loop-i l = length l.s - l.i

@@ -1,0 +1,14 @@
+-- `carried_of` meets its contract: the loop keeps what the bits before p carry.
+use Rattle.std.proofs.Common.{◌-◌, ◌≤◌, ◌∙◌, arith}
+use Rattle.carried.specs.Coalescing.{IsCarried}
+use Rattle.carried.proofs.CarriedToLaws.{carried_to, carried_start, to_few, to_below, carried_turn}
+use Rattle.carried.proofs.CarriedToLaws.{carried_done}
+use Rattle.carried.proofs.carried_of.Given as goal
+
+
+abbrev pub invariant-loop-p : goal.invariant-loop-p
+invariant-loop-p l =
+    (l.p ≤ l.w) × IsCarried (carried_to l.w l.coeffs l.masks l.n l.p) l.initial.carried l.initial.bits l.carried l.bits l.count
+
+abbrev pub decreases-loop-p : goal.decreases-loop-p
+decreases-loop-p l = l.w - l.p

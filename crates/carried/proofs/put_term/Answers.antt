@@ -1,0 +1,32 @@
+-- `put_term` meets its contract: the table is full, the term goes to the basis itself, or to a new masked atom.
+use Rattle.std.proofs.Common.{sym, ◌∙◌, arith, rules}
+use Rattle.arith.proofs.WidthLaws.{bitmask_ones}
+use Rattle.record.specs.Decode.{decode}
+use Rattle.carried.proofs.NewTermsLaws.{row_past, coalesced_full, term_bare, term_masked}
+use Rattle.made.proofs.WordsLaws.{is_full, not_full}
+use Rattle.carried.proofs.put_term.Goals as goal
+
+pub returns-then-made-eq1 : goal.returns-then-made-eq1
+returns-then-made-eq1 c =
+    let a = c.args in
+    coalesced_full c.requires.room (is_full a.made.now c.if-made-eq1.true)
+    (λ l. row_past a.w (decode a.b.now) a.c a.m l)
+
+pub returns-then-m-bitmask : goal.returns-then-m-bitmask
+returns-then-m-bitmask c =
+    let at-if2 = c in
+    let at-if1 = at-if2 in
+    let at-start = at-if1 in
+    let a = at-start.args in
+    let hw = at-start.requires.width in
+    term_bare a.w a.c a.m (decode a.b.now) hw (not_full a.made.now at-if1.if-made-eq1.false) _
+    (at-if2.if-m-bitmask.true ∙ at-if2.bitmask.ensures ∙ bitmask_ones a.w hw) c.find_or_create_bare-row.ensures
+    c.add_word.ensures
+
+pub returns : goal.returns
+returns c =
+    let a = c.args in
+    let hw = c.requires.width in
+    let ones = c.bitmask.ensures ∙ bitmask_ones a.w hw in
+    term_masked a.w a.c a.m (decode a.b.now) hw (not_full a.made.now c.if-made-eq1.false)
+    (λ e. c.if-m-bitmask.false (e ∙ sym ones)) c.create_masked.ensures c.add_word-2.ensures

@@ -1,0 +1,15 @@
+-- `same_words` meets its contract: the loop keeps that the words from `i` on decide.
+use Prim.Native.Nat.{◌-◌, ◌≤◌}
+use mathlib.Core.Path.{◌≡◌, refl, sym, ◌∙◌}
+use native.Mathlib.Omega.{arith}
+use lib.ListN.{length, drop}
+use Rattle.base.specs.Lists.{eq_list}
+use Rattle.base.proofs.ListsLaws.{eq_list_lengths, eq_list_differ, eq_list_next, eq_list_end}
+use Rattle.classes.proofs.same_words.Given as goal
+
+
+abbrev pub invariant-loop-i : goal.invariant-loop-i
+invariant-loop-i l = (l.i ≤ length l.a) × (eq_list l.a l.b ≡ eq_list (drop l.i l.a) (drop l.i l.b))
+
+abbrev pub decreases-loop-i : goal.decreases-loop-i
+decreases-loop-i l = length l.a - l.i

@@ -1,0 +1,40 @@
+-- `collect_literal_and` meets its contract: nothing under the coefficient 0, else one atom.
+use mathlib.Core.Path.{sym, ◌∙◌}
+use native.Mathlib.Omega.{arith}
+use borrow.Author.Tests.{ne_eqb}
+use Rattle.expr_refusal.proofs.RefusalLaws.{accepted_big}
+use Rattle.ways.specs.Spans.{span_of}
+use Rattle.ways.proofs.SpanOfLaws.{span_end}
+use Rattle.descent.proofs.PushLaws.{literal_and_zero, literal_and_plain, literal_and_not}
+use borrow.Author.Rules.{rules}
+use Rattle.descent.proofs.collect.Descent.collect_literal_and.Goals as goal
+
+
+pub returns-then-coeff-eq0 : goal.returns-then-coeff-eq0
+returns-then-coeff-eq0 c =
+    literal_and_zero _ _ _ _ c.requires.ready _ _ _ c.if-coeff-eq0.true
+
+pub kind-requires : goal.kind-requires
+unfolding span_of
+kind-requires c =
+    accepted_big _ _ c.requires.span.tree
+
+pub returns-then-kind-ne7 : goal.returns-then-kind-ne7
+unfolding span_of
+returns-then-kind-ne7 c =
+    let at-kind = c in
+    let at-start = at-kind in
+    literal_and_plain _ _ _ _ _ _ at-start.requires.ready _ _ _ _ at-start.requires.span at-start.requires.value_lt
+    (ne_eqb _ 0 at-kind.if-coeff-eq0.false)
+    (λ e. c.if-kind-ne7.true (at-kind.kind.ensures ∙ e)) c.push_spot.ensures
+
+pub overflow_sub-end : goal.overflow_sub-end
+overflow_sub-end c =
+    omega (arith, span_end c.requires.span)
+
+pub returns : goal.returns
+unfolding span_of
+returns c =
+    literal_and_not _ _ _ _ _ _ c.requires.ready _ _ _ _ c.requires.span c.requires.value_lt
+    (ne_eqb _ 0 c.if-coeff-eq0.false) (sym c.kind.ensures ∙ c.if-kind-ne7.false)
+    c.requires.variable c.collect_not.ensures

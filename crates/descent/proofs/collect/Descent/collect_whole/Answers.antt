@@ -1,0 +1,58 @@
+-- `collect_whole` meets its contract: by the root's mark and kind.
+use mathlib.Core.Path.{sym, ◌∙◌}
+use native.Mathlib.Omega.{arith}
+use Rattle.expr_refusal.proofs.RefusalLaws.{accepted_big}
+use Rattle.ways.specs.Spans.{span_of}
+use Rattle.ways.proofs.SideLaws.{spot_some, spot_arith}
+use Rattle.descent.proofs.WholeLaws.{whole_nonlinear, whole_and, whole_atom, is_and, other_kind}
+use Rattle.descent.proofs.PushLaws.{atom_push}
+use Rattle.descent.proofs.CollectsLaws.{collects_as, collects_nonlinear}
+use borrow.Author.Rules.{rules}
+use Rattle.descent.proofs.collect.Descent.collect_whole.Goals as goal
+
+pub kind-k-requires : goal.kind-k-requires
+unfolding span_of
+kind-k-requires c =
+    accepted_big _ _ c.requires.spot.span.tree
+
+pub overflow_sub-last : goal.overflow_sub-last
+overflow_sub-last c =
+    spot_some c.requires.spot
+
+pub bounds-marks-last : goal.bounds-marks-last
+bounds-marks-last c =
+    omega (arith, spot_some c.requires.spot)
+
+pub returns-then-has_arith : goal.returns-then-has_arith
+returns-then-has_arith c =
+    collects_as
+    (whole_nonlinear _ _ _ (spot_arith c.requires.spot c.has_arith.ensures c.if-has_arith.true))
+    (collects_nonlinear _ _ _ _ _ c.requires.ready _ c.not_linear.ensures)
+
+pub collect_and-requires : goal.collect_and-requires
+unfolding span_of
+collect_and-requires c =
+    (
+      c.requires,
+      is_and _ (accepted_big _ _ c.requires.spot.span.tree)
+          (sym c.kind-k.ensures ∙ c.if-k-eq4.true),
+    )
+
+pub returns-then-k-eq4 : goal.returns-then-k-eq4
+unfolding span_of
+returns-then-k-eq4 c =
+    collects_as
+    (whole_and _ _ _ (spot_arith c.requires.spot c.has_arith.ensures c.if-has_arith.false)
+    (is_and _ (accepted_big _ _ c.requires.spot.span.tree) (sym c.kind-k.ensures ∙ c.if-k-eq4.true)))
+    c.collect_and.ensures
+
+pub returns : goal.returns
+unfolding span_of
+returns c =
+    let at-kind = c in
+    let at-start = at-kind in
+    collects_as
+    (whole_atom _ _ _ (spot_arith at-start.requires.spot c.has_arith.ensures c.if-has_arith.false)
+    (other_kind _ (accepted_big _ _ at-start.requires.spot.span.tree)
+    (λ e. c.if-k-eq4.false (at-kind.kind-k.ensures ∙ e))))
+    (atom_push _ _ _ _ _ _ at-start.requires.ready _ _ _ at-start.requires.spot.span c.push_spot.ensures)

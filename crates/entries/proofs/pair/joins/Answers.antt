@@ -1,0 +1,10 @@
+use mathlib.Core.Path.{sym, ◌∙◌}
+use borrow.Author.Rules.{rules}
+use Rattle.base.proofs.BoolLaws.{false_true}
+use Rattle.entries.proofs.pair.joins.Goals as goal
+
+pub returns-in-At : goal.returns-in-At
+returns-in-At c = λ e. false_true (sym e)
+
+pub returns-in-Apart : goal.returns-in-Apart
+returns-in-Apart c = λ _. sym c.pair_at.ensures ∙ c.enum_told-in-Apart-1.given.1

@@ -1,0 +1,23 @@
+use mathlib.Core.Path.{◌≡◌, refl, sym, ap, ◌∙◌}
+use Prim.Native.Nat.{ℕ, ◌+◌, ◌-◌, ◌≤◌, ◌<◌}
+use native.Mathlib.Omega.{arith}
+use borrow.Author.Rules.{rules}
+use borrow.Author.Count.{below_more}
+use lib.ListN.{get_or}
+use Rattle.base.proofs.BoolLaws.{false_true}
+use Rattle.entries.specs.Tests.{cut_of}
+use Rattle.entries.proofs.single.any_cut.Goals as goal
+
+pub loop-i-init : goal.loop-i-init
+loop-i-init c = (omega arith, λ k l. absurd (omega arith))
+
+pub returns-then-cut_of-masks : goal.returns-then-cut_of-masks
+returns-then-cut_of-masks c = λ e. false_true (sym e)
+
+pub loop-i-preserved : goal.loop-i-preserved
+loop-i-preserved c =
+    let h = c.loop-i in
+    (omega arith, below_more _ h.i h.invariant.1 (sym c.cut_of.ensures ∙ c.if-cut_of-masks.false))
+
+pub returns : goal.returns
+returns c = λ _ k l. c.loop-i.invariant.1 k (omega arith)

@@ -1,0 +1,18 @@
+use mathlib.Core.Path.{◌≡◌, refl, sym, ap, ◌∙◌}
+use Prim.Native.Nat.{ℕ, ◌+◌, ◌-◌, ◌≤◌, ◌<◌}
+use native.Mathlib.Omega.{arith}
+use borrow.Author.Rules.{rules}
+use borrow.Author.Count.{below_more}
+use lib.ListN.{get_or}
+use Rattle.base.proofs.BoolLaws.{false_true}
+use Rattle.entries.specs.Tests.{cut_of}
+use Rattle.entries.proofs.single.any_cut.Given as goal
+
+
+abbrev pub invariant-loop-i : goal.invariant-loop-i
+invariant-loop-i l =
+    (l.i ≤ l.n)
+    × ((k : ℕ) → k < l.i → cut_of (get_or l.marks k 0) (get_or l.coeffs k 0) (get_or l.masks k 0) l.w ≡ get_or l.masks k 0)
+
+abbrev pub decreases-loop-i : goal.decreases-loop-i
+decreases-loop-i l = l.n - l.i

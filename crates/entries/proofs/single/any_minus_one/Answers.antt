@@ -1,0 +1,23 @@
+use mathlib.Core.Path.{◌≡◌, sym, ◌∙◌}
+use mathlib.Core.Bool.{false}
+use Prim.Native.Nat.{ℕ, ◌-◌, ◌≤◌, ◌<◌}
+use native.Mathlib.Omega.{arith}
+use borrow.Author.Count.{below_more}
+use lib.ListN.{get_or}
+use Rattle.base.proofs.BoolLaws.{false_true}
+use Rattle.entries.specs.Tests.{becomes_minus_one}
+use Rattle.entries.proofs.single.any_minus_one.Goals as goal
+
+pub loop-i-init : goal.loop-i-init
+loop-i-init c = (omega arith, λ k l. absurd (omega arith))
+
+pub returns-then-becomes_minus_one : goal.returns-then-becomes_minus_one
+returns-then-becomes_minus_one c = λ e. false_true (sym e)
+
+pub loop-i-preserved : goal.loop-i-preserved
+loop-i-preserved c =
+    let h = c.loop-i in
+    (omega arith, below_more _ h.i h.invariant.1 (sym c.becomes_minus_one.ensures ∙ c.if-becomes_minus_one.false))
+
+pub returns : goal.returns
+returns c = λ _ k l. c.loop-i.invariant.1 k (omega arith)

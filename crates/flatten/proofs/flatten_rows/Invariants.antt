@@ -1,0 +1,18 @@
+-- `flatten_rows` meets its contract: the loop keeps that the rows before `at` are flattened.
+use mathlib.Core.Path.{refl, ap, sym, ◌∙◌}
+use Prim.Native.Nat.{ℕ, ◌-◌}
+use native.Mathlib.Omega.{arith}
+use lib.ListN.{length, get_or, length-replicate}
+use borrow.Author.Tests.{not-true, not-false}
+use Rattle.semilinear.specs.Items.{is_atom}
+use Rattle.semilinear.proofs.ValidLaws.{front_parts}
+use Rattle.flatten.proofs.FlatWalkLaws.{Walked, walked_start, walked_number, walked_row, walked_end}
+use Rattle.flatten.proofs.flatten_rows.Given as goal
+
+
+abbrev pub invariant-loop-x : goal.invariant-loop-x
+invariant-loop-x l =
+    Walked l.w l.f (get_or l.initial.made 5 0) (length l.initial.out) l.x l.made l.out l.coeffs
+
+abbrev pub decreases-loop-x : goal.decreases-loop-x
+decreases-loop-x l = length l.f - l.x.at

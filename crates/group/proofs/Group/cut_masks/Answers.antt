@@ -1,0 +1,52 @@
+use mathlib.Core.Logic.{⊎_elim}
+use mathlib.Core.Path.{◌≡◌, refl, sym, ap, ◌∙◌}
+use Prim.Native.Nat.{ℕ, ◌+◌, ◌-◌, ◌≤◌}
+use native.Mathlib.Omega.{arith}
+use lib.ListN.{length}
+use Rattle.record.specs.Decode.{decode}
+use Rattle.made.proofs.WordsLaws.{makes_later}
+use Rattle.base.specs.Loop.{for_in}
+use Rattle.group.specs.Steps.{cut_at}
+use Rattle.group.specs.Made.{Stepped}
+use Rattle.group.proofs.SteppedLaws.{loop_none, loop_turn, loop_done}
+use Rattle.group.proofs.CutLaws.{turn_same, turn_cut, cut_loop}
+use Rattle.group.proofs.Group.cut_masks.Goals as goal
+
+pub loop-i-init : goal.loop-i-init
+loop-i-init c = (omega arith, loop_none _ 0 c.requires.makes.room)
+
+pub bounds-made-4 : goal.bounds-made-4
+bounds-made-4 c = omega (arith, c.loop-i.invariant.1.room.words)
+
+pub create_masked-requires : goal.create_masked-requires
+create_masked-requires c =
+    let h = c.loop-i.invariant in
+    let pre = c.requires in
+    makes_later pre.makes h.1.room (omega (arith, h.1.later.rows_le))
+
+pub loop-i-preserved : goal.loop-i-preserved
+loop-i-preserved c =
+    let h = c.loop-i in
+    let t = decode c.args.b.now in
+    let cut = c.cut_of-cut.ensures in (
+      omega arith,
+      loop_turn (cut_at c.args.w t) 0 h.i (omega arith) h.invariant.1
+          (⊎_elim
+          (λ k. turn_cut t h.i cut k.0.taken k.4.ensures k.9 k.10 k.11)
+          (λ k. turn_same t h.i cut k.0.left h.invariant.1.room k.1 k.2 k.3)
+          c.if-cut-m.branch)
+          (omega arith),
+    )
+
+pub shape_of-made : goal.shape_of-made
+shape_of-made c = c.loop-i.invariant.1.room.words ∙ sym c.requires.makes.room.words
+
+pub shape_of-out : goal.shape_of-out
+shape_of-out c = c.loop-i.invariant.1.long
+
+pub returns : goal.returns
+returns c =
+    let h = c.loop-i in
+    let a = c.args in
+    let t = decode a.b.now in
+    cut_loop t (loop_done (cut_at a.w t) 0 h.i _ (omega arith) (omega arith) (omega arith) h.invariant.1)

@@ -1,0 +1,22 @@
+use mathlib.Core.Logic.{⊎_elim}
+use mathlib.Core.Path.{◌≡◌, refl, sym, ap, ◌∙◌}
+use Prim.Native.Nat.{ℕ, ◌+◌, ◌-◌, ◌≤◌}
+use native.Mathlib.Omega.{arith}
+use lib.ListN.{length}
+use Rattle.record.specs.Decode.{decode}
+use Rattle.made.proofs.WordsLaws.{makes_later}
+use Rattle.base.specs.Loop.{for_in}
+use Rattle.group.specs.Steps.{cut_at}
+use Rattle.group.specs.Made.{Stepped}
+use Rattle.group.proofs.SteppedLaws.{loop_none, loop_turn, loop_done}
+use Rattle.group.proofs.CutLaws.{turn_same, turn_cut, cut_loop}
+use Rattle.group.proofs.Group.cut_masks.Given as goal
+
+
+abbrev pub invariant-loop-i : goal.invariant-loop-i
+invariant-loop-i l =
+    (l.i ≤ l.n)
+    × Stepped l.w l.i (for_in (cut_at l.w (decode l.b)) 0 l.i) l.initial.self l.initial.made l.initial.out l.self l.made l.out
+
+abbrev pub decreases-loop-i : goal.decreases-loop-i
+decreases-loop-i l = l.n - l.i

@@ -1,0 +1,29 @@
+use mathlib.Core.Path.{◌≡◌, sym, ◌∙◌}
+use mathlib.Core.Logic.{⊎_elim}
+use Prim.Native.Nat.{ℕ, ◌+◌, ◌-◌, ◌≤◌, ◌<◌}
+use native.Mathlib.Omega.{arith}
+use Rattle.base.specs.Loop.{for_in}
+use Rattle.base.proofs.LoopLaws.{for_none, for_turn, for_done}
+use Rattle.group.specs.Steps.{drop_at, drop_zero}
+use Rattle.group.proofs.DropLaws.{drop_at_same, drop_at_drop}
+use Rattle.group.proofs.Group.drop_zero.Goals as goal
+
+pub loop-i-init : goal.loop-i-init
+loop-i-init c = (omega arith, sym (for_none _ 0 0 _ (omega arith)))
+
+pub loop-i-preserved : goal.loop-i-preserved
+loop-i-preserved c =
+    let h = c.loop-i in
+    let w = c.args.w in
+    let test = c.drops.ensures in (
+      omega arith,
+      for_turn (drop_at w) h.i _ h.invariant.1
+          (⊎_elim
+          (λ k. k.1 ∙ sym (drop_at_drop w h.i h.self (sym test ∙ k.0.taken)))
+          (λ k. k.1 ∙ sym (drop_at_same w h.i h.self (sym test ∙ k.0.left)))
+          c.if-drops.branch),
+    )
+
+pub returns : goal.returns
+unfolding drop_zero
+returns c = for_done (drop_at c.args.w) _ (omega arith) (omega arith) c.loop-i.invariant.1

@@ -1,0 +1,20 @@
+-- `Group::gather` meets its contract: the loop keeps the entries of the rows before i.
+use mathlib.Core.Path.{◌≡◌, sym, ◌∙◌}
+use mathlib.Core.Logic.{⊎_elim}
+use Prim.Native.Nat.{◌-◌, ◌≤◌}
+use native.Mathlib.Omega.{arith}
+use Rattle.base.specs.Loop.{for_in}
+use Rattle.base.proofs.LoopLaws.{for_none, for_turn, for_done}
+use Rattle.group.specs.Group.{empty_group, push_entry}
+use Rattle.views.specs.Views.{view_at}
+use Rattle.group.specs.Gathered.{gather_at, gathered}
+use Rattle.views.proofs.HasBasisLaws.{readable_fewer}
+use Rattle.group.proofs.GatherLaws.{gather_same, gather_push, few_entries}
+use Rattle.group.proofs.Group.gather.Given as goal
+
+
+abbrev pub invariant-loop-i : goal.invariant-loop-i
+invariant-loop-i l = (l.i ≤ l.n) × (l.g ≡ for_in (gather_at l.f l.views l.hash l.b) 0 l.i empty_group)
+
+abbrev pub decreases-loop-i : goal.decreases-loop-i
+decreases-loop-i l = l.n - l.i

@@ -1,0 +1,6 @@
+-- The count of classes is handed over.
+use borrow.Author.Rules.{rules}
+use Rattle.hogzelt.proofs.hogzelt_compute_partitions.Goals as goal
+
+pub returns : goal.returns
+returns c = c.compute_partitions-found.ensures

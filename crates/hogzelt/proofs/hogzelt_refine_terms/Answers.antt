@@ -1,0 +1,7 @@
+-- The first two numbers of the answer are handed over.
+use Rattle.semilinear.proofs.OutcomeLaws.{gives_two}
+use borrow.Author.Rules.{rules}
+use Rattle.hogzelt.proofs.hogzelt_refine_terms.Goals as goal
+
+pub returns : goal.returns
+returns c = gives_two _ _ _ _ _ _ _ c.refine_terms-refined.ensures

@@ -1,0 +1,14 @@
+-- The first two numbers of the answer are handed over, and spare is cleared.
+use mathlib.Core.Path.{ap, ◌∙◌}
+use Prim.Native.Nat.{ℕ}
+use lib.ListN.{replicate}
+use Rattle.semilinear.proofs.OutcomeLaws.{gives_two}
+use borrow.Author.Rules.{rules}
+use Rattle.hogzelt.proofs.hogzelt_run_passes.Goals as goal
+
+pub returns : goal.returns
+returns c =
+    let run = c.run_passes-ran in (
+      gives_two _ _ _ _ _ _ _ run.ensures,
+      c.clear.ensures ∙ ap (λ (n : ℕ). replicate n 0) run.auto.1.1.1.0,
+    )

@@ -1,0 +1,195 @@
+-- `fold_literals` meets its contract: a literal, a leaf as it stands, or the root behind its folded children. What is
+-- known of a root that is no literal, and of its children, is said once for the state after which it is known; for the
+-- last child that is a state after the ways meet, the one by the left child and the one past it.
+use mathlib.Core.Path.{refl, ap, sym, ◌∙◌}
+use Prim.Native.Nat.{ℕ, ◌<◌}
+use native.Mathlib.Omega.{arith}
+use mathlib.Core.Bool.{Bool, ◌||◌}
+use mathlib.Core.Logic.{⊎_elim}
+use lib.Dec.{lit<}
+use lib.Seq.{length-take-le}
+use borrow.Author.Rules.{rules}
+use Rattle.record.specs.Fields.{size}
+use Rattle.expr_refusal.proofs.RefusalLaws.{accepted_root}
+use Rattle.rules_laws.specs.Rules.{is_bitwise}
+use Rattle.literals.proofs.FoldingLaws.{mark_folded}
+use Rattle.literals.proofs.RootLaws.{whole, span_big, marks_some, record_room}
+use Rattle.literals.proofs.RootLaws.{folded_literal, folded_leaf, Kept}
+use Rattle.literals.proofs.TwoChildrenLaws.{TwoChildren, number_le, left_falls, left_room}
+use Rattle.literals.proofs.LastChildLaws.{arity_one, last_whole, LastChild, last_one, last_two, last_met}
+use Rattle.literals.proofs.+fold_literals.Goals as goal
+use Rattle.literals.proofs.+fold_literals.Goals.{After-either-deeper, After-left, After-right}
+
+pub overflow_sub-last : goal.overflow_sub-last
+overflow_sub-last t c = marks_some c.requires.1
+
+pub bounds-marks-last : goal.bounds-marks-last
+bounds-marks-last t c = omega (arith, marks_some c.requires.1)
+
+pub constant_value-v-requires : goal.constant_value-v-requires
+constant_value-v-requires t c =
+    let room = c.requires.1 in
+    (whole room, omega (arith, (accepted_root _ _ room.accepted).width_le))
+
+pub put_record-requires : goal.put_record-requires
+put_record-requires t c =
+    (record_room c.requires.1, lit< tt)
+
+pub overflow_add-result : goal.overflow_add-result
+overflow_add-result t c =
+    omega (arith, record_room c.requires.1)
+
+pub returns-then-is_literal : goal.returns-then-is_literal
+returns-then-is_literal t c =
+    let room = c.requires.1 in
+    folded_literal room (mark_folded _ _ room.marked c.is_literal.ensures c.if-is_literal.true)
+    c.constant_value-v.ensures c.put_record.ensures
+
+pub root_arity-children-requires : goal.root_arity-children-requires
+root_arity-children-requires t c = span_big c.requires.1
+
+pub put_bytes-requires : goal.put_bytes-requires
+put_bytes-requires t c =
+    c.requires.1.room
+
+pub overflow_add-result-then-children-eq0 : goal.overflow_add-result-then-children-eq0
+overflow_add-result-then-children-eq0 t c =
+    omega (arith, record_room c.requires.1)
+
+pub returns-then-children-eq0 : goal.returns-then-children-eq0
+returns-then-children-eq0 t c =
+    let at-known = c in
+    let room = at-known.requires.1 in
+    folded_leaf room (λ i. (at-known.shared_slice_known-1.given i).fits)
+    (mark_folded _ _ room.marked c.is_literal.ensures c.if-is_literal.false)
+    (sym c.root_arity-children.ensures ∙ c.if-children-eq0.true) c.put_bytes.ensures
+
+pub kind-requires : goal.kind-requires
+kind-requires t c =
+    span_big c.requires.1
+
+-- where the function starts, from the state after which `deeper` is known
+abbrev start : (t : ℕ) → fold-literals-lts.After-either (claims t) (fold_literals_at t) fold-literals.Post
+    → fold-literals-lts.Start (claims t) (fold_literals_at t) fold-literals.Post
+start t c = c.before.before.before.before.before.before.before.before.before.before.before
+
+-- a root that is no literal
+kept : (t : ℕ) (c : After-either-deeper)
+    → let args = (start t c).args in
+    Kept args.w args.t.now args.marks.now args.at args.out.now args.below c.either-deeper.result
+kept t c =
+    let at-bitwise = c.before in
+    let at-kind = at-bitwise.before in
+    let at-if1 = at-kind.before.before.before in
+    let room = (start t c).requires.1 in
+    record {
+      room = room;
+      off = mark_folded _ _ room.marked at-if1.before.is_literal.ensures at-if1.if1.false;
+      deeper_is =
+          c.either.ensures
+          ∙ ap (λ (x : Bool). (start t c).args.below || x)
+          (at-bitwise.is_bitwise.ensures ∙ ap is_bitwise at-kind.kind.ensures);
+    }
+
+pub number_of-number-requires : goal.number_of-number-requires
+number_of-number-requires t c =
+    last_whole _ (whole (start t c).requires.1) c.root_arity-children.ensures c.if-children-eq0.false
+    c.cut.ensures.0
+
+-- one that has two children
+two_children : (t : ℕ) (c : After-left)
+    → let at-number = c in
+    let at-either = at-number in
+    let args = (start t at-either).args in
+    TwoChildren args.w args.t.now args.marks.now args.at args.out.now args.below
+    at-either.either-deeper.result c.left.result.now at-number.number_of-number.result
+two_children t c =
+    let at-number = c.before in
+    let at-if3 = at-number.before.before in
+    let at-either = at-if3.before in
+    record {
+      kept = kept t.before.before.before.before at-either;
+      two = sym at-either.before.before.before.before.root_arity.ensures ∙ at-if3.if3.true;
+      number_is = at-number.number_of_lem.ensures ∙ at-number.before.cut.ensures.0;
+      child = c.left.ensures;
+    }
+
+pub slice_bounds-fold_literals-end : goal.slice_bounds-fold_literals-end
+slice_bounds-fold_literals-end t c =
+    sym (length-take-le _ _ (omega (arith, number_le (two_children t c))))
+
+pub fold_literals-middle-requires : goal.fold_literals-middle-requires
+fold_literals-middle-requires t c =
+    let two = two_children t c in
+    (omega (arith, left_falls two, (start t c).pre.0), left_room two refl)
+
+pub number_of-number-requires-2 : goal.number_of-number-requires-2
+number_of-number-requires-2 t c =
+    last_whole _ (whole (start t c).requires.1) c.root_arity-children.ensures c.if-children-eq0.false
+    c.cut-2.ensures.0
+
+-- the last child, the left one folded or not there
+last_child_lem : (t : ℕ) (c : After-right)
+    → let at-number = c in
+    let met = at-number in
+    let at-either = met in
+    let args = (start t at-either).args in
+    LastChild args.w args.t.now args.marks.now args.at args.out.now args.below
+    at-either.either-deeper.result c.right.result.now at-number.number_of-number-2.result met.if-children-eq2.out
+    met.if-children-eq2.middle
+last_child_lem t c =
+    let at-number = c.before in
+    let met = at-number.before.before in
+    let at-either = met.before in
+    let at-if2 = at-either.before.before.before in
+    let arity = at-if2.before.root_arity.ensures in
+    let number_is = at-number.number_of2.ensures ∙ at-number.before.cut2.ensures.0 in
+    let right = c.right.ensures in
+    ⊎_elim
+    (λ k. last_met k.9 k.10
+    (last_two
+    (record {
+      kept = kept t.before.before.before.before at-either;
+      two = sym arity ∙ k.0.taken;
+      number_is = number_is;
+      child = k.3.ensures;
+    })
+    k.6.ensures right))
+    (λ k. last_met k.1 k.2
+    (last_one
+    (record {
+      kept = kept t.before.before.before.before at-either;
+      one = arity_one _ (λ e. at-if2.if2.false (arity ∙ e)) (λ e. k.0.left (arity ∙ e));
+      number_is = number_is;
+      child = right;
+    })))
+    met.if3.branch
+
+pub slice_bounds-fold_literals-count : goal.slice_bounds-fold_literals-count
+slice_bounds-fold_literals-count t c = (last_child_lem t c).count_le
+
+pub fold_literals-end-requires : goal.fold_literals-end-requires
+fold_literals-end-requires t c =
+    let last = last_child_lem t c in
+    (omega (arith, last.falls, (start t c).pre.0), last.room _ _ refl refl)
+
+pub kind-requires-2 : goal.kind-requires-2
+kind-requires-2 t c =
+    span_big (start t c).pre.1
+
+pub byte1-requires : goal.byte1-requires
+byte1-requires t c =
+    span_big (start t c).pre.1
+
+pub put_root-requires : goal.put_root-requires
+put_root-requires t c =
+    (last_child_lem t c).root _ _ c.fold_literals-end.ensures
+
+pub shape_of-out : goal.shape_of-out
+shape_of-out t c =
+    omega (arith, (last_child_lem t c).long)
+
+pub returns : goal.returns
+returns t c =
+    (last_child_lem t c).folded _ _ c.fold_literals-end.ensures _ _
+    c.kind-2.ensures c.byte1.ensures _ _ c.put_root.ensures

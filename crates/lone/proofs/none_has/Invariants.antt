@@ -1,0 +1,17 @@
+-- `none_has` meets its contract: no row before i has the basis.
+use mathlib.Core.Path.{◌≡◌, sym, ◌∙◌}
+use mathlib.Core.Bool.{false}
+use Prim.Native.Nat.{ℕ, ◌-◌, ◌≤◌, ◌<◌}
+use native.Mathlib.Omega.{arith}
+use Rattle.base.proofs.BoolLaws.{false_true}
+use Rattle.views.specs.Views.{view_at, has_basis}
+use Rattle.views.proofs.HasBasisLaws.{readable_fewer}
+use Rattle.lone.proofs.LoneLaws.{from_more}
+use Rattle.lone.proofs.none_has.Given as goal
+
+
+abbrev pub invariant-loop-i : goal.invariant-loop-i
+invariant-loop-i l = (k : ℕ) → l.a ≤ k → k < l.i → has_basis l.f (view_at l.views k) l.hash l.b ≡ false
+
+abbrev pub decreases-loop-i : goal.decreases-loop-i
+decreases-loop-i l = l.n - l.i

@@ -1,0 +1,8 @@
+use mathlib.Core.Path.{refl}
+use Rattle.made.specs.Made.{table_of}
+use borrow.Author.Rules.{rules}
+use Rattle.made.proofs.load.Goals as goal
+
+pub returns : goal.returns
+unfolding table_of
+returns c = refl

@@ -1,0 +1,17 @@
+-- `atom_words` meets its contract: an atom with a shift, one with too many variables, one with a table.
+use Rattle.profile.proofs.AtomWordsLaws.{words_shift, words_many, words_few}
+use borrow.Author.Rules.{rules}
+use Rattle.profile.proofs.index.atom_words.Goals as goal
+
+pub returns-then-has_shift : goal.returns-then-has_shift
+returns-then-has_shift c = words_shift _ _ c.has_shift.ensures c.if-has_shift.true
+
+pub returns-then-n-gt-COLUMN_VARS : goal.returns-then-n-gt-COLUMN_VARS
+returns-then-n-gt-COLUMN_VARS c =
+    words_many _ _ c.collect_vars.ensures c.place_of-n.ensures c.if-n-gt-COLUMN_VARS.true
+
+pub returns : goal.returns
+returns c =
+    words_few _ _ c.collect_vars.ensures c.place_of-n.ensures
+    c.has_shift.ensures c.if-has_shift.false c.if-n-gt-COLUMN_VARS.false c.edges_of-edges.ensures
+    c.bitmask-rows.ensures

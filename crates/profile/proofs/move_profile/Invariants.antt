@@ -1,0 +1,18 @@
+-- `move_profile` meets its contract: the loop keeps that the words before i were moved and the others are as they were.
+use Prim.Native.Nat.{ℕ, ◌-◌, ◌≤◌, ◌<◌}
+use mathlib.Core.Logic.{⊎_elim}
+use Rattle.arith.specs.Bit.{bit_at}
+use Rattle.profile.proofs.AtomWordsLaws.{index_edges}
+use mathlib.Core.Path.{ap, sym, ◌∙◌}
+use native.Mathlib.Omega.{arith}
+use lib.ListN.{length}
+use Rattle.profile.proofs.MoveLaws.{Moving, moving_none, moving_all, moving_edge, moving_still}
+use Rattle.profile.proofs.move_profile.Given as goal
+
+
+abbrev pub invariant-loop-i : goal.invariant-loop-i
+invariant-loop-i l =
+    (l.i ≤ length l.initial.profile) × Moving l.f l.w l.p l.initial.profile l.profile l.i
+
+abbrev pub decreases-loop-i : goal.decreases-loop-i
+decreases-loop-i l = length l.initial.profile - l.i

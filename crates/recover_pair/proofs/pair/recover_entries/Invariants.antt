@@ -1,0 +1,19 @@
+-- `recover_entries` meets its contract: after i turns i entries have looked; a full table ends the loop.
+use mathlib.Core.Path.{◌≡◌, refl, sym, ◌∙◌}
+use Prim.Native.Nat.{◌-◌, ◌≤◌}
+use native.Mathlib.Omega.{arith}
+use Rattle.record.specs.Decode.{decode}
+use Rattle.base.specs.Loop.{for_in}
+use Rattle.structure_laws.specs.RecoverStructure.{recover_at}
+use Rattle.pairing.specs.Recovering.{Recovered}
+use Rattle.made.proofs.WordsLaws.{is_full, not_full, makes_later}
+use Rattle.pairing.proofs.RecoveredLaws.{recovered_start, recovered_turn, recovered_stop, recovered_done}
+use Rattle.recover_pair.proofs.pair.recover_entries.Given as goal
+
+
+abbrev pub invariant-loop-i : goal.invariant-loop-i
+invariant-loop-i l =
+    (l.i ≤ l.n) × (l.n ≡ l.initial.g.len) × Recovered l.w l.i (for_in (recover_at l.w (decode l.b)) 0 l.i) l.initial.g l.initial.made l.initial.out l.g l.made l.out
+
+abbrev pub decreases-loop-i : goal.decreases-loop-i
+decreases-loop-i l = l.n - l.i

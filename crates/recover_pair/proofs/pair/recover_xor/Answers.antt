@@ -1,0 +1,15 @@
+-- `recover_xor` meets its contract: the group as it is stored, a new row, and the constant with its share.
+use mathlib.Core.Path.{refl, ◌∙◌}
+use Rattle.arith.proofs.WidthLaws.{bitmask_ones}
+use Rattle.record.specs.Decode.{decode}
+use Rattle.recover_pair.proofs.TurnedLaws.{xor_turned}
+use borrow.Author.Rules.{rules}
+use Rattle.recover_pair.proofs.pair.recover_xor.Goals as goal
+
+pub returns : goal.returns
+returns c =
+    let at-bitmask = c in
+    let at-start = at-bitmask in
+    let a = at-start.args in let pre = at-start.requires in xor_turned a.w (decode a.b.now) a.src a.dst pre.apart
+    (at-bitmask.bitmask.ensures ∙ bitmask_ones a.w pre.width) c.create_xored.ensures c.mod_mul.ensures
+    c.add_constant.ensures refl

@@ -1,0 +1,129 @@
+-- `refine_group` meets its contract: after each stage, taken or not, the group, the words and the bytes are those of the
+-- stages so far; the end settles the group.
+use mathlib.Core.Path.{◌≡◌, refl, sym, ◌∙◌}
+use mathlib.Core.Logic.{⊎_elim}
+use native.Mathlib.Omega.{arith}
+use borrow.Author.Rules.{rules}
+use Rattle.record.specs.Decode.{decode}
+use Rattle.made.proofs.WordsLaws.{makes_fewer, makes_later}
+use Rattle.group.specs.Made.{Stepped}
+use Rattle.group.specs.Stages.{cut_and_drop, merge_all}
+use Rattle.group.proofs.SteppedLaws.{stepped_then, stepped_met}
+use Rattle.group.proofs.StagesLaws.{single_none, merge_none}
+use Rattle.collapse_search.proofs.CollapseMetLaws.{three_collapsible, collapse_same, collapse_met}
+use Rattle.refine_group.proofs.RefiningLaws.{no_merge_at, found_at, merged, collapsed, group_refined}
+use Rattle.group.proofs.PassLaws.{few_entries}
+use Rattle.refine_group.proofs.refine_group.Goals as goal
+use Rattle.refine_group.proofs.refine_group.Goals.{After-gather-g, Joined-any_merge, Joined-any_single, Joined-i-len, Start}
+
+abbrev gather2 : Joined-any_merge → After-gather-g
+gather2 c = gather1 c
+
+abbrev gather3 : Joined-i-len → After-gather-g
+gather3 c = gather2 c
+
+abbrev begin2 : Joined-any_merge → Start
+begin2 c = begin1 c
+
+abbrev begin3 : Joined-i-len → Start
+begin3 c = begin2 c
+
+-- the stages so far, taken or not
+joined1 : (c : Joined-any_single)
+    → Stepped c.args.w 256 (cut_and_drop c.args.w (decode c.args.b.now))
+    c.gather-g.result c.args.made.now c.args.out.now c.if-any_single.g c.if-any_single.made
+    c.if-any_single.out
+joined1 c =
+    ⊎_elim (λ k. stepped_met k.8 k.9 k.10 k.3.ensures)
+    (λ k. stepped_met k.1 k.2 k.3
+    (single_none _ (c.any_single.ensures k.0.left) c.requires.makes.room))
+    c.if-any_single.branch
+
+joined2 : (c : Joined-any_merge)
+    → Stepped (begin2 c).args.w 196864 (merged (begin2 c).args.w (decode (begin2 c).args.b.now))
+    (gather2 c).gather.result (begin2 c).args.made.now (begin2 c).args.out.now c.if-any_merge.g c.if-any_merge.made
+    c.if-any_merge.out
+joined2 c =
+    let one = joined1 c in
+    stepped_then one
+    (⊎_elim (λ k. stepped_met k.8 k.9 k.10 k.3.ensures)
+    (λ k. stepped_met k.1 k.2 k.3
+    (merge_none _ (no_merge_at c.if-any_single.g (sym one.len) (c.any_merge.ensures k.0.left))
+    one.room))
+    c.if-any_merge.branch)
+
+joined3 : (c : Joined-i-len)
+    → Stepped (begin3 c).args.w 196866 (collapsed (begin3 c).args.w (decode (begin3 c).args.b.now))
+    (gather3 c).gather.result (begin3 c).args.made.now (begin3 c).args.out.now c.if-i-len.g c.if-i-len.made
+    c.if-i-len.out
+joined3 c =
+    let two = joined2 c in
+    let found = found_at c.if-any_merge.g (sym two.len) c.find_three-found.ensures in
+    stepped_then two
+    (⊎_elim
+    (λ k. collapse_met _ found (omega (arith, k.0.taken, two.len)) k.3.ensures k.8 k.9 k.10)
+    (λ k. collapse_same _ found (omega (arith, k.0.left, two.len)) two.room k.1 k.2 k.3)
+    c.if-i-len.branch)
+
+pub any_single-requires : goal.any_single-requires
+any_single-requires c =
+    few_entries _ _ _ _ _ c.gather-g.ensures c.requires.few
+
+pub cut_and_drop-g-requires : goal.cut_and_drop-g-requires
+cut_and_drop-g-requires c =
+    let pre = c.requires in
+    record {
+      makes = makes_fewer pre.makes (omega arith);
+      few = few_entries _ _ _ _ _ c.gather-g.ensures pre.few;
+    }
+
+pub any_merge-requires : goal.any_merge-requires
+any_merge-requires c =
+    let pre = c.requires in
+    (few_entries _ _ _ _ _ c.gather-g.ensures pre.few, pre.makes.width)
+
+pub merge_all-g-requires : goal.merge_all-g-requires
+merge_all-g-requires c =
+    let pre = c.requires in
+    let one = joined1 c in
+    let few = few_entries _ _ _ _ _ c.gather-g.ensures pre.few in
+    record {
+      makes = makes_later pre.makes one.room (omega (arith, one.later.rows_le));
+      few = omega (arith, one.len, few);
+    }
+
+pub find_three-found-requires : goal.find_three-found-requires
+find_three-found-requires c =
+    few_entries _ _ _ _ _ (gather2 c.before.before.before).gather.ensures (begin2 c.before.before.before).requires.few
+
+pub collapse-g-requires : goal.collapse-g-requires
+collapse-g-requires c =
+    let pre = (begin2 c.before.before.before.before.before.before.before).requires in
+    let two = joined2 c in
+    let found = found_at c.if-any_merge.g (sym two.len) c.find_three-found.ensures in
+    let three = three_collapsible found (omega (arith, c.if-i-len.true, two.len)) in
+    let few = few_entries _ _ _ _ _ (gather2 c.before.before.before.before.before.before.before).gather.ensures pre.few in
+    record {
+      makes = makes_later pre.makes two.room (omega (arith, two.later.rows_le));
+      i_lt = omega (arith, three.i_lt, two.len, few);
+      j_lt = omega (arith, three.j_lt, two.len, few);
+      k_lt = omega (arith, three.k_lt, two.len, few);
+      k_not_i = three.k_not_i;
+      k_not_j = three.k_not_j;
+    }
+
+pub settle-requires : goal.settle-requires
+settle-requires c =
+    few_entries _ _ _ _ _ (gather3 c.before.before.before.before).gather.ensures (begin3 c.before.before.before.before).requires.few
+
+pub shape_of-made : goal.shape_of-made
+shape_of-made c =
+    (joined3 c.before.before.before.before.before.before.before).room.words ∙ sym (begin3 c.before.before.before.before.before.before.before).requires.makes.room.words
+
+pub shape_of-out : goal.shape_of-out
+shape_of-out c = (joined3 c.before.before.before.before.before.before.before).long
+
+pub returns : goal.returns
+returns c =
+    group_refined _ (begin3 c.before.before.before.before.before.before.before).requires.makes.width (omega arith) (joined3 c.before.before.before.before.before.before.before) _ refl c.settle.ensures
+    (gather3 c.before.before.before.before.before.before.before).gather.ensures

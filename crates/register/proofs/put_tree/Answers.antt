@@ -1,0 +1,35 @@
+-- `put_tree` meets its contract: the tree alone, or with the records of the literal and the And behind it.
+use native.Mathlib.Omega.{arith}
+use Rattle.record.proofs.SizedLaws.{sized_length}
+use Rattle.expr_refusal.proofs.RefusalLaws.{accepted_big, sized_accepted}
+use Rattle.register.proofs.BuiltLaws.{built_plain, built_masked}
+use borrow.Author.Rules.{rules}
+use Rattle.register.proofs.put_tree.Goals as goal
+
+pub returns-then-masked-eq0 : goal.returns-then-masked-eq0
+returns-then-masked-eq0 c =
+    let at-shared-slice-known = c in
+    let at-start = at-shared-slice-known in
+    built_plain at-start.args.w at-start.args.t.now
+    (λ i. (at-shared-slice-known.shared_slice_known-1.given i).fits)
+    at-start.requires.accepted at-start.args.literal c.if-masked-eq0.true (omega (arith, at-start.requires.room))
+    c.put_bytes.ensures
+
+pub size-requires : goal.size-requires
+size-requires c =
+    accepted_big _ _ c.requires.accepted
+
+pub put_record-requires-2 : goal.put_record-requires-2
+put_record-requires-2 c =
+    let n = sized_length c.args.t.now (sized_accepted _ _ c.requires.accepted) in
+    (search rules, omega (arith, n, c.requires.long, c.size.ensures.0))
+
+pub returns : goal.returns
+returns c =
+    let at-shared-slice-known = c in
+    let at-start = at-shared-slice-known in
+    built_masked at-start.args.w at-start.args.t.now
+    (λ i. (at-shared-slice-known.shared_slice_known-1.given i).fits)
+    at-start.requires.accepted at-start.args.literal at-start.requires.literal_lt c.if-masked-eq0.false
+    at-start.requires.room c.size.ensures.0 c.put_bytes.ensures c.put_record.ensures
+    c.put_record-2.ensures

@@ -1,0 +1,19 @@
+-- `register_all` meets its contract: the loop keeps that the table holds the rows of the spots so far.
+use Prim.Native.Nat.{◌-◌}
+use native.Mathlib.Omega.{arith}
+use borrow.Author.Rules.{rules}
+use mathlib.Core.Path.{◌≡◌, refl, sym}
+use lib.ListN.{length}
+use lib.Seq.{length-take-le}
+use Rattle.register.proofs.ReachedLaws.{Reached, reached_start, emitted_spot, reached_next}
+use Rattle.register.proofs.ReachedLaws.{reached_room, registers_full, registers_end}
+use Rattle.register.proofs.register_all.Given as goal
+
+
+abbrev pub invariant-loop-i : goal.invariant-loop-i
+invariant-loop-i l =
+    Reached l.w l.file l.spots l.n l.i l.table l.index l.out × (length l.tree ≡ length l.initial.tree) × (length l.index ≡ length l.initial.index)
+    × (length l.out ≡ length l.initial.out)
+
+abbrev pub decreases-loop-i : goal.decreases-loop-i
+decreases-loop-i l = l.n - l.i

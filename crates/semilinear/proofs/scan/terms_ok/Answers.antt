@@ -1,0 +1,92 @@
+-- `terms_ok` meets its contract: the loop keeps that the terms from `at` on decide.
+use mathlib.Core.Path.{◌≡◌, refl, sym, ◌∙◌, ap}
+use Prim.Native.Nat.{◌-◌, ◌≤◌}
+use native.Mathlib.Omega.{arith}
+use borrow.Author.Rules.{rules}
+use lib.ListN.{length, drop, length-drop}
+use borrow.Author.Tests.{not-true, not-false}
+use Rattle.semilinear.specs.Items.{is_term}
+use Rattle.semilinear.specs.Valid.{terms_ok}
+use Rattle.semilinear.proofs.ItemsLaws.{term_big}
+use Rattle.semilinear.proofs.ValidLaws.{terms_end, terms_other}
+use Rattle.semilinear.proofs.ScanLaws.{term_inside, terms_ok_next, terms_ok_stop}
+use Rattle.semilinear.proofs.scan.terms_ok.Goals as goal
+
+pub loop-at-init : goal.loop-at-init
+loop-at-init c = (omega arith, refl)
+
+pub rest_from-rest-requires : goal.rest_from-rest-requires
+rest_from-rest-requires c = c.loop-at.invariant.0
+
+pub returns-then-not-is_term : goal.returns-then-not-is_term
+returns-then-not-is_term c =
+    let at-loop = c in
+    let at-start = at-loop in
+    sym
+    (at-loop.loop-at.invariant.1
+    ∙ terms_other _ _ _ (drop at-loop.loop-at.at at-start.args.q.now)
+    (omega (arith, length-drop at-loop.loop-at.at at-start.args.q.now))
+    (ap is_term (sym c.rest_from-rest.ensures)
+    ∙ sym c.is_term.ensures
+    ∙ not-true _ c.if-not-is_term.true))
+
+pub term_ok-requires : goal.term_ok-requires
+term_ok-requires c = (sym c.is_term.ensures ∙ not-false _ c.if-not-is_term.false)
+
+pub returns-then-not-term_ok : goal.returns-then-not-term_ok
+returns-then-not-term_ok c =
+    let at-loop = c in
+    let at-start = at-loop in
+    sym
+    (at-loop.loop-at.invariant.1
+    ∙ terms_ok_stop at-start.args.w at-start.args.n at-loop.loop-at.next at-start.args.q.now
+    at-loop.loop-at.at _ c.rest_from-rest.ensures
+    (sym c.is_term.ensures ∙ not-false _ c.if-not-is_term.false)
+    (sym c.term_ok.ensures ∙ not-true _ c.if-not-term_ok.true))
+
+pub front_number-next-requires : goal.front_number-next-requires
+front_number-next-requires c =
+    term_big _ (sym c.is_term.ensures ∙ not-false _ c.if-not-is_term.false)
+
+pub overflow_add-next : goal.overflow_add-next
+overflow_add-next c = omega (arith, c.front_number-next.ensures.1)
+
+pub overflow_add-at : goal.overflow_add-at
+overflow_add-at c =
+    omega (
+      arith,
+      term_inside c.args.w c.args.n c.loop-at.next c.args.q.now
+          c.loop-at.at _ c.rest_from-rest.ensures
+          (sym c.is_term.ensures ∙ not-false _ c.if-not-is_term.false) c.loop-at.invariant.0,
+    )
+
+pub loop-at-smaller : goal.loop-at-smaller
+loop-at-smaller c =
+    omega (
+      arith,
+      term_inside c.args.w c.args.n c.loop-at.next c.args.q.now
+          c.loop-at.at _ c.rest_from-rest.ensures
+          (sym c.is_term.ensures ∙ not-false _ c.if-not-is_term.false) c.loop-at.invariant.0,
+    )
+
+pub loop-at-preserved : goal.loop-at-preserved
+loop-at-preserved c =
+    let at-loop = c in
+    let at-start = at-loop in (
+      term_inside at-start.args.w at-start.args.n at-loop.loop-at.next at-start.args.q.now
+          at-loop.loop-at.at _ c.rest_from-rest.ensures
+          (sym c.is_term.ensures ∙ not-false _ c.if-not-is_term.false) at-loop.loop-at.invariant.0,
+      rw c.front_number-next.ensures.0
+          (at-loop.loop-at.invariant.1
+          ∙ terms_ok_next at-start.args.w at-start.args.n at-loop.loop-at.next at-start.args.q.now
+          at-loop.loop-at.at _ c.rest_from-rest.ensures
+          (sym c.is_term.ensures ∙ not-false _ c.if-not-is_term.false)
+          (sym c.term_ok.ensures ∙ not-false _ c.if-not-term_ok.false)),
+    )
+
+pub returns : goal.returns
+returns c =
+    sym
+    (c.loop-at.invariant.1
+    ∙ terms_end _ _ _ (drop c.loop-at.at c.args.q.now)
+    (omega (arith, length-drop c.loop-at.at c.args.q.now)))

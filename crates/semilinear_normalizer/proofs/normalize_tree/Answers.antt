@@ -1,0 +1,72 @@
+-- `normalize_tree` meets its contract: the marks, the descent from the root, and the form of what it collected.
+use mathlib.Core.Path.{refl, sym}
+use native.Mathlib.Omega.{arith}
+use borrow.Author.Tests.{not-true, not-false}
+use lib.Seq.{length-take-le}
+use Rattle.expr_refusal.proofs.RefusalLaws.{accepted_big, sized_accepted}
+use Rattle.semilinear_normalizer.proofs.WholeTreeLaws.{whole_at, whole_ready, gives_eight, gives_collected}
+use Rattle.semilinear_normalizer.proofs.WholeTreeLaws.{spots_whole, count_whole, index_whole}
+use borrow.Author.Rules.{rules}
+use Rattle.semilinear_normalizer.proofs.normalize_tree.Goals as goal
+
+
+pub mark_traits-requires : goal.mark_traits-requires
+mark_traits-requires c =
+    record { whole = sized_accepted _ _ c.requires.accepted; room = omega (arith, c.requires.marked) }
+
+pub size-n-requires : goal.size-n-requires
+size-n-requires c =
+    accepted_big _ _ c.requires.accepted
+
+pub slice_bounds-collect_terms-end-2 : goal.slice_bounds-collect_terms-end-2
+slice_bounds-collect_terms-end-2 c =
+    sym (length-take-le _ _ (omega (arith, c.size-n.ensures.0, c.requires.marked, c.marks-1.given)))
+
+pub collect_terms-found-requires : goal.collect_terms-found-requires
+collect_terms-found-requires c =
+    let at-known = c in
+    let at-start = at-known in
+    let at-nothing = c in (
+      whole_at _ _ (λ i. (at-known.shared_slice_known-1.given i).fits) at-start.requires.accepted
+          c.mark_traits.ensures at-start.requires.marked at-nothing.size-n.ensures.0 refl,
+      whole_ready _ _ (λ i. (at-known.shared_slice_known-1.given i).fits) at-start.requires.accepted
+          at-start.requires.collected at-nothing.start.ensures,
+    )
+
+pub returns-then-not-found : goal.returns-then-not-found
+returns-then-not-found c =
+    let at-known = c in
+    let at-start = at-known in
+    gives_eight _ _ (λ i. (at-known.shared_slice_known-1.given i).fits) at-start.requires.accepted _
+    c.start.ensures c.collect_terms-found.ensures (not-true _ c.if-not-found.true)
+    at-start.requires.written c.refuse.result c.refuse.ensures
+
+pub write_form-requires : goal.write_form-requires
+write_form-requires c =
+    let at-known = c in
+    let at-start = at-known in
+    let nothing = c.start.ensures in
+    let pre = at-start.requires in (
+      record {
+        spots_ok =
+            spots_whole _ _ (λ i. (at-known.shared_slice_known-1.given i).fits) pre.accepted _ nothing
+            c.collect_terms-found.ensures;
+        inside =
+            count_whole _ _ (λ i. (at-known.shared_slice_known-1.given i).fits) pre.accepted _ nothing
+            c.collect_terms-found.ensures pre.collected;
+        room = pre.built;
+        long = pre.long;
+        entries =
+            index_whole _ _ (λ i. (at-known.shared_slice_known-1.given i).fits) pre.accepted _ nothing
+            c.collect_terms-found.ensures pre.entries;
+      },
+      pre.written,
+    )
+
+pub returns : goal.returns
+returns c =
+    let at-known = c in
+    let at-start = at-known in
+    gives_collected _ _ (λ i. (at-known.shared_slice_known-1.given i).fits) at-start.requires.accepted _
+    c.start.ensures c.collect_terms-found.ensures (not-false _ c.if-not-found.false)
+    c.write_form.result c.write_form.ensures

@@ -1,0 +1,48 @@
+-- `semilinear_value` meets its contract: the value of an accepted form, and 0 beside a refusal.
+use Rattle.record.specs.Fields.{width, literal}
+use Rattle.semilinear_value.proofs.ValueLaws.{form_value_accepted, form_value_refused}
+use Rattle.semilinear.proofs.AcceptLaws.{accepted_semilinear}
+use Rattle.semilinear.proofs.ValidLaws.{semilinear_parts}
+use mathlib.Core.Path.{sym, ◌∙◌}
+use borrow.Author.Rules.{rules}
+use Rattle.semilinear_value.proofs.semilinear_value.Goals as goal
+
+pub returns-then-number-ne0 : goal.returns-then-number-ne0
+returns-then-number-ne0 c =
+    record {
+      number = c.semilinear_refusal-number.ensures;
+      result = sym (form_value_refused _ _ (λ e. c.if-number-ne0.true (c.semilinear_refusal-number.ensures ∙ e)));
+    }
+
+pub width-w-requires : goal.width-w-requires
+width-w-requires c =
+    (semilinear_parts _ (accepted_semilinear _ (sym c.semilinear_refusal-number.ensures ∙ c.if-number-ne0.false))).0.big
+
+pub literal-constant-requires : goal.literal-constant-requires
+literal-constant-requires c =
+    (semilinear_parts _
+    (accepted_semilinear _ (sym c.semilinear_refusal-number.ensures ∙ c.if-number-ne0.false))).0.big
+
+pub sum_rows-requires : goal.sum_rows-requires
+sum_rows-requires c =
+    let at_width = c in
+    let p =
+    semilinear_parts _
+    (accepted_semilinear _
+    (sym at_width.semilinear_refusal-number.ensures ∙ at_width.if-number-ne0.false)) in
+    record {
+      width = rw at_width.width-w.ensures p.0.width_le;
+      atoms_ok_lem = rw (at_width.width-w.ensures, c.body-f.ensures) p.1.atoms;
+      ends = c.terms_at-terms.ensures;
+      fits = rw (c.literal-constant.ensures, at_width.width-w.ensures) p.0.fits;
+    }
+
+pub returns : goal.returns
+returns c =
+    record {
+      number = sym c.if-number-ne0.false ∙ c.semilinear_refusal-number.ensures;
+      result =
+          form_value_accepted _ _ (sym c.semilinear_refusal-number.ensures ∙ c.if-number-ne0.false)
+          c.width-w.ensures c.literal-constant.ensures c.body-f.ensures
+          c.sum_rows.ensures;
+    }

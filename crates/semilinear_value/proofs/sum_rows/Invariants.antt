@@ -1,0 +1,19 @@
+-- `sum_rows` meets its contract: the loop keeps that the sum so far and the rows left give the whole.
+use Rattle.semilinear_value.proofs.SumLaws.{Summed, summed_start, summed_row, summed_end}
+use Rattle.semilinear.specs.Form.{sum_rows}
+use Rattle.semilinear.specs.Items.{is_atom, after_atoms}
+use Rattle.semilinear.specs.DecodeForm.{rows_of}
+use borrow.Author.Tests.{not-true, not-false}
+use mathlib.Core.Path.{ap, sym, ◌∙◌}
+use native.Mathlib.Omega.{arith}
+use Prim.Native.Nat.{◌+◌, ◌-◌, ◌%◌, ◌^◌}
+use lib.ListN.{length}
+use Rattle.semilinear_value.proofs.sum_rows.Given as goal
+
+
+abbrev pub invariant-loop-x : goal.invariant-loop-x
+invariant-loop-x l =
+    Summed l.w l.vars l.f ((l.constant + sum_rows l.w l.vars (rows_of 0 l.f (after_atoms l.f))) % 2 ^ l.w) l.x
+
+abbrev pub decreases-loop-x : goal.decreases-loop-x
+decreases-loop-x l = length l.f - l.x.at

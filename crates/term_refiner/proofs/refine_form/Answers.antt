@@ -1,0 +1,36 @@
+-- `refine_form` meets its contract: the copied table, its rows refined, and the end of a pass.
+use native.Mathlib.Omega.{arith}
+use Rattle.base.proofs.PutLaws.{padded_nil}
+use Rattle.semilinear.proofs.ValidLaws.{semilinear_parts}
+use Rattle.group.proofs.PassLaws.{pass_begin}
+use Rattle.term_refiner.proofs.RefinedLaws.{refine_room, refine_end}
+use borrow.Author.Rules.{rules}
+use Rattle.term_refiner.proofs.refine_form.Goals as goal
+
+
+pub width-w-requires : goal.width-w-requires
+width-w-requires c = (semilinear_parts _ c.requires.0).0.big
+
+pub literal-constant-requires : goal.literal-constant-requires
+literal-constant-requires c = (semilinear_parts _ c.requires.0).0.big
+
+pub refine_table-requires : goal.refine_table-requires
+refine_table-requires c =
+    let at-known = c in
+    let at-start = at-known in
+    pass_begin at-start.args.s.now (λ i. (at-known.shared_slice_known-1.given i).fits) at-start.requires.0
+    c.width-w.ensures c.body.ensures c.copy_atoms-tab.ensures (padded_nil 256)
+
+pub finish-requires : goal.finish-requires
+finish-requires c =
+    refine_room c.refine_table.ensures c.load.ensures
+    c.copy_atoms-tab.ensures.long
+
+pub returns : goal.returns
+returns c =
+    let at-known = c in
+    let at-start = at-known in
+    let finished = c.finish in
+    refine_end at-start.args.s.now (λ i. (at-known.shared_slice_known-1.given i).fits) at-start.requires.0
+    c.width-w.ensures c.literal-constant.ensures c.body.ensures c.copy_atoms-tab.ensures
+    c.refine_table.ensures c.load.ensures finished.result finished.ensures

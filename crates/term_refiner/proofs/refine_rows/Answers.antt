@@ -1,0 +1,37 @@
+-- `refine_rows` meets its contract: the views, the bases, and then the groups.
+use native.Mathlib.Omega.{arith}
+use Rattle.group.proofs.PassLaws.{read_count, read_readable, first_same, rows_views}
+use Rattle.term_refiner.proofs.RowsRefinedLaws.{read_any, rows_refined}
+use borrow.Author.Rules.{rules}
+use Rattle.term_refiner.proofs.refine_rows.Goals as goal
+
+
+pub read_views-n-requires : goal.read_views-n-requires
+read_views-n-requires c =
+    rows_views c.requires
+
+pub find_bases-count-requires : goal.find_bases-count-requires
+find_bases-count-requires c =
+    let read = c.read_views-n.ensures in
+    (read_readable read, omega (arith, read_count read, c.requires.bases_room))
+
+pub refine_all-requires : goal.refine_all-requires
+refine_all-requires c =
+    let read = c.read_views-n.ensures in
+    let pre = c.requires in
+    record {
+      width = pre.form.width;
+      found = record {
+        few = omega (arith, read_count read, pre.form.few);
+        number = read.number;
+        viewed = read_any read;
+        first = first_same c.find_bases-count.ensures;
+      };
+      room = pre.form.room;
+      made_few = pre.form.made_few;
+    }
+
+pub returns : goal.returns
+returns c =
+    let pre = c.requires in
+    rows_refined c.read_views-n.ensures pre.form.clear pre.form.few c.refine_all.ensures

@@ -1,0 +1,30 @@
+-- `column` meets its contract: each word is tested in its 64 rows, and no row has a bit from place 6 on.
+use Rattle.truth.proofs.RowsLaws.{column_bits, column_past}
+use mathlib.Core.Path.{refl}
+use native.Mathlib.Omega.{arith}
+use Rattle.truth.proofs.column.Goals as goal
+
+
+pub returns-in-0 : goal.returns-in-0
+returns-in-0 c = column_bits 64 _ 0 refl c.in_default.keys1
+
+pub returns-in-1 : goal.returns-in-1
+returns-in-1 c = column_bits 64 _ 1 refl c.in_default.keys2
+
+pub returns-in-2 : goal.returns-in-2
+returns-in-2 c = column_bits 64 _ 2 refl c.in_default.keys3
+
+pub returns-in-3 : goal.returns-in-3
+returns-in-3 c = column_bits 64 _ 3 refl c.in_default.keys4
+
+pub returns-in-4 : goal.returns-in-4
+returns-in-4 c = column_bits 64 _ 4 refl c.in_default.keys5
+
+pub returns-in-5 : goal.returns-in-5
+returns-in-5 c = column_bits 64 _ 5 refl c.in_default.keys6
+
+pub returns-in_default : goal.returns-in_default
+returns-in_default c =
+    let r = c.in_default.rest in
+    column_past 6 c.args.j
+    (omega (arith, r.0.0.0.0.0.1, r.0.0.0.0.1, r.0.0.0.1, r.0.0.1, r.0.1, r.1))

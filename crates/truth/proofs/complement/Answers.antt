@@ -1,0 +1,7 @@
+-- `complement` meets its contract: by the test.
+use borrow.Author.Rules.{rules}
+use Rattle.truth.proofs.complement.Goals as goal
+
+
+pub returns-then-flip : goal.returns-then-flip
+returns-then-flip c = simp c.if-flip.true

@@ -1,0 +1,15 @@
+-- `leaf_mark` meets its contract: a literal or a variable.
+use Rattle.expr_utils.specs.Utils.{has_kind, has_arith}
+use Rattle.record.specs.Decode.{leaf}
+use Rattle.ways.specs.Marks.{mark_number, mark_of}
+use borrow.Author.Tests.{eq-eqb, ne_eqb}
+use borrow.Author.Rules.{rules}
+use Rattle.ways.proofs.marks.leaf_mark.Goals as goal
+
+pub returns-then-kind-eq0 : goal.returns-then-kind-eq0
+unfolding mark_of mark_number leaf has_kind has_arith
+returns-then-kind-eq0 c = simp (← c.kind.ensures, eq-eqb _ _ c.if-kind-eq0.true)
+
+pub returns : goal.returns
+unfolding mark_of mark_number leaf has_kind has_arith
+returns c = simp (← c.kind.ensures, ne_eqb _ _ c.if-kind-eq0.false)
