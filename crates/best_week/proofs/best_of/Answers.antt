@@ -53,17 +53,15 @@ loop-i-smaller c = omega (arith, c.loop-i-test.true)
 
 pub loop-i-preserved : goal.loop-i-preserved
 loop-i-preserved c =
-    let at-known = c in
-    let at-start = at-known in
-    let s = at-start.args.run.now in
+    let s = c.args.run.now in
     let i = c.loop-i.i in
     let at = c.add_day-streak.ensures in
-    let fits = streak_fits s (i + 1) _ at (λ j. (at-known.shared_slice_known-1.given j).fits) in (
+    let fits = streak_fits s (i + 1) _ at (λ j. (c.shared_slice_known-1.given j).fits) in (
       at,
       subst (BestUpTo s (i + 1)) (sym c.take_week-best.ensures)
           (best_taken s i _ c.loop-i.invariant.1 (i + 1 - week_days) (omega (arith, at.inside, c.if-days-lt-WEEK_DAYS.false))
           (week_here s (i + 1) _ at c.if-days-lt-WEEK_DAYS.false
-          (omega (arith, at-start.requires.1, c.loop-i-test.true)) (i + 1 - week_days)
+          (omega (arith, c.requires.1, c.loop-i-test.true)) (i + 1 - week_days)
           (omega (arith, at.inside, c.if-days-lt-WEEK_DAYS.false)))
           (back fits
           ∙ here_total s (i + 1) _ at c.if-days-lt-WEEK_DAYS.false (i + 1 - week_days)

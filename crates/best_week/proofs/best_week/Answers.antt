@@ -43,11 +43,10 @@ returns-then-not-found c =
 
 pub day-day-requires : goal.day-day-requires
 day-day-requires c =
-    let at-best-of = c in
     omega (
       arith,
-      (at-best-of.best_of-best.ensures.best c.if-not-found.false).inside,
-      at-best-of.number_of-n.ensures,
+      (c.best_of-best.ensures.best c.if-not-found.false).inside,
+      c.number_of-n.ensures,
     )
 
 pub returns : goal.returns

@@ -19,60 +19,48 @@ returns-then-n-eq0 c =
 
 pub partition_short-requires : goal.partition_short-requires
 partition_short-requires c =
-    let at-shared-slice-known = c in
-    let at-start = at-shared-slice-known in
-    let s = at-start.args.s.now in
-    let ok = at-start.requires.0 in
-    let long = slice_long s at-start.requires.1 in
+    let s = c.args.s.now in
+    let ok = c.requires.0 in
+    let long = slice_long s c.requires.1 in
     let count = c.atom_table-found.ensures.number in
     let few = form_count s ok in
     record {
       atoms =
-          form_atoms s ok (λ i. (at-shared-slice-known.shared_slice_known-1.given i).fits) c.body-f.ensures;
+          form_atoms s ok (λ i. (c.shared_slice_known-1.given i).fits) c.body-f.ensures;
       count = count;
       some = omega (arith, c.if-n-eq0.false);
       few = c.if-n-le-SHORT_ATOMS.true;
       width_le = omega (arith, c.width-w.ensures, form_width s ok);
       room = omega (arith, long, count, few, ap atom_count c.body-f.ensures);
-      zeros = slice_zeros s at-start.requires.1;
+      zeros = slice_zeros s c.requires.1;
     }
 
 pub returns-then-n-le-SHORT_ATOMS : goal.returns-then-n-le-SHORT_ATOMS
 returns-then-n-le-SHORT_ATOMS c =
-    let at-atom-table = c in
-    let at_body = at-atom-table in
-    let at_width = at_body in
-    let at-start = at_width in
-    form_some _ (at-atom-table.atom_table-found.ensures.number ∙ ap atom_count at_body.body-f.ensures) c.if-n-eq0.false
-    (slice_long at-start.args.s.now at-start.requires.1) at_width.width-w.ensures at_body.body-f.ensures
+    form_some _ (c.atom_table-found.ensures.number ∙ ap atom_count c.body-f.ensures) c.if-n-eq0.false
+    (slice_long c.args.s.now c.requires.1) c.width-w.ensures c.body-f.ensures
     c.partition_short.ensures
 
 pub partition_long-requires : goal.partition_long-requires
 partition_long-requires c =
-    let at-shared-slice-known = c in
-    let at-start = at-shared-slice-known in
-    let s = at-start.args.s.now in
-    let ok = at-start.requires.0 in
-    let long = slice_long s at-start.requires.1 in
+    let s = c.args.s.now in
+    let ok = c.requires.0 in
+    let long = slice_long s c.requires.1 in
     let count = c.atom_table-found.ensures.number in
     let few = form_count s ok in
     record {
       atoms =
-          form_atoms s ok (λ i. (at-shared-slice-known.shared_slice_known-1.given i).fits) c.body-f.ensures;
+          form_atoms s ok (λ i. (c.shared_slice_known-1.given i).fits) c.body-f.ensures;
       count = count;
       some = omega (arith, c.if-n-eq0.false);
       few = omega (arith, count, few, ap atom_count c.body-f.ensures);
       width_le = omega (arith, c.width-w.ensures, form_width s ok);
       room = omega (arith, long, count, few, ap atom_count c.body-f.ensures);
-      zeros = slice_zeros s at-start.requires.1;
+      zeros = slice_zeros s c.requires.1;
     }
 
 pub returns : goal.returns
 returns c =
-    let at-atom-table = c in
-    let at_body = at-atom-table in
-    let at_width = at_body in
-    let at-start = at_width in
-    form_some _ (at-atom-table.atom_table-found.ensures.number ∙ ap atom_count at_body.body-f.ensures) c.if-n-eq0.false
-    (slice_long at-start.args.s.now at-start.requires.1) at_width.width-w.ensures at_body.body-f.ensures
+    form_some _ (c.atom_table-found.ensures.number ∙ ap atom_count c.body-f.ensures) c.if-n-eq0.false
+    (slice_long c.args.s.now c.requires.1) c.width-w.ensures c.body-f.ensures
     c.partition_long.ensures

@@ -36,19 +36,13 @@ check_bitwise-last-requires t c =
 
 pub returns-then-children-eq1 : goal.returns-then-children-eq1
 returns-then-children-eq1 t c =
-    let at-kind = c in
-    let at_last = at-kind in
-    let at-root-arity = at_last in
-    let at-if2 = at-root-arity in
-    let at-if1 = at-if2 in
-    let at-start = at-if1 in
-    let t : List ℕ = at-start.args.t.now in
-    let w : ℕ = at-start.args.w in
-    let one = sym at-root-arity.root_arity-children.ensures ∙ c.if-children-eq1.true in
+    let t : List ℕ = c.args.t.now in
+    let w : ℕ = c.args.w in
+    let one = sym c.root_arity-children.ensures ∙ c.if-children-eq1.true in
     c.one_checked.ensures
-    ∙ one_alike at-kind.kind-k.ensures c.amount.ensures.0
-    (at-kind.check_bitwise-last.ensures ∙ ap (checked w) (at_last.last_child.ensures ∙ last_one t one))
-    ∙ checked_one w t at-if1.if-t-lt-RECORD_LENGTH.false (sym at-if2.root_ok.ensures ∙ at-if2.if-not-root_ok.false) one
+    ∙ one_alike c.kind-k.ensures c.amount.ensures.0
+    (c.check_bitwise-last.ensures ∙ ap (checked w) (c.last_child.ensures ∙ last_one t one))
+    ∙ checked_one w t c.if-t-lt-RECORD_LENGTH.false (sym c.root_ok.ensures ∙ c.if-not-root_ok.false) one
 
 pub check_bitwise-first-requires : goal.check_bitwise-first-requires
 check_bitwise-first-requires t c =
@@ -56,21 +50,13 @@ check_bitwise-first-requires t c =
 
 pub returns : goal.returns
 returns t c =
-    let at_first = c in
-    let at-if4 = at_first in
-    let at-kind = at-if4 in
-    let at_last = at-kind in
-    let at-root-arity = at_last in
-    let at-if2 = at-root-arity in
-    let at-if1 = at-if2 in
-    let at-start = at-if1 in
-    let t : List ℕ = at-start.args.t.now in
-    let w : ℕ = at-start.args.w in
-    let ar = at-root-arity.root_arity-children.ensures in
-    let two : arity (kind t) ≡ 1 → ⊥ = λ e. at-if4.if-children-eq1.false (ar ∙ e) in
+    let t : List ℕ = c.args.t.now in
+    let w : ℕ = c.args.w in
+    let ar = c.root_arity-children.ensures in
+    let two : arity (kind t) ≡ 1 → ⊥ = λ e. c.if-children-eq1.false (ar ∙ e) in
     c.two_checked.ensures
-    ∙ two_alike at-kind.kind-k.ensures
-    (at_first.check_bitwise-first.ensures ∙ ap (checked w) at_first.left.ensures)
-    (at-kind.check_bitwise-last.ensures ∙ ap (checked w) (at_last.last_child.ensures ∙ last_two t two))
-    ∙ checked_two w t at-if1.if-t-lt-RECORD_LENGTH.false (sym at-if2.root_ok.ensures ∙ at-if2.if-not-root_ok.false)
-    (λ e. at_last.if-children-eq0.false (ar ∙ e)) two
+    ∙ two_alike c.kind-k.ensures
+    (c.check_bitwise-first.ensures ∙ ap (checked w) c.left.ensures)
+    (c.check_bitwise-last.ensures ∙ ap (checked w) (c.last_child.ensures ∙ last_two t two))
+    ∙ checked_two w t c.if-t-lt-RECORD_LENGTH.false (sym c.root_ok.ensures ∙ c.if-not-root_ok.false)
+    (λ e. c.if-children-eq0.false (ar ∙ e)) two

@@ -5,11 +5,10 @@ use Rattle.carried.proofs.carry.Goals as goal
 
 pub overflow_add-bits : goal.overflow_add-bits
 overflow_add-bits c =
-    let at-start = c in
     let place = c.place_of-slot in
     let room =
-    bit_room _ at-start.args.p at-start.requires.place
-    (at-start.requires.below place.result.at (place.ensures.there c.if-slot.true).0) in
+    bit_room _ c.args.p c.requires.place
+    (c.requires.below place.result.at (place.ensures.there c.if-slot.true).0) in
     omega (arith, room)
 
 pub returns-then-slot : goal.returns-then-slot

@@ -14,13 +14,10 @@ returns-then-made-eq1 c =
 
 pub returns-then-m-bitmask : goal.returns-then-m-bitmask
 returns-then-m-bitmask c =
-    let at-if2 = c in
-    let at-if1 = at-if2 in
-    let at-start = at-if1 in
-    let a = at-start.args in
-    let hw = at-start.requires.width in
-    term_bare a.w a.c a.m (decode a.b.now) hw (not_full a.made.now at-if1.if-made-eq1.false) _
-    (at-if2.if-m-bitmask.true ∙ at-if2.bitmask.ensures ∙ bitmask_ones a.w hw) c.find_or_create_bare-row.ensures
+    let a = c.args in
+    let hw = c.requires.width in
+    term_bare a.w a.c a.m (decode a.b.now) hw (not_full a.made.now c.if-made-eq1.false) _
+    (c.if-m-bitmask.true ∙ c.bitmask.ensures ∙ bitmask_ones a.w hw) c.find_or_create_bare-row.ensures
     c.add_word.ensures
 
 pub returns : goal.returns

@@ -22,14 +22,12 @@ offset_bounds-out-from c =
 
 pub returns-then-same_words : goal.returns-then-same_words
 returns-then-same_words c =
-    let at-loop = c in
-    let at-start = at-loop in
-    let test = has_profile at-start.args.out.now at-start.args.profile.now in
+    let test = has_profile c.args.out.now c.args.profile.now in
     sym
-    (at-loop.loop-j.invariant.2
-    ∙ first_here test at-loop.loop-j.j at-start.args.k (omega arith)
-    (profile_read at-start.args.profile.now at-start.args.out.now at-loop.loop-j.j _
-    at-loop.loop-j.invariant.1 c.same_words.ensures
+    (c.loop-j.invariant.2
+    ∙ first_here test c.loop-j.j c.args.k (omega arith)
+    (profile_read c.args.profile.now c.args.out.now c.loop-j.j _
+    c.loop-j.invariant.1 c.same_words.ensures
     ∙ c.if-same_words.true))
 
 pub overflow_add-from : goal.overflow_add-from
@@ -56,3 +54,11 @@ returns c =
     (c.loop-j.invariant.2
     ∙ first_end test c.loop-j.j c.args.k (omega arith)
     ∙ end)
+
+pub slice_bounds-same_words-start : goal.slice_bounds-same_words-start
+slice_bounds-same_words-start c =
+    omega (arith, c.requires, class_inside (length c.args.profile.now) c.loop-j-test.true)
+
+pub slice_bounds-same_words-end : goal.slice_bounds-same_words-end
+slice_bounds-same_words-end c =
+    omega (arith, c.requires, class_inside (length c.args.profile.now) c.loop-j-test.true)

@@ -66,45 +66,33 @@ overflow_add-at-2 c =
 
 pub put_words-requires-2 : goal.put_words-requires-2
 put_words-requires-2 c =
-    let at-find-class = c in
-    let at-start = at-find-class in
-    let q = at-start.args.profile.now in
-    let out = at-start.args.out.now in
+    let q = c.args.profile.now in
+    let out = c.args.out.now in
     let room =
-    found_room q out at-start.args.k at-start.args.p at-start.requires.0 at-find-class.find_class-class.ensures in
+    found_room q out c.args.k c.args.p c.requires.0 c.find_class-class.ensures in
     omega (
       arith,
       room,
       ap length c.put_words.ensures,
-      length_put out (at-find-class.find_class-class.result * (length q + 1)) (1 * 2 ^ at-start.args.p % 2 ^ 64 ∷ [])
+      length_put out (c.find_class-class.result * (length q + 1)) (1 * 2 ^ c.args.p % 2 ^ 64 ∷ [])
           (omega (arith, room)),
     )
 
 pub shape_of-out : goal.shape_of-out
 shape_of-out c =
-    let at-put-words2 = c in
-    let at-put-words = at-put-words2 in
-    let at-if1 = at-put-words in
-    let at-find-class = at-if1 in
-    let at-start = at-find-class in
-    let q = at-start.args.profile.now in
-    let out = at-start.args.out.now in
-    let at = at-find-class.find_class-class.result * (length q + 1) in
-    (joins_new q out at-start.args.k at-start.args.p at-start.requires.0 at-find-class.find_class-class.ensures
-    (omega (arith, at-if1.if-class-k.false)) at-start.requires.1
-    (at-put-words2.put_words-2.ensures ∙ ap (λ (o : List ℕ). put o (at + 1) q)
-    at-put-words.put_words.ensures)).long
+    let q = c.args.profile.now in
+    let out = c.args.out.now in
+    let at = c.find_class-class.result * (length q + 1) in
+    (joins_new q out c.args.k c.args.p c.requires.0 c.find_class-class.ensures
+    (omega (arith, c.if-class-k.false)) c.requires.1
+    (c.put_words-2.ensures ∙ ap (λ (o : List ℕ). put o (at + 1) q)
+    c.put_words.ensures)).long
 
 pub returns : goal.returns
 returns c =
-    let at-put-words2 = c in
-    let at-put-words = at-put-words2 in
-    let at-if1 = at-put-words in
-    let at-find-class = at-if1 in
-    let at-start = at-find-class in
-    let q = at-start.args.profile.now in
-    let out = at-start.args.out.now in
-    let at = at-find-class.find_class-class.result * (length q + 1) in
-    joins_new q out at-start.args.k at-start.args.p at-start.requires.0 at-find-class.find_class-class.ensures
-    (omega (arith, at-if1.if-class-k.false)) at-start.requires.1
-    (at-put-words2.put_words-2.ensures ∙ ap (λ (o : List ℕ). put o (at + 1) q) at-put-words.put_words.ensures)
+    let q = c.args.profile.now in
+    let out = c.args.out.now in
+    let at = c.find_class-class.result * (length q + 1) in
+    joins_new q out c.args.k c.args.p c.requires.0 c.find_class-class.ensures
+    (omega (arith, c.if-class-k.false)) c.requires.1
+    (c.put_words-2.ensures ∙ ap (λ (o : List ℕ). put o (at + 1) q) c.put_words.ensures)

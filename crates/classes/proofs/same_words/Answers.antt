@@ -19,13 +19,10 @@ bounds-b-i c =
 
 pub returns-then-a-i : goal.returns-then-a-i
 returns-then-a-i c =
-    let at-loop = c in
-    let at-if1 = at-loop in
-    let at-start = at-if1 in
     sym
-    (at-loop.loop-i.invariant.1
-    ∙ eq_list_differ at-start.args.a.now at-start.args.b.now at-loop.loop-i.i (omega arith)
-    (omega (arith, at-if1.if-a-b.false)) c.if-a-i.true)
+    (c.loop-i.invariant.1
+    ∙ eq_list_differ c.args.a.now c.args.b.now c.loop-i.i (omega arith)
+    (omega (arith, c.if-a-b.false)) c.if-a-i.true)
 
 pub loop-i-preserved : goal.loop-i-preserved
 loop-i-preserved c =

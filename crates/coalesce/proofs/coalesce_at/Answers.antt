@@ -37,3 +37,19 @@ coalesce_group-requires c =
 pub returns : goal.returns
 unfolding view_at basis_bytes
 returns c = c.coalesce_group.ensures
+
+pub slice_bounds-is_lone-start : goal.slice_bounds-is_lone-start
+unfolding view_at
+slice_bounds-is_lone-start c = c.requires.in_group.start_le
+
+pub slice_bounds-is_lone-end : goal.slice_bounds-is_lone-end
+unfolding view_at
+slice_bounds-is_lone-end c = c.requires.in_group.end_le
+
+pub slice_bounds-coalesce_group-start : goal.slice_bounds-coalesce_group-start
+unfolding view_at
+slice_bounds-coalesce_group-start c = c.requires.in_group.start_le
+
+pub slice_bounds-coalesce_group-end : goal.slice_bounds-coalesce_group-end
+unfolding view_at
+slice_bounds-coalesce_group-end c = c.requires.in_group.end_le

@@ -21,31 +21,26 @@ literal-constant-requires c =
 
 pub copy_front-copied-requires : goal.copy_front-copied-requires
 copy_front-copied-requires c =
-    let at_width = c in
-    let at-start = at_width in (
-      rw (at_width.width-w.ensures, c.body.ensures) (semilinear_front _ at-start.requires.0),
-      omega (arith, ap length c.body.ensures, length_body at-start.args.s.now, at-start.requires.1),
-      at-start.requires.2,
+    (
+      rw (c.width-w.ensures, c.body.ensures) (semilinear_front _ c.requires.0),
+      omega (arith, ap length c.body.ensures, length_body c.args.s.now, c.requires.1),
+      c.requires.2,
     )
 
 pub put_sum-requires : goal.put_sum-requires
 put_sum-requires c =
-    let at-shared-slice-known = c in
-    let at-start = at-shared-slice-known in
     let p =
-    sum_room at-start.args.s.now (λ i. (at-shared-slice-known.shared_slice_known-1.given i).fits)
-    at-start.requires.0 c.width-w.ensures c.body.ensures _
+    sum_room c.args.s.now (λ i. (c.shared_slice_known-1.given i).fits)
+    c.requires.0 c.width-w.ensures c.body.ensures _
     c.copy_front-copied.result c.copy_front-copied.ensures in
     omega (arith, p.0, p.1)
 
 pub overflow_add-result : goal.overflow_add-result
 overflow_add-result c =
-    let at-shared-slice-known = c in
-    let at-start = at-shared-slice-known in
     omega (
       arith,
-      (sum_room at-start.args.s.now (λ i. (at-shared-slice-known.shared_slice_known-1.given i).fits)
-          at-start.requires.0 c.width-w.ensures c.body.ensures _
+      (sum_room c.args.s.now (λ i. (c.shared_slice_known-1.given i).fits)
+          c.requires.0 c.width-w.ensures c.body.ensures _
           c.copy_front-copied.result c.copy_front-copied.ensures).0,
     )
 

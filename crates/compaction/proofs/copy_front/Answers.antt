@@ -74,10 +74,8 @@ loop-to-smaller c =
 
 pub loop-to-preserved : goal.loop-to-preserved
 loop-to-preserved c =
-    let at-shared-slice-known = c in
-    let at-start = at-shared-slice-known in
-    copied_row at-start.args.w at-start.args.f.now at-start.requires.1
-    (λ i. (at-shared-slice-known.shared_slice_known-1.given i).fits) c.loop-to.x c.copy_row-x.result _
+    copied_row c.args.w c.args.f.now c.requires.1
+    (λ i. (c.shared_slice_known-1.given i).fits) c.loop-to.x c.copy_row-x.result _
     _ c.loop-to.invariant
     (ap is_atom (sym c.rest_from.ensures)
     ∙ sym c.is_atom.ensures

@@ -62,15 +62,11 @@ loop-coeff-smaller c =
 
 pub loop-coeff-preserved : goal.loop-coeff-preserved
 loop-coeff-preserved c =
-    let at-rest-from2 = c in
-    let at-rest-from = at-rest-from2 in
-    let at-loop = at-rest-from in
-    let at-start = at-loop in
-    renumbered_term _ _ _ _ at-start.requires.0 at-loop.loop-coeff.at at-loop.loop-coeff.number _ at-loop.loop-coeff.invariant
-    at-rest-from2.rest_from-in-loop-coeff.ensures
-    (ap is_term (at-rest-from2.rest_from-in-loop-coeff.ensures ∙ sym at-rest-from.rest_from.ensures)
-    ∙ sym at-rest-from2.is_term.ensures
-    ∙ at-rest-from2.loop-coeff-test.true) _ c.front_word-coeff.ensures c.put_term.ensures
+    renumbered_term _ _ _ _ c.requires.0 c.loop-coeff.at c.loop-coeff.number _ c.loop-coeff.invariant
+    c.rest_from-in-loop-coeff.ensures
+    (ap is_term (c.rest_from-in-loop-coeff.ensures ∙ sym c.rest_from.ensures)
+    ∙ sym c.is_term.ensures
+    ∙ c.loop-coeff-test.true) _ c.front_word-coeff.ensures c.put_term.ensures
 
 pub overflow_add-result : goal.overflow_add-result
 overflow_add-result c =

@@ -36,9 +36,7 @@ tree_refusal-second-requires t c =
 
 pub returns : goal.returns
 returns t c =
-    let at-root-arity = c in
-    let at-start = at-root-arity in
     rw
-    (fold_two _ _ _ _ at-start.args.t.now at-root-arity.if-t-lt-RECORD_LENGTH.false
-    (λ e. c.if-children-eq0.false (at-root-arity.root_arity-children.ensures ∙ e))
-    (λ e. c.if-children-eq1.false (at-root-arity.root_arity-children.ensures ∙ e))) (cc)
+    (fold_two _ _ _ _ c.args.t.now c.if-t-lt-RECORD_LENGTH.false
+    (λ e. c.if-children-eq0.false (c.root_arity-children.ensures ∙ e))
+    (λ e. c.if-children-eq1.false (c.root_arity-children.ensures ∙ e))) (cc)

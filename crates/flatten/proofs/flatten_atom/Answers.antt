@@ -8,13 +8,11 @@ use Rattle.flatten.proofs.flatten_atom.Goals as goal
 
 pub bits_without-passed-requires : goal.bits_without-passed-requires
 bits_without-passed-requires c =
-    let at-start = c in
-    (at-start.requires.1.width, rw c.constant_value-zeroed.ensures (value_lt _ _ _))
+    (c.requires.1.width, rw c.constant_value-zeroed.ensures (value_lt _ _ _))
 
 pub bits_without-inverted-requires : goal.bits_without-inverted-requires
 bits_without-inverted-requires c =
-    let at-start = c in
-    (at-start.requires.1.width, rw c.at_ones-raised.ensures (at_ones_lt _ _ _))
+    (c.requires.1.width, rw c.at_ones-raised.ensures (at_ones_lt _ _ _))
 
 pub flat_row-requires : goal.flat_row-requires
 flat_row-requires c =

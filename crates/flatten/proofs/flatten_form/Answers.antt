@@ -14,9 +14,7 @@ literal-constant-requires c = (semilinear_parts _ c.requires.0).0.big
 
 pub flatten_rows-flag-requires : goal.flatten_rows-flag-requires
 flatten_rows-flag-requires c =
-    let at-known = c in
-    let at-start = at-known in
-    flatten_begin at-start.args.s.now (λ i. (at-known.shared_slice_known-1.given i).fits) at-start.requires.0
+    flatten_begin c.args.s.now (λ i. (c.shared_slice_known-1.given i).fits) c.requires.0
     c.width-w.ensures c.body.ensures c.copy_atoms-tab.ensures
 
 pub finish-requires : goal.finish-requires

@@ -23,16 +23,14 @@ loop-i-init c =
 
 pub returns-then-x-y : goal.returns-then-x-y
 returns-then-x-y c =
-    let at-loop = c in
-    let start = at-loop in
-    let l = start.args.left.now in
-    let r = start.args.right.now in
-    let test = unlike_sums start.args.w start.args.place l r in
-    let i = at-loop.loop-i.i in
+    let l = c.args.left.now in
+    let r = c.args.right.now in
+    let test = unlike_sums c.args.w c.args.place l r in
+    let i = c.loop-i.i in
     sym
-    (at-loop.loop-i.invariant.2
+    (c.loop-i.invariant.2
     ∙ first_here test i (length l) (omega arith)
-    (test_unlike start.args.w start.args.place l r i at-loop.loop-i.invariant.1
+    (test_unlike c.args.w c.args.place l r i c.loop-i.invariant.1
     c.mod_add.ensures
     c.mod_mul-x.ensures c.mod_add-in-loop-i.ensures
     c.mod_mul-y.ensures c.if-x-y.true))

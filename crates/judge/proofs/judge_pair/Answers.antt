@@ -36,8 +36,7 @@ returns-then-w-width c =
 
 pub joint_vars-requires : goal.joint_vars-requires
 joint_vars-requires c =
-    let start = c in
-    (start.requires.0.taken, start.requires.1.taken)
+    (c.requires.0.taken, c.requires.1.taken)
 
 pub returns-then-n-gt-JOINT_VARS : goal.returns-then-n-gt-JOINT_VARS
 returns-then-n-gt-JOINT_VARS c =
@@ -121,52 +120,48 @@ slice_bounds-compare_forms-end c =
 
 pub compare_forms-requires : goal.compare_forms-requires
 compare_forms-requires c =
-    let if1 = c in
-    let start = c in
-    let forms = start.args.forms in
-    let l = start.args.left.now in
-    let r = start.args.right.now in
+    let forms = c.args.forms in
+    let l = c.args.left.now in
+    let r = c.args.right.now in
     let a = side_of forms l in
     let b = side_of forms r in
     let words = c.joint_vars.ensures in
     let widths =
-    side_width forms l ∙ sym if1.width-w.ensures ∙ if1.if-w-width.false ∙ if1.width.ensures
+    side_width forms l ∙ sym c.width-w.ensures ∙ c.if-w-width.false ∙ c.width.ensures
     ∙ sym (side_width forms r) in
     let count = joint_count a b words c.place_of-n.ensures in
     let all : c.place_of-n.result ≡ length (joint_vars a b) = omega
     (arith, count, c.if-n-gt-JOINT_VARS.false) in
     let ok =
-    not_shifted a b start.requires.0.taken start.requires.1.taken widths
+    not_shifted a b c.requires.0.taken c.requires.1.taken widths
     (omega (arith, count, c.if-n-gt-JOINT_VARS.false))
     (sym c.side_shifts.ensures ∙ c.if-side_shifts.false)
     (sym c.side_shifts-2.ensures ∙ c.if-side_shifts-2.false) in
-    pair_comparable a b _ _ start.requires.0 start.requires.1 ok _ _
-    (if1.width-w.ensures ∙ sym (side_width forms l))
+    pair_comparable a b _ _ c.requires.0 c.requires.1 ok _ _
+    (c.width-w.ensures ∙ sym (side_width forms l))
     (joint_words a b words all (omega (arith, c.if-n-gt-JOINT_VARS.false)))
 
 pub returns : goal.returns
 returns c =
-    let if1 = c in
-    let start = c in
-    let forms = start.args.forms in
-    let l = start.args.left.now in
-    let r = start.args.right.now in
+    let forms = c.args.forms in
+    let l = c.args.left.now in
+    let r = c.args.right.now in
     let a = side_of forms l in
     let b = side_of forms r in
     let words = c.joint_vars.ensures in
     let widths =
-    side_width forms l ∙ sym if1.width-w.ensures ∙ if1.if-w-width.false ∙ if1.width.ensures
+    side_width forms l ∙ sym c.width-w.ensures ∙ c.if-w-width.false ∙ c.width.ensures
     ∙ sym (side_width forms r) in
     let count = joint_count a b words c.place_of-n.ensures in
     let all : c.place_of-n.result ≡ length (joint_vars a b) = omega
     (arith, count, c.if-n-gt-JOINT_VARS.false) in
     let ok =
-    not_shifted a b start.requires.0.taken start.requires.1.taken widths
+    not_shifted a b c.requires.0.taken c.requires.1.taken widths
     (omega (arith, count, c.if-n-gt-JOINT_VARS.false))
     (sym c.side_shifts.ensures
     ∙ c.if-side_shifts.false)
     (sym c.side_shifts-2.ensures ∙ c.if-side_shifts-2.false) in
     c.compare_forms.ensures
-    ∙ pair_judged a b _ _ start.requires.0 start.requires.1 ok _ _
-    (if1.width-w.ensures ∙ sym (side_width forms l))
+    ∙ pair_judged a b _ _ c.requires.0 c.requires.1 ok _ _
+    (c.width-w.ensures ∙ sym (side_width forms l))
     (joint_words a b words all (omega (arith, c.if-n-gt-JOINT_VARS.false)))

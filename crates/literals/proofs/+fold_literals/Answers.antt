@@ -58,9 +58,8 @@ overflow_add-result-then-children-eq0 t c =
 
 pub returns-then-children-eq0 : goal.returns-then-children-eq0
 returns-then-children-eq0 t c =
-    let at-known = c in
-    let room = at-known.requires in
-    folded_leaf room (λ i. (at-known.shared_slice_known-1.given i).fits)
+    let room = c.requires in
+    folded_leaf room (λ i. (c.shared_slice_known-1.given i).fits)
     (mark_folded _ _ room.marked c.is_literal.ensures c.if-is_literal.false)
     (sym c.root_arity-children.ensures ∙ c.if-children-eq0.true) c.put_bytes.ensures
 
@@ -193,3 +192,6 @@ pub returns : goal.returns
 returns t c =
     (last_child_lem t (goal.at.returns t c).After-right).folded _ _ c.fold_literals-end.ensures _ _
     c.kind-2.ensures c.byte1.ensures _ _ c.put_root.ensures
+
+pub slice_bounds-fold_literals-start : goal.slice_bounds-fold_literals-start
+slice_bounds-fold_literals-start t c = (last_child_lem t c).count_le

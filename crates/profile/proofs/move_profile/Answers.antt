@@ -30,8 +30,7 @@ bounds-index-i c =
 
 pub profile_word-requires : goal.profile_word-requires
 profile_word-requires c =
-    let at-start = c in
-    (at-start.requires.0, omega (arith, at-start.requires.1))
+    (c.requires.0, omega (arith, c.requires.1))
 
 pub offset_bounds-profile-i : goal.offset_bounds-profile-i
 offset_bounds-profile-i c =

@@ -35,36 +35,30 @@ tree_span-t-requires c =
 
 pub rows_at-requires : goal.rows_at-requires
 rows_at-requires c =
-    let at-rest-from = c in
-    let at-start = at-rest-from in
-    let f = at-start.args.f.now in
-    let index = at-start.args.index.now in
-    let i = at-start.args.i in
-    let e = at-start.requires.0.entry i at-start.requires.1 in
+    let f = c.args.f.now in
+    let index = c.args.index.now in
+    let i = c.args.i in
+    let e = c.requires.0.entry i c.requires.1 in
     ap sized
     (c.tree_span-t.ensures
     ∙ ap tree_span
-    (at-rest-from.rest_from.ensures ∙ ap (λ (k : ℕ). drop k f) (index_start index i e.at _ e.words)))
+    (c.rest_from.ensures ∙ ap (λ (k : ℕ). drop k f) (index_start index i e.at _ e.words)))
     ∙ e.shape
 
 pub returns : goal.returns
 returns c =
-    let at-tree-span = c in
-    let at-rest-from = at-tree-span in
-    let at-if1 = at-rest-from in
-    let at-start = at-if1 in
-    let f = at-start.args.f.now in
-    let index = at-start.args.index.now in
-    let i = at-start.args.i in
-    let e = at-start.requires.0.entry i at-start.requires.1 in
+    let f = c.args.f.now in
+    let index = c.args.index.now in
+    let i = c.args.i in
+    let e = c.requires.0.entry i c.requires.1 in
     let tree =
     ap decode
-    (at-tree-span.tree_span-t.ensures
+    (c.tree_span-t.ensures
     ∙ ap tree_span
-    (at-rest-from.rest_from.ensures ∙ ap (λ (k : ℕ). drop k f) (index_start index i e.at _ e.words)))
+    (c.rest_from.ensures ∙ ap (λ (k : ℕ). drop k f) (index_start index i e.at _ e.words)))
     ∙ e.tree in
-    word_some e.at _ _ _ i (index_word index i e.at _ e.words 2 (omega arith)) at-if1.if-rows-eq0.false
+    word_some e.at _ _ _ i (index_word index i e.at _ e.words 2 (omega arith)) c.if-rows-eq0.false
     (index_vars index i e.at _ e.words)
     (c.rows_at.ensures
-    ∙ ap (table_f 64 at-start.args.w at-start.args.p (take (9 * i + 9 - (9 * i + 3)) (drop (9 * i + 3) index)))
+    ∙ ap (table_f 64 c.args.w c.args.p (take (9 * i + 9 - (9 * i + 3)) (drop (9 * i + 3) index)))
     tree)

@@ -21,7 +21,7 @@ joined1 : (c : Joined-any_single)
     c.gather-g.result c.args.made.now c.args.out.now c.if-any_single.g c.if-any_single.made
     c.if-any_single.out
 joined1 c =
-    elim c.if-any_single.branch [ then-any_single w ↦ stepped_met w.g-is w.made-is w.out-is w.cut_and_drop-g.ensures | else-any_single w ↦ stepped_met w.g-is w.made-is w.out-is
+    elim c.if-any_single.branch [ then-any_single w ↦ stepped_met w.made-is w.out-is w.g-is w.cut_and_drop-g.ensures | else-any_single w ↦ stepped_met w.made-is w.out-is w.g-is
     (single_none _ (c.any_single.ensures w.if-any_single.false) c.requires.makes.room) ]
 
 joined2 : (c : Joined-any_merge)
@@ -31,7 +31,7 @@ joined2 : (c : Joined-any_merge)
 joined2 c =
     let one = joined1 (goal.at.Joined-any_merge c).Joined-any_single in
     stepped_then one
-    (elim c.if-any_merge.branch [ then-any_merge w ↦ stepped_met w.g-is w.made-is w.out-is w.merge_all-g.ensures | else-any_merge w ↦ stepped_met w.g-is w.made-is w.out-is
+    (elim c.if-any_merge.branch [ then-any_merge w ↦ stepped_met w.made-is w.out-is w.g-is w.merge_all-g.ensures | else-any_merge w ↦ stepped_met w.made-is w.out-is w.g-is
     (merge_none _ (no_merge_at c.if-any_single.g (sym one.len) (c.any_merge.ensures w.if-any_merge.false))
     one.room) ])
 
@@ -43,7 +43,7 @@ joined3 c =
     let two = joined2 (goal.at.Joined-i-len c).Joined-any_merge in
     let found = found_at c.if-any_merge.g (sym two.len) c.find_three-found.ensures in
     stepped_then two
-    (elim c.if-i-len.branch [ then-i-len w ↦ collapse_met _ found (omega (arith, w.if-i-len.true, two.len)) w.collapse-g.ensures w.g-is w.made-is w.out-is | else-i-len w ↦ collapse_same _ found (omega (arith, w.if-i-len.false, two.len)) two.room w.g-is w.made-is w.out-is ])
+    (elim c.if-i-len.branch [ then-i-len w ↦ collapse_met _ found (omega (arith, w.if-i-len.true, two.len)) w.collapse-g.ensures w.made-is w.out-is w.g-is | else-i-len w ↦ collapse_same _ found (omega (arith, w.if-i-len.false, two.len)) two.room w.made-is w.out-is w.g-is ])
 
 pub any_single-requires : goal.any_single-requires
 any_single-requires c =

@@ -30,3 +30,9 @@ put_tree-requires c =
 pub returns : goal.returns
 unfolding span_of spot_at
 returns c = c.put_tree.ensures
+
+pub slice_bounds-put_tree-start : goal.slice_bounds-put_tree-start
+slice_bounds-put_tree-start c = c.requires.span.rising
+
+pub slice_bounds-put_tree-end : goal.slice_bounds-put_tree-end
+slice_bounds-put_tree-end c = c.requires.span.inside

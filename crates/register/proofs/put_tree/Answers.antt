@@ -8,11 +8,9 @@ use Rattle.register.proofs.put_tree.Goals as goal
 
 pub returns-then-masked-eq0 : goal.returns-then-masked-eq0
 returns-then-masked-eq0 c =
-    let at-shared-slice-known = c in
-    let at-start = at-shared-slice-known in
-    built_plain at-start.args.w at-start.args.t.now
-    (λ i. (at-shared-slice-known.shared_slice_known-1.given i).fits)
-    at-start.requires.accepted at-start.args.literal c.if-masked-eq0.true (omega (arith, at-start.requires.room))
+    built_plain c.args.w c.args.t.now
+    (λ i. (c.shared_slice_known-1.given i).fits)
+    c.requires.accepted c.args.literal c.if-masked-eq0.true (omega (arith, c.requires.room))
     c.put_bytes.ensures
 
 pub size-requires : goal.size-requires
@@ -26,10 +24,8 @@ put_record-requires-2 c =
 
 pub returns : goal.returns
 returns c =
-    let at-shared-slice-known = c in
-    let at-start = at-shared-slice-known in
-    built_masked at-start.args.w at-start.args.t.now
-    (λ i. (at-shared-slice-known.shared_slice_known-1.given i).fits)
-    at-start.requires.accepted at-start.args.literal at-start.requires.literal_lt c.if-masked-eq0.false
-    at-start.requires.room c.size.ensures.0 c.put_bytes.ensures c.put_record.ensures
+    built_masked c.args.w c.args.t.now
+    (λ i. (c.shared_slice_known-1.given i).fits)
+    c.requires.accepted c.args.literal c.requires.literal_lt c.if-masked-eq0.false
+    c.requires.room c.size.ensures.0 c.put_bytes.ensures c.put_record.ensures
     c.put_record-2.ensures

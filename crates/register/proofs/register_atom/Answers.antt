@@ -21,13 +21,10 @@ add_coeff-requires c =
 
 pub returns-then-same-n : goal.returns-then-same-n
 returns-then-same-n c =
-    let at-slice-known2 = c in
-    let at-shared-slice-known = at-slice-known2 in
-    let at-start = at-shared-slice-known in
-    let a = at-start.args in
-    let p = at-start.requires in
+    let a = c.args in
+    let p = c.requires in
     registers_by_hash a.w a.table a.index.now a.out.now p.indexed a.c a.t.now
-    (λ i. (at-shared-slice-known.shared_slice_known-1.given i).fits) (λ i. (at-slice-known2.slice_known-2-1.given i).fits)
+    (λ i. (c.shared_slice_known-1.given i).fits) (λ i. (c.slice_known-2-1.given i).fits)
     p.accepted
     c.structural_hash-hash.ensures c.row_by_hash-same.ensures c.if-same-n.true
     c.add_coeff.ensures
@@ -46,13 +43,10 @@ add_coeff-requires-then-shared-n c =
 
 pub returns-then-shared-n : goal.returns-then-shared-n
 returns-then-shared-n c =
-    let at-slice-known2 = c in
-    let at-shared-slice-known = at-slice-known2 in
-    let at-start = at-shared-slice-known in
-    let a = at-start.args in
-    let p = at-start.requires in
+    let a = c.args in
+    let p = c.requires in
     registers_by_key a.w a.table a.index.now a.out.now p.indexed a.c a.t.now
-    (λ i. (at-shared-slice-known.shared_slice_known-1.given i).fits) (λ i. (at-slice-known2.slice_known-2-1.given i).fits)
+    (λ i. (c.shared_slice_known-1.given i).fits) (λ i. (c.slice_known-2-1.given i).fits)
     p.accepted
     c.structural_hash-hash.ensures c.row_by_hash-same.ensures
     (omega (arith, c.if-same-n.false)) c.key_of-key.ensures
@@ -60,18 +54,14 @@ returns-then-shared-n c =
 
 pub append_atom-requires : goal.append_atom-requires
 append_atom-requires c =
-    let at-start = c in
-    (at-start.requires, c.structural_hash-hash.ensures, c.key_of-key.ensures)
+    (c.requires, c.structural_hash-hash.ensures, c.key_of-key.ensures)
 
 pub returns : goal.returns
 returns c =
-    let at-slice-known2 = c in
-    let at-shared-slice-known = at-slice-known2 in
-    let at-start = at-shared-slice-known in
-    let a = at-start.args in
-    let p = at-start.requires in
+    let a = c.args in
+    let p = c.requires in
     registers_new a.w a.table a.index.now a.out.now p.indexed a.c a.t.now
-    (λ i. (at-shared-slice-known.shared_slice_known-1.given i).fits) (λ i. (at-slice-known2.slice_known-2-1.given i).fits)
+    (λ i. (c.shared_slice_known-1.given i).fits) (λ i. (c.slice_known-2-1.given i).fits)
     p.accepted
     c.structural_hash-hash.ensures c.row_by_hash-same.ensures
     (omega (arith, c.if-same-n.false)) c.key_of-key.ensures

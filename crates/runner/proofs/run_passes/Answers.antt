@@ -38,22 +38,19 @@ returns-then-found-ne0 c =
 pub run_from-requires : goal.run_from-requires
 run_from-requires c =
     let normal = c.normalize_to_semilinear-found in
-    let known = c in
-    let at = known in (
+    (
       sym c.is_list.ensures ∙ c.if-not-is_list.false,
-      run_start at.args.expr.now at.args.calls.now (length at.args.sheet.now) (length at.args.spare.now)
+      run_start c.args.expr.now c.args.calls.now (length c.args.sheet.now) (length c.args.spare.now)
           normal.result normal.new.1.0 normal.ensures
           c.if-found-eq1.false c.if-found-eq2.false (list_is _ _ normal.auto.1.0 c.is_list.ensures c.if-not-is_list.false)
-          (λ i. (known.shared_slice_known-1.given i).fits) c.if-found-ne0.false,
+          (λ i. (c.shared_slice_known-1.given i).fits) c.if-found-ne0.false,
     )
 
 pub returns : goal.returns
 returns c =
     let normal = c.normalize_to_semilinear-found in
-    let known = c in
-    let at = known in
     let run = c.run_from in
-    run_end at.args.expr.now at.args.calls.now (length at.args.sheet.now) (length at.args.spare.now)
+    run_end c.args.expr.now c.args.calls.now (length c.args.sheet.now) (length c.args.spare.now)
     normal.result normal.new.1.0 normal.ensures
     c.if-found-eq1.false c.if-found-eq2.false (list_is _ _ normal.auto.1.0 c.is_list.ensures c.if-not-is_list.false)
-    (λ i. (known.shared_slice_known-1.given i).fits) c.if-found-ne0.false run.result _ run.ensures
+    (λ i. (c.shared_slice_known-1.given i).fits) c.if-found-ne0.false run.result _ run.ensures

@@ -34,7 +34,6 @@ fold_literals-requires c =
 
 pub returns : goal.returns
 returns c =
-    let at-slices = c in
-    let room = at-slices.requires in
-    copied _ _ (λ i. (at-slices.shared_slice_known-1.given i).fits) room.accepted c.fold_literals.ensures
+    let room = c.requires in
+    copied _ _ (λ i. (c.shared_slice_known-1.given i).fits) room.accepted c.fold_literals.ensures
     room.room

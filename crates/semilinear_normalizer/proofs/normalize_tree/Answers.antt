@@ -24,40 +24,34 @@ slice_bounds-collect_terms-end-2 c =
 
 pub collect_terms-found-requires : goal.collect_terms-found-requires
 collect_terms-found-requires c =
-    let at-known = c in
-    let at-start = at-known in
-    let at-nothing = c in (
-      whole_at _ _ (λ i. (at-known.shared_slice_known-1.given i).fits) at-start.requires.accepted
-          c.mark_traits.ensures at-start.requires.marked at-nothing.size-n.ensures.0 refl,
-      whole_ready _ _ (λ i. (at-known.shared_slice_known-1.given i).fits) at-start.requires.accepted
-          at-start.requires.collected at-nothing.start.ensures,
+    (
+      whole_at _ _ (λ i. (c.shared_slice_known-1.given i).fits) c.requires.accepted
+          c.mark_traits.ensures c.requires.marked c.size-n.ensures.0 refl,
+      whole_ready _ _ (λ i. (c.shared_slice_known-1.given i).fits) c.requires.accepted
+          c.requires.collected c.start.ensures,
     )
 
 pub returns-then-not-found : goal.returns-then-not-found
 returns-then-not-found c =
-    let at-known = c in
-    let at-start = at-known in
-    gives_eight _ _ (λ i. (at-known.shared_slice_known-1.given i).fits) at-start.requires.accepted _
+    gives_eight _ _ (λ i. (c.shared_slice_known-1.given i).fits) c.requires.accepted _
     c.start.ensures c.collect_terms-found.ensures c.if-not-found.true
-    at-start.requires.written c.refuse.result c.refuse.ensures
+    c.requires.written c.refuse.result c.refuse.ensures
 
 pub write_form-requires : goal.write_form-requires
 write_form-requires c =
-    let at-known = c in
-    let at-start = at-known in
     let nothing = c.start.ensures in
-    let pre = at-start.requires in (
+    let pre = c.requires in (
       record {
         spots_ok =
-            spots_whole _ _ (λ i. (at-known.shared_slice_known-1.given i).fits) pre.accepted _ nothing
+            spots_whole _ _ (λ i. (c.shared_slice_known-1.given i).fits) pre.accepted _ nothing
             c.collect_terms-found.ensures;
         inside =
-            count_whole _ _ (λ i. (at-known.shared_slice_known-1.given i).fits) pre.accepted _ nothing
+            count_whole _ _ (λ i. (c.shared_slice_known-1.given i).fits) pre.accepted _ nothing
             c.collect_terms-found.ensures pre.collected;
         room = pre.built;
         long = pre.long;
         entries =
-            index_whole _ _ (λ i. (at-known.shared_slice_known-1.given i).fits) pre.accepted _ nothing
+            index_whole _ _ (λ i. (c.shared_slice_known-1.given i).fits) pre.accepted _ nothing
             c.collect_terms-found.ensures pre.entries;
       },
       pre.written,
@@ -65,8 +59,6 @@ write_form-requires c =
 
 pub returns : goal.returns
 returns c =
-    let at-known = c in
-    let at-start = at-known in
-    gives_collected _ _ (λ i. (at-known.shared_slice_known-1.given i).fits) at-start.requires.accepted _
+    gives_collected _ _ (λ i. (c.shared_slice_known-1.given i).fits) c.requires.accepted _
     c.start.ensures c.collect_terms-found.ensures c.if-not-found.false
     c.write_form.result c.write_form.ensures

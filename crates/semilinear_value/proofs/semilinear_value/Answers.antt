@@ -25,16 +25,15 @@ literal-constant-requires c =
 
 pub sum_rows-requires : goal.sum_rows-requires
 sum_rows-requires c =
-    let at_width = c in
     let p =
     semilinear_parts _
     (accepted_semilinear _
-    (sym at_width.semilinear_refusal-number.ensures ∙ at_width.if-number-ne0.false)) in
+    (sym c.semilinear_refusal-number.ensures ∙ c.if-number-ne0.false)) in
     record {
-      width = rw at_width.width-w.ensures p.0.width_le;
-      atoms_ok_lem = rw (at_width.width-w.ensures, c.body-f.ensures) p.1.atoms;
+      width = rw c.width-w.ensures p.0.width_le;
+      atoms_ok_lem = rw (c.width-w.ensures, c.body-f.ensures) p.1.atoms;
       ends = c.terms_at-terms.ensures;
-      fits = rw (c.literal-constant.ensures, at_width.width-w.ensures) p.0.fits;
+      fits = rw (c.literal-constant.ensures, c.width-w.ensures) p.0.fits;
     }
 
 pub returns : goal.returns

@@ -36,3 +36,19 @@ refine_group-requires c =
 pub returns : goal.returns
 unfolding view_at basis_bytes
 returns c = c.refine_group.ensures
+
+pub slice_bounds-stays_alone-start : goal.slice_bounds-stays_alone-start
+unfolding view_at
+slice_bounds-stays_alone-start c = c.requires.in_group.start_le
+
+pub slice_bounds-stays_alone-end : goal.slice_bounds-stays_alone-end
+unfolding view_at
+slice_bounds-stays_alone-end c = c.requires.in_group.end_le
+
+pub slice_bounds-refine_group-start : goal.slice_bounds-refine_group-start
+unfolding view_at
+slice_bounds-refine_group-start c = c.requires.in_group.start_le
+
+pub slice_bounds-refine_group-end : goal.slice_bounds-refine_group-end
+unfolding view_at
+slice_bounds-refine_group-end c = c.requires.in_group.end_le

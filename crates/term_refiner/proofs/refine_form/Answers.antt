@@ -16,9 +16,7 @@ literal-constant-requires c = (semilinear_parts _ c.requires.0).0.big
 
 pub refine_table-requires : goal.refine_table-requires
 refine_table-requires c =
-    let at-known = c in
-    let at-start = at-known in
-    pass_begin at-start.args.s.now (λ i. (at-known.shared_slice_known-1.given i).fits) at-start.requires.0
+    pass_begin c.args.s.now (λ i. (c.shared_slice_known-1.given i).fits) c.requires.0
     c.width-w.ensures c.body.ensures c.copy_atoms-tab.ensures (padded_nil 256)
 
 pub finish-requires : goal.finish-requires
@@ -28,9 +26,7 @@ finish-requires c =
 
 pub returns : goal.returns
 returns c =
-    let at-known = c in
-    let at-start = at-known in
     let finished = c.finish in
-    refine_end at-start.args.s.now (λ i. (at-known.shared_slice_known-1.given i).fits) at-start.requires.0
+    refine_end c.args.s.now (λ i. (c.shared_slice_known-1.given i).fits) c.requires.0
     c.width-w.ensures c.literal-constant.ensures c.body.ensures c.copy_atoms-tab.ensures
     c.refine_table.ensures c.load.ensures finished.result finished.ensures

@@ -12,11 +12,9 @@ loop-j-init c = (omega arith, place_start _ _)
 
 pub returns-then-vars-j : goal.returns-then-vars-j
 returns-then-vars-j c =
-    let at-loop = c in
-    let at-start = at-loop in
     sym
-    (at-loop.loop-j.invariant.1
-    ∙ place_found at-start.args.v at-start.args.vars.now at-loop.loop-j.j (omega arith) c.if-vars-j.true)
+    (c.loop-j.invariant.1
+    ∙ place_found c.args.v c.args.vars.now c.loop-j.j (omega arith) c.if-vars-j.true)
 
 pub loop-j-preserved : goal.loop-j-preserved
 loop-j-preserved c =

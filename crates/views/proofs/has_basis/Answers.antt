@@ -23,3 +23,13 @@ pub returns : goal.returns
 unfolding view_at basis_bytes
 returns c =
     c.same_bytes.ensures ∙ sym (basis_same _ _ _ _ c.if-views-v.false c.if-end-eq0.false)
+
+pub slice_bounds-basis-start : goal.slice_bounds-basis-start
+unfolding view_at
+slice_bounds-basis-start c =
+    c.requires.start_le c.args.i (omega arith) c.if-end-eq0.false
+
+pub slice_bounds-basis-end : goal.slice_bounds-basis-end
+unfolding view_at
+slice_bounds-basis-end c =
+    c.requires.end_le c.args.i (omega arith)

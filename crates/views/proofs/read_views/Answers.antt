@@ -27,14 +27,12 @@ pub returns-then-not-is_atom : goal.returns-then-not-is_atom
 returns-then-not-is_atom c =
     let h = c.loop-x in
     reads_end _ _ _ _ _ _ h.x _ _ h.invariant
-    (ap is_atom (sym c.rest_from.ensures) ∙ sym c.is_atom.ensures ∙ not-true _
-    c.if-not-is_atom.true)
+    (ap is_atom (sym c.rest_from.ensures) ∙ sym c.is_atom.ensures ∙ c.if-not-is_atom.true)
 
 pub read_row-x-requires : goal.read_row-x-requires
 read_row-x-requires c =
     let h = c.loop-x in
-    let e = ap is_atom (sym c.rest_from.ensures) ∙ sym c.is_atom.ensures ∙ not-false _
-    c.if-not-is_atom.false in
+    let e = ap is_atom (sym c.rest_from.ensures) ∙ sym c.is_atom.ensures ∙ c.if-not-is_atom.false in
     let lt = number_lt _ _ _ _ _ _ h.x _ _ h.invariant e in
     record {
       row = record {
@@ -56,6 +54,5 @@ pub loop-x-preserved : goal.loop-x-preserved
 loop-x-preserved c =
     let h = c.loop-x in
     reads_row _ _ _ _ _ _ h.x _ _ h.invariant
-    (ap is_atom (sym c.rest_from.ensures) ∙ sym c.is_atom.ensures ∙ not-false _
-    c.if-not-is_atom.false) c.read_row-x.result _ _
+    (ap is_atom (sym c.rest_from.ensures) ∙ sym c.is_atom.ensures ∙ c.if-not-is_atom.false) c.read_row-x.result _ _
     c.read_row-x.ensures

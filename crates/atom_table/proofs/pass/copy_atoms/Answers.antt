@@ -17,26 +17,21 @@ width-requires c = (semilinear_parts _ c.requires.0).0.big
 
 pub put_atoms-requires : goal.put_atoms-requires
 put_atoms-requires c =
-    let at_body = c in
-    let at-known = at_body in
-    let at-start = at-known in
-    let s = at-start.args.s.now in
+    let s = c.args.s.now in
     let short =
-    length_le s (length_accepted s (λ i. (at-known.shared_slice_known-1.given i).fits) at-start.requires.0) in (
-      rw (at_body.body.ensures, c.width.ensures) (semilinear_parts s at-start.requires.0).1.atoms,
+    length_le s (length_accepted s (λ i. (c.shared_slice_known-1.given i).fits) c.requires.0) in (
+      rw (c.body.ensures, c.width.ensures) (semilinear_parts s c.requires.0).1.atoms,
       omega (
         arith,
         short,
-        ap length at_body.body.ensures,
+        ap length c.body.ensures,
         length_body s,
-        ap length at-start.requires.1 ∙ length_padded 57360 [] (omega arith),
+        ap length c.requires.1 ∙ length_padded 57360 [] (omega arith),
       ),
     )
 
 pub returns : goal.returns
 returns c =
     let put = c.put_atoms in
-    let at-known = c in
-    let at-start = at-known in
-    copied at-start.args.s.now (λ i. (at-known.shared_slice_known-1.given i).fits) at-start.requires.0
-    c.body.ensures c.width.ensures put.result put.ensures at-start.requires.1
+    copied c.args.s.now (λ i. (c.shared_slice_known-1.given i).fits) c.requires.0
+    c.body.ensures c.width.ensures put.result put.ensures c.requires.1

@@ -92,15 +92,9 @@ loop-r-smaller c =
 
 pub loop-r-preserved : goal.loop-r-preserved
 loop-r-preserved c =
-    let at-put-atom = c in
-    let at-tree-span = at-put-atom in
-    let at-if1 = at-tree-span in
-    let at-is-atom = at-if1 in
-    let at-loop = at-is-atom in
-    let at-start = at-loop in
-    let a = at-start.args in
+    let a = c.args in
     rw (c.atom_length-at.ensures.0, c.front_number-records.ensures.0)
-    (spans_more a.w a.f.now a.out.now at-start.requires.0 at-start.requires.1 at-loop.loop-r.at
-    at-loop.loop-r.count at-loop.loop-r.records _ at-loop.loop-r.invariant at-is-atom.rest_from-r.ensures
-    (sym at-is-atom.is_atom.ensures ∙ at-if1.if-not-is_atom.false)
-    (at-put-atom.put_atom.ensures ∙ rw at-tree-span.tree_span.ensures))
+    (spans_more a.w a.f.now a.out.now c.requires.0 c.requires.1 c.loop-r.at
+    c.loop-r.count c.loop-r.records _ c.loop-r.invariant c.rest_from-r.ensures
+    (sym c.is_atom.ensures ∙ c.if-not-is_atom.false)
+    (c.put_atom.ensures ∙ rw c.tree_span.ensures))

@@ -19,13 +19,11 @@ day-requires-in-loop-i c = omega (arith, c.requires, c.loop-i-test.true)
 
 pub returns-then-day : goal.returns-then-day
 returns-then-day c =
-    let at-loop = c in
-    let at-start = at-loop in
-    let s = at-start.args.run.now in
+    let s = c.args.run.now in
     sym
-    (at-loop.loop-i.invariant.1
-    ∙ first_here (falls s) at-loop.loop-i.i at-start.args.n c.loop-i-test.true
-    (falls_yes s at-loop.loop-i.i c.day.ensures.0 c.day-in-loop-i.ensures.0
+    (c.loop-i.invariant.1
+    ∙ first_here (falls s) c.loop-i.i c.args.n c.loop-i-test.true
+    (falls_yes s c.loop-i.i c.day.ensures.0 c.day-in-loop-i.ensures.0
     (omega (arith, c.if-day.true))))
 
 pub overflow_add-i : goal.overflow_add-i

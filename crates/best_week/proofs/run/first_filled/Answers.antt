@@ -16,13 +16,11 @@ rest-requires c = omega (arith, c.requires, c.loop-i-test.true)
 
 pub returns-then-rest-ne0 : goal.returns-then-rest-ne0
 returns-then-rest-ne0 c =
-    let at-loop = c in
-    let at-start = at-loop in
-    let s = at-start.args.run.now in
+    let s = c.args.run.now in
     sym
-    (at-loop.loop-i.invariant.1
-    ∙ first_here (filled s) at-loop.loop-i.i at-start.args.n c.loop-i-test.true
-    (filled_yes s at-loop.loop-i.i c.rest.ensures c.if-rest-ne0.true))
+    (c.loop-i.invariant.1
+    ∙ first_here (filled s) c.loop-i.i c.args.n c.loop-i-test.true
+    (filled_yes s c.loop-i.i c.rest.ensures c.if-rest-ne0.true))
 
 pub loop-i-preserved : goal.loop-i-preserved
 loop-i-preserved c =

@@ -37,14 +37,8 @@ put_atom-requires c =
 
 pub returns : goal.returns
 returns c =
-    let at-put-atom = c in
-    let at-tree-span = at-put-atom in
-    let at-if1 = at-tree-span in
-    let at-has-term = at-if1 in
-    let at-atom-length = at-has-term in
-    let at-start = at-atom-length in
-    copied_with at-start.args.w at-start.args.f.now at-start.args.self at-start.requires.at_le
-    at-start.requires.next_le at-start.requires.atom at-atom-length.rest_from-r.ensures
-    at-has-term.rest_from.ensures at-atom-length.atom_length-n.ensures.0
-    (sym at-has-term.has_term.ensures ∙ at-if1.if-not-has_term.false) _ _
-    (at-put-atom.put_atom.ensures ∙ rw at-tree-span.tree_span.ensures)
+    copied_with c.args.w c.args.f.now c.args.self c.requires.at_le
+    c.requires.next_le c.requires.atom c.rest_from-r.ensures
+    c.rest_from.ensures c.atom_length-n.ensures.0
+    (sym c.has_term.ensures ∙ c.if-not-has_term.false) _ _
+    (c.put_atom.ensures ∙ rw c.tree_span.ensures)

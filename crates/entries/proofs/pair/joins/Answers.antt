@@ -7,4 +7,4 @@ pub returns-in-At : goal.returns-in-At
 returns-in-At c = λ e. false_true (sym e)
 
 pub returns-in-Apart : goal.returns-in-Apart
-returns-in-Apart c = λ _. sym c.pair_at.ensures ∙ c.enum_told-in-Apart-1.given.1
+returns-in-Apart c = λ _. sym c.pair_at.ensures ∙ c.in-Apart.is

@@ -36,8 +36,7 @@ amount-requires t c =
 
 pub unary-requires : goal.unary-requires
 unary-requires t c =
-    let at-start = c in
-    (at-start.requires.width_le, rw c.value_from-x.ensures (value_lt _ _ _))
+    (c.requires.width_le, rw c.value_from-x.ensures (value_lt _ _ _))
 
 pub returns-then-children-eq1 : goal.returns-then-children-eq1
 unfolding value

@@ -40,23 +40,19 @@ is_complex-requires c =
 
 pub flatten_atom-requires : goal.flatten_atom-requires
 flatten_atom-requires c =
-    let at-span = c in
-    let at_rest = at-span in
-    let at-known = at_rest in
-    let at-start = at-known in
-    let r = at_rest.rest_from-r.ensures in
+    let r = c.rest_from-r.ensures in
     let bytes =
-    bytes_drop at-start.args.self.at at-start.args.f.now
-    (λ i. (at-known.shared_slice_known-1.given i).fits) in (
-      rw (at-span.tree_span-t.ensures, r)
-          (first_tree_sized at-start.args.w _ at-start.requires.row.atoms_ok_lem at-start.requires.row.atom),
+    bytes_drop c.args.self.at c.args.f.now
+    (λ i. (c.shared_slice_known-1.given i).fits) in (
+      rw (c.tree_span-t.ensures, r)
+          (first_tree_sized c.args.w _ c.requires.row.atoms_ok_lem c.requires.row.atom),
       record {
-        width = at-start.requires.row.width;
-        within = complex_index _ _ bytes (first_atom_ok at-start.args.w _ at-start.requires.row.atoms_ok_lem at-start.requires.row.atom)
-            (at-span.tree_span-t.ensures ∙ ap tree_span r)
+        width = c.requires.row.width;
+        within = complex_index _ _ bytes (first_atom_ok c.args.w _ c.requires.row.atoms_ok_lem c.requires.row.atom)
+            (c.tree_span-t.ensures ∙ ap tree_span r)
             (sym c.is_complex.ensures ∙ c.if-is_complex.true);
-        room = at-start.requires.room;
-        more = at-start.requires.more;
+        room = c.requires.room;
+        more = c.requires.more;
       },
     )
 

@@ -31,7 +31,7 @@ loop-i-preserved c =
     let cut = c.cut_of-cut.ensures in (
       omega arith,
       loop_turn (cut_at c.args.w t) 0 h.i (omega arith) h.invariant.1
-          (elim c.if-cut-m.branch [ then-cut-m w ↦ turn_cut t h.i cut w.if-cut-m.true w.create_masked.ensures w.self-is w.made-is w.out-is | else-cut-m w ↦ turn_same t h.i cut w.if-cut-m.false h.invariant.1.room w.self-is w.made-is w.out-is ])
+          (elim c.if-cut-m.branch [ then-cut-m w ↦ turn_cut t h.i cut w.if-cut-m.true w.create_masked.ensures w.made-is w.out-is w.self-is | else-cut-m w ↦ turn_same t h.i cut w.if-cut-m.false h.invariant.1.room w.made-is w.out-is w.self-is ])
           (omega arith),
     )
 

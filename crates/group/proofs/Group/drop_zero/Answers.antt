@@ -18,7 +18,7 @@ loop-i-preserved c =
     let test = c.drops.ensures in (
       omega arith,
       for_turn (drop_at w) h.i _ h.invariant.1
-          (elim c.if-drops.branch [ then-drops w ↦ w.self-is ∙ sym (drop_at_drop w h.i h.self (sym test ∙ w.if-drops.true)) | else-drops w ↦ w.self-is ∙ sym (drop_at_same w h.i h.self (sym test ∙ w.if-drops.false)) ]),
+          (elim c.if-drops.branch [ then-drops k ↦ k.self-is ∙ sym (drop_at_drop w h.i h.self (sym test ∙ k.if-drops.true)) | else-drops k ↦ k.self-is ∙ sym (drop_at_same w h.i h.self (sym test ∙ k.if-drops.false)) ]),
     )
 
 pub returns : goal.returns

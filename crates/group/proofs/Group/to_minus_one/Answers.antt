@@ -19,7 +19,7 @@ loop-i-preserved c =
     let test = c.becomes_minus_one.ensures in (
       omega arith,
       for_turn (minus_one_at w) h.i _ h.invariant.1
-          (elim c.if-becomes_minus_one.branch [ then-becomes_minus_one w ↦ w.self-is ∙ sym (minus_one_at_set w h.i h.self (omega arith) minus (sym test ∙ w.if-becomes_minus_one.true)) | else-becomes_minus_one w ↦ w.self-is ∙ sym (minus_one_at_same w h.i h.self (sym test ∙ w.if-becomes_minus_one.false)) ]),
+          (elim c.if-becomes_minus_one.branch [ then-becomes_minus_one k ↦ k.self-is ∙ sym (minus_one_at_set w h.i h.self (omega arith) minus (sym test ∙ k.if-becomes_minus_one.true)) | else-becomes_minus_one k ↦ k.self-is ∙ sym (minus_one_at_same w h.i h.self (sym test ∙ k.if-becomes_minus_one.false)) ]),
     )
 
 pub returns : goal.returns

@@ -89,22 +89,20 @@ loop-r-smaller c =
 
 pub loop-r-preserved : goal.loop-r-preserved
 loop-r-preserved c =
-    let at-loop = c in
-    let at-start = at-loop in
-    let f = at-start.args.f.now in
-    let index = at-loop.loop-r.index in
+    let f = c.args.f.now in
+    let index = c.loop-r.index in
     let ea = sym c.is_atom.ensures ∙ c.if-not-is_atom.false in
     let er = c.rest_from-r.ensures in
-    let more = here_count _ _ _ _ _ at-loop.loop-r.invariant.0 _ er ea in
+    let more = here_count _ _ _ _ _ c.loop-r.invariant.0 _ er ea in
     let ew =
     c.atom_words-words.ensures
-    ∙ ap (λ (s : List ℕ). atom_words at-loop.loop-r.at (decode s)) c.tree_span.ensures in
-    let room : 9 * (at-loop.loop-r.i + 1) ≤ length index =
-    omega (arith, more, trees_count f, at-start.requires.1, at-loop.loop-r.invariant.1) in
+    ∙ ap (λ (s : List ℕ). atom_words c.loop-r.at (decode s)) c.tree_span.ensures in
+    let room : 9 * (c.loop-r.i + 1) ≤ length index =
+    omega (arith, more, trees_count f, c.requires.1, c.loop-r.invariant.1) in
     let nine = ap length c.atom_words-words.ensures ∙ length_words _ _ in
     rw c.atom_length-at.ensures.0 (
-      indexing_atom _ _ _ _ _ at-loop.loop-r.invariant.0 _ er ea ew room c.put_words.ensures,
+      indexing_atom _ _ _ _ _ c.loop-r.invariant.0 _ er ea ew room c.put_words.ensures,
       ap length c.put_words.ensures
-          ∙ length_put index (9 * at-loop.loop-r.i) c.atom_words-words.result (omega (arith, nine))
-          ∙ at-loop.loop-r.invariant.1,
+          ∙ length_put index (9 * c.loop-r.i) c.atom_words-words.result (omega (arith, nine))
+          ∙ c.loop-r.invariant.1,
     )

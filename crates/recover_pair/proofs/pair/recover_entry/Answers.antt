@@ -32,13 +32,9 @@ recover_pair-requires c =
 
 pub returns-then-j-n : goal.returns-then-j-n
 returns-then-j-n c =
-    let at-bitmask = c in
-    let at-if2 = at-bitmask in
-    let at-if1 = at-if2 in
-    let at-start = at-if1 in
-    let a = at-start.args in turned_as
-    (at_pair a.w (decode a.b.now) a.i _ (at-bitmask.bitmask.ensures ∙ bitmask_ones a.w at-start.requires.makes.width)
-    c.complement-wanted.ensures c.partner_of-j.ensures at-if1.if-mark-eq-CONSUMED.false at-if2.if-mark-eq-REWRITTEN.false c.if-j-n.true)
+    let a = c.args in turned_as
+    (at_pair a.w (decode a.b.now) a.i _ (c.bitmask.ensures ∙ bitmask_ones a.w c.requires.makes.width)
+    c.complement-wanted.ensures c.partner_of-j.ensures c.if-mark-eq-CONSUMED.false c.if-mark-eq-REWRITTEN.false c.if-j-n.true)
     c.recover_pair.ensures
 
 pub returns : goal.returns

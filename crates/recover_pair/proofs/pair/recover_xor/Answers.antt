@@ -8,8 +8,6 @@ use Rattle.recover_pair.proofs.pair.recover_xor.Goals as goal
 
 pub returns : goal.returns
 returns c =
-    let at-bitmask = c in
-    let at-start = at-bitmask in
-    let a = at-start.args in let pre = at-start.requires in xor_turned a.w (decode a.b.now) a.src a.dst pre.apart
-    (at-bitmask.bitmask.ensures ∙ bitmask_ones a.w pre.width) c.create_xored.ensures c.mod_mul.ensures
+    let a = c.args in let pre = c.requires in xor_turned a.w (decode a.b.now) a.src a.dst pre.apart
+    (c.bitmask.ensures ∙ bitmask_ones a.w pre.width) c.create_xored.ensures c.mod_mul.ensures
     c.add_constant.ensures refl

@@ -21,14 +21,12 @@ same_slot-requires c =
 
 pub returns-then-same_slot : goal.returns-then-same_slot
 returns-then-same_slot c =
-    let at-loop = c in
-    let at-start = at-loop in
     sym
-    (at-loop.loop-j.invariant.1
+    (c.loop-j.invariant.1
     ∙ last_here
-    (slot_at at-start.args.hash (decode at-start.args.t.now) at-start.args.index.now
-    at-start.args.out.now)
-    at-start.args.n at-loop.loop-j.j (omega arith) (sym c.same_slot.ensures ∙ c.if-same_slot.true))
+    (slot_at c.args.hash (decode c.args.t.now) c.args.index.now
+    c.args.out.now)
+    c.args.n c.loop-j.j (omega arith) (sym c.same_slot.ensures ∙ c.if-same_slot.true))
 
 pub loop-j-preserved : goal.loop-j-preserved
 loop-j-preserved c =

@@ -65,3 +65,13 @@ returns c =
     (hash_differs c.args.n c.args.hash c.args.t.now c.args.index.now
     c.args.out.now c.newest_slot-j.result c.newest_slot-j.ensures
     (sym c.same_bytes.ensures ∙ c.if-same_bytes.false))
+
+pub slice_bounds-same_bytes-start : goal.slice_bounds-same_bytes-start
+slice_bounds-same_bytes-start c =
+    c.requires.1.rising c.newest_slot-j.result
+    (newest_lt _ _ _ _ _ _ c.newest_slot-j.ensures c.if-j-n.false)
+
+pub slice_bounds-same_bytes-end : goal.slice_bounds-same_bytes-end
+slice_bounds-same_bytes-end c =
+    c.requires.1.inside c.newest_slot-j.result
+    (newest_lt _ _ _ _ _ _ c.newest_slot-j.ensures c.if-j-n.false)

@@ -25,12 +25,10 @@ same_key-requires c =
 
 pub returns-then-same_key : goal.returns-then-same_key
 returns-then-same_key c =
-    let at-loop = c in
-    let at-start = at-loop in
     sym
-    (at-loop.loop-j.invariant.1
-    ∙ first_here (key_at at-start.args.key.now at-start.args.index.now) at-loop.loop-j.j
-    at-start.args.n (omega arith) (sym c.same_key.ensures ∙ c.if-same_key.true))
+    (c.loop-j.invariant.1
+    ∙ first_here (key_at c.args.key.now c.args.index.now) c.loop-j.j
+    c.args.n (omega arith) (sym c.same_key.ensures ∙ c.if-same_key.true))
 
 pub loop-j-preserved : goal.loop-j-preserved
 loop-j-preserved c =

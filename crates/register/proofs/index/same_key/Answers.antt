@@ -31,12 +31,10 @@ bounds-key-i c = omega (arith, c.requires.0)
 
 pub returns-then-index-at : goal.returns-then-index-at
 returns-then-index-at c =
-    let at-loop = c in
-    let at-start = at-loop in
     sym
-    (at-loop.loop-i.invariant.1
-    ∙ key_differs at-start.args.j at-start.args.key.now at-start.args.index.now at-loop.loop-i.i
-    at-start.requires.1 at-start.requires.0 (omega arith) c.if-index-at.true)
+    (c.loop-i.invariant.1
+    ∙ key_differs c.args.j c.args.key.now c.args.index.now c.loop-i.i
+    c.requires.1 c.requires.0 (omega arith) c.if-index-at.true)
 
 pub loop-i-preserved : goal.loop-i-preserved
 loop-i-preserved c =

@@ -28,8 +28,7 @@ returns-then-same_bytes c =
 pub same_vars-requires : goal.same_vars-requires
 unfolding entry_span span_of
 same_vars-requires c =
-    let at-start = c in
-    (at-start.requires.1.trees at-start.args.j (omega arith), at-start.requires.0)
+    (c.requires.1.trees c.args.j (omega arith), c.requires.0)
 
 pub returns : goal.returns
 unfolding entry_span span_of
@@ -38,3 +37,11 @@ returns c =
     ∙ sym
     (slot_vars c.args.hash c.args.t.now c.args.index.now
     c.args.out.now c.args.j c.if-index-at.false)
+
+pub slice_bounds-tree-start : goal.slice_bounds-tree-start
+slice_bounds-tree-start c =
+    c.requires.1.rising c.args.j (omega arith)
+
+pub slice_bounds-tree-end : goal.slice_bounds-tree-end
+slice_bounds-tree-end c =
+    c.requires.1.inside c.args.j (omega arith)

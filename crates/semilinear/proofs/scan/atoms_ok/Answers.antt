@@ -19,9 +19,8 @@ rest_from-r-requires c = c.loop-r.invariant.0
 
 pub returns-then-not-is_atom : goal.returns-then-not-is_atom
 returns-then-not-is_atom c =
-    let at-loop = c in
     sym
-    (at-loop.loop-r.invariant.1
+    (c.loop-r.invariant.1
     ∙ fold_done _ _ _
     (ap is_atom (sym c.rest_from-r.ensures)
     ∙ sym c.is_atom.ensures
@@ -32,11 +31,9 @@ atom_ok-requires c = (sym c.is_atom.ensures ∙ c.if-not-is_atom.false)
 
 pub returns-then-not-atom_ok : goal.returns-then-not-atom_ok
 returns-then-not-atom_ok c =
-    let at-loop = c in
-    let at-start = at-loop in
     sym
-    (at-loop.loop-r.invariant.1
-    ∙ atoms_ok_stop at-start.args.f.now at-loop.loop-r.at _ c.rest_from-r.ensures
+    (c.loop-r.invariant.1
+    ∙ atoms_ok_stop c.args.f.now c.loop-r.at _ c.rest_from-r.ensures
     (sym c.is_atom.ensures ∙ c.if-not-is_atom.false) _
     (sym c.atom_ok.ensures ∙ c.if-not-atom_ok.true))
 

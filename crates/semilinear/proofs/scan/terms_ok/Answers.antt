@@ -20,12 +20,10 @@ rest_from-rest-requires c = c.loop-at.invariant.0
 
 pub returns-then-not-is_term : goal.returns-then-not-is_term
 returns-then-not-is_term c =
-    let at-loop = c in
-    let at-start = at-loop in
     sym
-    (at-loop.loop-at.invariant.1
-    ∙ terms_other _ _ _ (drop at-loop.loop-at.at at-start.args.q.now)
-    (omega (arith, length-drop at-loop.loop-at.at at-start.args.q.now))
+    (c.loop-at.invariant.1
+    ∙ terms_other _ _ _ (drop c.loop-at.at c.args.q.now)
+    (omega (arith, length-drop c.loop-at.at c.args.q.now))
     (ap is_term (sym c.rest_from-rest.ensures)
     ∙ sym c.is_term.ensures
     ∙ c.if-not-is_term.true))
@@ -35,12 +33,10 @@ term_ok-requires c = (sym c.is_term.ensures ∙ c.if-not-is_term.false)
 
 pub returns-then-not-term_ok : goal.returns-then-not-term_ok
 returns-then-not-term_ok c =
-    let at-loop = c in
-    let at-start = at-loop in
     sym
-    (at-loop.loop-at.invariant.1
-    ∙ terms_ok_stop at-start.args.w at-start.args.n at-loop.loop-at.next at-start.args.q.now
-    at-loop.loop-at.at _ c.rest_from-rest.ensures
+    (c.loop-at.invariant.1
+    ∙ terms_ok_stop c.args.w c.args.n c.loop-at.next c.args.q.now
+    c.loop-at.at _ c.rest_from-rest.ensures
     (sym c.is_term.ensures ∙ c.if-not-is_term.false)
     (sym c.term_ok.ensures ∙ c.if-not-term_ok.true))
 
@@ -71,15 +67,14 @@ loop-at-smaller c =
 
 pub loop-at-preserved : goal.loop-at-preserved
 loop-at-preserved c =
-    let at-loop = c in
-    let at-start = at-loop in (
-      term_inside at-start.args.w at-start.args.n at-loop.loop-at.next at-start.args.q.now
-          at-loop.loop-at.at _ c.rest_from-rest.ensures
-          (sym c.is_term.ensures ∙ c.if-not-is_term.false) at-loop.loop-at.invariant.0,
+    (
+      term_inside c.args.w c.args.n c.loop-at.next c.args.q.now
+          c.loop-at.at _ c.rest_from-rest.ensures
+          (sym c.is_term.ensures ∙ c.if-not-is_term.false) c.loop-at.invariant.0,
       rw c.front_number-next.ensures.0
-          (at-loop.loop-at.invariant.1
-          ∙ terms_ok_next at-start.args.w at-start.args.n at-loop.loop-at.next at-start.args.q.now
-          at-loop.loop-at.at _ c.rest_from-rest.ensures
+          (c.loop-at.invariant.1
+          ∙ terms_ok_next c.args.w c.args.n c.loop-at.next c.args.q.now
+          c.loop-at.at _ c.rest_from-rest.ensures
           (sym c.is_term.ensures ∙ c.if-not-is_term.false)
           (sym c.term_ok.ensures ∙ c.if-not-term_ok.false)),
     )

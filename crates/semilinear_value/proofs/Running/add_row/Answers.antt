@@ -49,31 +49,23 @@ front_word-requires c =
 
 pub returns : goal.returns
 returns c =
-    let at-front-word = c in
-    let at-value-at = at-front-word in
-    let at-if1 = at-value-at in
-    let at-has-term = at-if1 in
-    let at-atom-length = at-has-term in
-    let at-rest-from2 = at-atom-length in
-    let at-rest-from = at-rest-from2 in
-    let at-start = at-rest-from in
     record {
-      passed = passed_with at-start.args.f.now at-start.args.self.at at-start.args.self.next
-          at-start.args.self.number at-start.requires.row.inside at-start.requires.row.terms_inside at-start.requires.row.atom
-          at-rest-from.rest_from-r.ensures at-rest-from2.rest_from-q.ensures
-          at-atom-length.atom_length.ensures.0
-          (sym at-has-term.has_term.ensures ∙ at-if1.if-not-has_term.false);
-      sum = sum_step at-start.args.w at-start.requires.row.width at-start.args.self.sum
-          at-front-word.front_word.result at-value-at.value_at-atom.result c.mod_mul-term.ensures
+      passed = passed_with c.args.f.now c.args.self.at c.args.self.next
+          c.args.self.number c.requires.row.inside c.requires.row.terms_inside c.requires.row.atom
+          c.rest_from-r.ensures c.rest_from-q.ensures
+          c.atom_length.ensures.0
+          (sym c.has_term.ensures ∙ c.if-not-has_term.false);
+      sum = sum_step c.args.w c.requires.row.width c.args.self.sum
+          c.front_word.result c.value_at-atom.result c.mod_mul-term.ensures
           c.mod_add.ensures
-          ∙ ap₂ (λ (x y : ℕ). (at-start.args.self.sum + x * y) % 2 ^ at-start.args.w)
-          (at-front-word.front_word.ensures
-          ∙ coeff_with at-start.args.f.now at-start.args.self.at at-start.args.self.next
-          at-start.args.self.number at-start.requires.row.inside at-start.requires.row.terms_inside at-start.requires.row.atom
-          at-rest-from.rest_from-r.ensures at-rest-from2.rest_from-q.ensures
-          at-atom-length.atom_length.ensures.0
-          (sym at-has-term.has_term.ensures ∙ at-if1.if-not-has_term.false))
-          (at-value-at.value_at-atom.ensures
-          ∙ ap (λ (l : List ℕ). value at-start.args.w at-start.args.vars.now (decode l))
-          (at-value-at.tree_span.ensures ∙ ap tree_span at-rest-from.rest_from-r.ensures));
+          ∙ ap₂ (λ (x y : ℕ). (c.args.self.sum + x * y) % 2 ^ c.args.w)
+          (c.front_word.ensures
+          ∙ coeff_with c.args.f.now c.args.self.at c.args.self.next
+          c.args.self.number c.requires.row.inside c.requires.row.terms_inside c.requires.row.atom
+          c.rest_from-r.ensures c.rest_from-q.ensures
+          c.atom_length.ensures.0
+          (sym c.has_term.ensures ∙ c.if-not-has_term.false))
+          (c.value_at-atom.ensures
+          ∙ ap (λ (l : List ℕ). value c.args.w c.args.vars.now (decode l))
+          (c.tree_span.ensures ∙ ap tree_span c.rest_from-r.ensures));
     }

@@ -34,3 +34,19 @@ recover_group-requires c =
 pub returns : goal.returns
 unfolding view_at basis_bytes
 returns c = c.recover_group.ensures
+
+pub slice_bounds-is_lone-start : goal.slice_bounds-is_lone-start
+unfolding view_at
+slice_bounds-is_lone-start c = c.requires.in_group.start_le
+
+pub slice_bounds-is_lone-end : goal.slice_bounds-is_lone-end
+unfolding view_at
+slice_bounds-is_lone-end c = c.requires.in_group.end_le
+
+pub slice_bounds-recover_group-start : goal.slice_bounds-recover_group-start
+unfolding view_at
+slice_bounds-recover_group-start c = c.requires.in_group.start_le
+
+pub slice_bounds-recover_group-end : goal.slice_bounds-recover_group-end
+unfolding view_at
+slice_bounds-recover_group-end c = c.requires.in_group.end_le

@@ -17,9 +17,7 @@ literal-constant-requires c = (semilinear_parts _ c.requires.0).0.big
 
 pub recover_table-requires : goal.recover_table-requires
 recover_table-requires c =
-    let at-known = c in
-    let at-start = at-known in
-    pass_begin at-start.args.s.now (λ i. (at-known.shared_slice_known-1.given i).fits) at-start.requires.0
+    pass_begin c.args.s.now (λ i. (c.shared_slice_known-1.given i).fits) c.requires.0
     c.width-w.ensures c.body.ensures c.copy_atoms-tab.ensures (padded_nil 256)
 
 pub finish-requires : goal.finish-requires
@@ -29,8 +27,6 @@ finish-requires c =
 
 pub returns : goal.returns
 returns c =
-    let at-known = c in
-    let at-start = at-known in
-    recover_end at-start.args.s.now (λ i. (at-known.shared_slice_known-1.given i).fits) at-start.requires.0 c.width-w.ensures
+    recover_end c.args.s.now (λ i. (c.shared_slice_known-1.given i).fits) c.requires.0 c.width-w.ensures
     c.literal-constant.ensures c.body.ensures c.copy_atoms-tab.ensures c.recover_table.ensures
     c.load.ensures refl c.finish.result c.finish.ensures

@@ -62,35 +62,30 @@ view_of-v-requires c =
 
 pub offset_bounds-coeffs-number-2 : goal.offset_bounds-coeffs-number-2
 offset_bounds-coeffs-number-2 c =
-    omega (arith, c.good.1.1.1.1.1.0, c.pre.coeffs_room)
+    omega (arith, c.requires.coeffs_room)
 
 pub overflow_add-result-3 : goal.overflow_add-result-3
 overflow_add-result-3 c =
-    omega (arith, c.good.1.1.1.1.1.0, c.pre.coeffs_room)
+    omega (arith, c.requires.coeffs_room)
 
 pub returns : goal.returns
 returns c =
-    let at-front-word = c in
-    let at-if1 = at-front-word in
-    let at-has-term = at-if1 in
-    let at_length = at-has-term in
-    let at-start = at_length in
-    let f = at-start.args.f.now in
-    let at = at-start.args.self.at in
-    let next = at-start.args.self.next in
-    let number = at-start.args.self.number in
-    let er = at_length.rest_from-r.ensures in
-    let eq = at_length.rest_from-q.ensures in
-    let en = at_length.atom_length.ensures.0 in
-    let term = sym at-has-term.has_term.ensures ∙ at-if1.if-not-has_term.false in
+    let f = c.args.f.now in
+    let at = c.args.self.at in
+    let next = c.args.self.next in
+    let number = c.args.self.number in
+    let er = c.rest_from-r.ensures in
+    let eq = c.rest_from-q.ensures in
+    let en = c.atom_length.ensures.0 in
+    let term = sym c.has_term.ensures ∙ c.if-not-has_term.false in
     let coeff = row_coeff number (drop at f) (drop next f)
-    ∙ sym (at-front-word.front_word-c.ensures ∙ coeff_with f at next number at-start.requires.row.inside at-start.requires.row.terms_inside
-    at-start.requires.row.atom er eq en term) in
+    ∙ sym (c.front_word-c.ensures ∙ coeff_with f at next number c.requires.row.inside c.requires.row.terms_inside
+    c.requires.row.atom er eq en term) in
     record {
-      passed = passed_with f at next number at-start.requires.row.inside at-start.requires.row.terms_inside at-start.requires.row.atom er eq en term;
+      passed = passed_with f at next number c.requires.row.inside c.requires.row.terms_inside c.requires.row.atom er eq en term;
       view = c.view_of-v.result;
-      viewed = c.view_of-v.ensures _ (row_tree_lem at-start.args.w f at er en number (drop next f)) coeff;
+      viewed = c.view_of-v.ensures _ (row_tree_lem c.args.w f at er en number (drop next f)) coeff;
       words = c.put_view-2.ensures;
-      kept = ap (set at-start.args.coeffs.now number)
+      kept = ap (set c.args.coeffs.now number)
           (c.kept_of.ensures ∙ ap (kept_of c.view_of-v.result) (sym coeff));
     }

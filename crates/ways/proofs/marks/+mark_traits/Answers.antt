@@ -47,7 +47,7 @@ mark_traits-below-requires t c =
     let r =
     child_body c.args.t.now c.requires.whole c.root_arity-children.ensures
     c.if-children-eq1.true c.body.ensures in (
-      omega (arith, r.falls, c.requires.0),
+      omega (arith, r.falls),
       record { whole = r.ok; room = omega (arith, r.falls, c.requires.room) },
     )
 
@@ -75,7 +75,7 @@ mark_traits-first-requires t c =
     child_left c.args.t.now c.requires.whole c.root_arity-children.ensures
     c.if-children-eq0.false
     c.if-children-eq1.false c.left.ensures in (
-      omega (arith, r.falls, c.requires.0),
+      omega (arith, r.falls),
       record { whole = r.ok; room = omega (arith, r.falls, c.requires.room) },
     )
 
@@ -106,7 +106,7 @@ mark_traits-second-requires t c =
     let middle =
     right_number tree whole root-arity c.if-children-eq0.false c.if-children-eq1.false
     c.cut.ensures.0 c.number_of-2.ensures in (
-      omega (arith, r.falls, c.requires.0),
+      omega (arith, r.falls),
       record {
         whole = r.ok;
         room = omega (arith, sizes, c.requires.room, middle);

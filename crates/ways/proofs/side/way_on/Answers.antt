@@ -52,15 +52,11 @@ root_arity-requires c = span_big c.requires.spot.span
 pub returns-then-root_arity-ne2 : goal.returns-then-root_arity-ne2
 unfolding span_of
 returns-then-root_arity-ne2 c =
-    let at-if3 = c in
-    let at-if2 = at-if3 in
-    let at-if1 = at-if2 in
-    let at-start = at-if1 in
-    let kind_is = at-if1.kind-k.ensures in
-    way_end _ at-start.requires.spot at-start.requires.some at-start.requires.variable
-    (λ e. at-if1.if-k-eq8.false (kind_is ∙ e)) refl
-    (λ e. at-if3.if-root_arity-ne2.true (at-if3.root_arity.ensures ∙ e))
-    (turned_read _ _ _ _ at-if2.is_turned.ensures kind_is at-if2.if-is_turned.false) c.nowhere.ensures
+    let kind_is = c.kind-k.ensures in
+    way_end _ c.requires.spot c.requires.some c.requires.variable
+    (λ e. c.if-k-eq8.false (kind_is ∙ e)) refl
+    (λ e. c.if-root_arity-ne2.true (c.root_arity.ensures ∙ e))
+    (turned_read _ _ _ _ c.is_turned.ensures kind_is c.if-is_turned.false) c.nowhere.ensures
 
 pub way_two-requires : goal.way_two-requires
 unfolding span_of

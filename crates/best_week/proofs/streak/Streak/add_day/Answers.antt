@@ -10,49 +10,39 @@ use Rattle.best_week.proofs.streak.Streak.add_day.Goals as goal
 
 pub returns-then-not-follows : goal.returns-then-not-follows
 returns-then-not-follows c =
-    let at-over-par = c in
-    let at-start = at-over-par in
-    let s = at-start.args.run.now in
-    let i = at-start.args.i in
-    let new = at-over-par.over_par-new.ensures in
+    let s = c.args.run.now in
+    let i = c.args.i in
+    let new = c.over_par-new.ensures in
     streak_new s i _ (λ _. sym c.follows.ensures ∙ c.if-not-follows.true) refl
-    (back (same_fits (sym new) (over_fits s (λ j. (at-over-par.shared_slice_known-1.given j).fits) i)) ∙ new)
+    (back (same_fits (sym new) (over_fits s (λ j. (c.shared_slice_known-1.given j).fits) i)) ∙ new)
 
 pub overflow_add-total : goal.overflow_add-total
 overflow_add-total c =
-    let at-over-par = c in
-    let at-start = at-over-par in
-    sum_fits at-start.args.run.now at-start.args.i at-start.args.self at-start.requires.0
-    (λ j. (at-over-par.shared_slice_known-1.given j).fits) at-over-par.over_par-new.ensures
+    sum_fits c.args.run.now c.args.i c.args.self c.requires.0
+    (λ j. (c.shared_slice_known-1.given j).fits) c.over_par-new.ensures
 
 pub returns-then-days-lt-WEEK_DAYS : goal.returns-then-days-lt-WEEK_DAYS
 returns-then-days-lt-WEEK_DAYS c =
-    let at-over-par = c in
-    let at-start = at-over-par in
-    let s = at-start.args.run.now in
-    let i = at-start.args.i in
-    let x = at-start.args.self in
-    streak_longer s i x at-start.requires.0 _ (sym c.follows.ensures ∙ c.if-not-follows.false)
+    let s = c.args.run.now in
+    let i = c.args.i in
+    let x = c.args.self in
+    streak_longer s i x c.requires.0 _ (sym c.follows.ensures ∙ c.if-not-follows.false)
     c.if-days-lt-WEEK_DAYS.true refl
-    (sum_back s i x at-start.requires.0 (λ j. (at-over-par.shared_slice_known-1.given j).fits)
-    at-over-par.over_par-new.ensures)
+    (sum_back s i x c.requires.0 (λ j. (c.shared_slice_known-1.given j).fits)
+    c.over_par-new.ensures)
 
 pub overflow_sub-result : goal.overflow_sub-result
 overflow_sub-result c =
-    let at-over-par = c in
-    let at-start = at-over-par in
-    difference_fits at-start.args.run.now at-start.args.i at-start.args.self at-start.requires.0
-    (λ j. (at-over-par.shared_slice_known-1.given j).fits) at-over-par.over_par-new.ensures
+    difference_fits c.args.run.now c.args.i c.args.self c.requires.0
+    (λ j. (c.shared_slice_known-1.given j).fits) c.over_par-new.ensures
     c.if-days-lt-WEEK_DAYS.false c.over_par-old.ensures
 
 pub returns : goal.returns
 returns c =
-    let at-over-par = c in
-    let at-start = at-over-par in
-    let s = at-start.args.run.now in
-    let i = at-start.args.i in
-    let x = at-start.args.self in
-    streak_moved s i x at-start.requires.0 _ (sym c.follows.ensures ∙ c.if-not-follows.false)
+    let s = c.args.run.now in
+    let i = c.args.i in
+    let x = c.args.self in
+    streak_moved s i x c.requires.0 _ (sym c.follows.ensures ∙ c.if-not-follows.false)
     c.if-days-lt-WEEK_DAYS.false refl
-    (difference_back s i x at-start.requires.0 (λ j. (at-over-par.shared_slice_known-1.given j).fits)
-    at-over-par.over_par-new.ensures c.if-days-lt-WEEK_DAYS.false c.over_par-old.ensures)
+    (difference_back s i x c.requires.0 (λ j. (c.shared_slice_known-1.given j).fits)
+    c.over_par-new.ensures c.if-days-lt-WEEK_DAYS.false c.over_par-old.ensures)

@@ -73,7 +73,7 @@ collect_terms-done-requires t c =
     let found = c.if-not-way.false in
     let down = down_child going.at c.way_down-way.ensures found in
     let spot = c.side_spot-next.ensures in (
-      omega (arith, down_falls going.at down spot, going.falls, c.requires.0),
+      omega (arith, down_falls going.at down spot, going.falls),
       (down_spot going.at down spot refl, down_ready going.at down spot going.ready),
     )
 
@@ -172,3 +172,31 @@ loop-way-preserved t c =
     let more = c.if-not-way-2.false in
     going_right going c.way_down-way.ensures found spot more two first c.if-not-done.false
     c.right_side-right.ensures.0 c.side_spot-here.ensures refl
+
+pub slice_bounds-seen-start : goal.slice_bounds-seen-start
+slice_bounds-seen-start t c =
+    let going = c.loop-way.invariant in
+    let found = c.if-not-way.false in
+    let side = (down_child going.at c.way_down-way.ensures found).side in
+    side.from_le
+
+pub slice_bounds-seen-end : goal.slice_bounds-seen-end
+slice_bounds-seen-end t c =
+    let going = c.loop-way.invariant in
+    let found = c.if-not-way.false in
+    let side = (down_child going.at c.way_down-way.ensures found).side in
+    side.to_le
+
+pub slice_bounds-collect_terms-start : goal.slice_bounds-collect_terms-start
+slice_bounds-collect_terms-start t c =
+    let going = c.loop-way.invariant in
+    let found = c.if-not-way.false in
+    let side = (down_child going.at c.way_down-way.ensures found).side in
+    side.from_le
+
+pub slice_bounds-collect_terms-end : goal.slice_bounds-collect_terms-end
+slice_bounds-collect_terms-end t c =
+    let going = c.loop-way.invariant in
+    let found = c.if-not-way.false in
+    let side = (down_child going.at c.way_down-way.ensures found).side in
+    side.to_le

@@ -18,8 +18,7 @@ use Rattle.descent.proofs.collect.Descent.collect_and.Goals as goal
 
 pub side_of-side-requires : goal.side_of-side-requires
 side_of-side-requires c =
-    let at-start = c in
-    (at-start.requires.0.spot, at-start.requires.0.ready.width, and_binary _ at-start.requires.1)
+    (c.requires.0.spot, c.requires.0.ready.width, and_binary _ c.requires.1)
 
 pub returns-then-not-side : goal.returns-then-not-side
 returns-then-not-side c =

@@ -22,11 +22,9 @@ kind-requires c =
 pub returns-then-kind-ne7 : goal.returns-then-kind-ne7
 unfolding span_of
 returns-then-kind-ne7 c =
-    let at-kind = c in
-    let at-start = at-kind in
-    literal_and_plain _ _ _ _ _ _ at-start.requires.ready _ _ _ _ at-start.requires.span at-start.requires.value_lt
-    (ne_eqb _ 0 at-kind.if-coeff-eq0.false)
-    (λ e. c.if-kind-ne7.true (at-kind.kind.ensures ∙ e)) c.push_spot.ensures
+    literal_and_plain _ _ _ _ _ _ c.requires.ready _ _ _ _ c.requires.span c.requires.value_lt
+    (ne_eqb _ 0 c.if-coeff-eq0.false)
+    (λ e. c.if-kind-ne7.true (c.kind.ensures ∙ e)) c.push_spot.ensures
 
 pub overflow_sub-end : goal.overflow_sub-end
 overflow_sub-end c =

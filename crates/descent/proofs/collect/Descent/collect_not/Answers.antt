@@ -11,9 +11,8 @@ push_spot-requires c =
 
 pub returns : goal.returns
 returns c =
-    let at-add = c in
     let p = c.push_spot.ensures in
     record {
-      state = p.state ∙ rw at-add.add_constant.ensures refl;
-      written = p.written ∙ rw (at-add.add_constant.ensures, at-add.mod_neg.ensures) refl;
+      state = p.state ∙ rw c.add_constant.ensures refl;
+      written = p.written ∙ rw (c.add_constant.ensures, c.mod_neg.ensures) refl;
     }

@@ -49,10 +49,8 @@ returns-then-k-eq4 c =
 pub returns : goal.returns
 unfolding span_of
 returns c =
-    let at-kind = c in
-    let at-start = at-kind in
     collects_as
-    (whole_atom _ _ _ (spot_arith at-start.requires.spot c.has_arith.ensures c.if-has_arith.false)
-    (other_kind _ (accepted_big _ _ at-start.requires.spot.span.tree)
-    (λ e. c.if-k-eq4.false (at-kind.kind-k.ensures ∙ e))))
-    (atom_push _ _ _ _ _ _ at-start.requires.ready _ _ _ at-start.requires.spot.span c.push_spot.ensures)
+    (whole_atom _ _ _ (spot_arith c.requires.spot c.has_arith.ensures c.if-has_arith.false)
+    (other_kind _ (accepted_big _ _ c.requires.spot.span.tree)
+    (λ e. c.if-k-eq4.false (c.kind-k.ensures ∙ e))))
+    (atom_push _ _ _ _ _ _ c.requires.ready _ _ _ c.requires.spot.span c.push_spot.ensures)

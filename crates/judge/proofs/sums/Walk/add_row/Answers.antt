@@ -22,17 +22,16 @@ atom_length-requires c = rw c.rest_from-r.ensures
 
 pub returns-then-not-has_term : goal.returns-then-not-has_term
 returns-then-not-has_term c =
-    let start = c in
     let none = sym c.has_term.ensures ∙ c.if-not-has_term.true in
     record {
-      passed = passed_without start.args.f.now start.args.self.at start.args.self.next
-          start.args.self.number start.requires.row.inside start.requires.row.terms_inside start.requires.row.atom
+      passed = passed_without c.args.f.now c.args.self.at c.args.self.next
+          c.args.self.number c.requires.row.inside c.requires.row.terms_inside c.requires.row.atom
           c.rest_from-r.ensures c.rest_from-q.ensures c.atom_length.ensures.0 none;
       long = refl;
-      sum = λ i _. sum_without start.args.f.now start.args.self.at start.args.self.next
-          start.args.self.number start.requires.row.inside start.requires.row.terms_inside start.requires.row.atom
+      sum = λ i _. sum_without c.args.f.now c.args.self.at c.args.self.next
+          c.args.self.number c.requires.row.inside c.requires.row.terms_inside c.requires.row.atom
           c.rest_from-r.ensures c.rest_from-q.ensures c.atom_length.ensures.0 none
-          start.args.w _ (start.requires.fits i);
+          c.args.w _ (c.requires.fits i);
     }
 
 pub tree_span-requires : goal.tree_span-requires
@@ -53,9 +52,6 @@ front_word-requires c =
 pub returns : goal.returns
 returns c =
     let some = sym c.has_term.ensures ∙ c.if-not-has_term.false in
-    let tree-span = c in
-    let rows_at = c in
-    let front-word = c in
     let w = c.args.w in
     let p = c.args.place in
     let vs = c.args.vars.now in
@@ -68,12 +64,12 @@ returns c =
           λ i h.
           c.add_coeff.ensures.sum i h
           ∙ ap₂ (λ (x y : ℕ). (get_or c.args.sums.now i 0 + x * y) % 2 ^ w)
-          (front-word.front_word.ensures
+          (c.front_word.ensures
           ∙ coeff_with c.args.f.now c.args.self.at c.args.self.next
           c.args.self.number c.requires.row.inside c.requires.row.terms_inside c.requires.row.atom
           c.rest_from-r.ensures c.rest_from-q.ensures c.atom_length.ensures.0 some)
-          (ap (λ (n : ℕ). bit_at n i) rows_at.rows_at-rows.ensures
+          (ap (λ (n : ℕ). bit_at n i) c.rows_at-rows.ensures
           ∙ table_f_bit w p vs _ 64 i (omega (arith, c.requires.few))
           ∙ ap (λ (l : List ℕ). bit_of w p (row_bits 0 vs i) (decode l))
-          (tree-span.tree_span.ensures ∙ ap tree_span c.rest_from-r.ensures));
+          (c.tree_span.ensures ∙ ap tree_span c.rest_from-r.ensures));
     }
