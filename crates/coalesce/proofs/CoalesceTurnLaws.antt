@@ -3,8 +3,9 @@ use mathlib.Core.Path.{◌≡◌, refl, ap, sym, subst, ◌∙◌}
 use Prim.Native.Nat.{ℕ, ◌+◌, ◌≤◌, ◌<◌}
 use native.Mathlib.Omega.{arith}
 use mathlib.Core.List.{List, [], ◌∷◌}
-use mathlib.Core.Bool.{false}
+use mathlib.Core.Bool.{false, ◌||◌}
 use lib.ListN.{length, drop}
+use lib.Dec.{ltb, leb}
 use borrow.Author.Tests.{lt-ltb, le-ltb, le-leb, lt-leb}
 use Rattle.record.specs.Tree.{Tree}
 use Rattle.base.proofs.LoopLaws.{when_both}
@@ -23,7 +24,7 @@ use Rattle.group.specs.Turns.{in_turn, EachAllowed}
 use Rattle.group.proofs.TurnsLaws as turns
 use Rattle.lone.proofs.LoneLaws.{lone_len, settle_lone}
 use Rattle.structure_laws.specs.Carried.{Carried, carried_of}
-use Rattle.structure_laws.specs.CoalesceTerms.{carried_rows, rewrites, coalesce_group, coalesce_all}
+use Rattle.structure_laws.specs.CoalesceTerms.{carried_rows, coalesce_group, coalesce_all}
 use Rattle.bare.specs.Showing.{Shows}
 use Rattle.carried.specs.Coalescing.{carried_in, IsCarried, Coalesced}
 use Rattle.carried.proofs.CarriedToLaws.{carried_few}
@@ -41,27 +42,28 @@ module _ (w : ℕ) (t : Tree) (g : Group) where
   pub group_past : (l : List Row) → fits_table l ≡ false → fits_table (coalesce_group w t g l) ≡ false
   unfolding coalesce_group
   group_past l h =
-      when_both (λ (r : List Row). fits_table r ≡ false) (rewrites w g) (carried_rows w t own l)
-      (settle w g l) (λ _. rows_past w t own l h) (λ _. settle_fits w g l ∙ h)
+      when_both (λ (r : List Row). fits_table r ≡ false) (ltb g.len 2 || leb g.len entries) (settle w g l)
+      (carried_rows w t own l) (λ _. settle_fits w g l ∙ h) (λ _. rows_past w t own l h)
 
   pub group_longer : w ≤ 64 → (l : List Row) → length l ≤ length (coalesce_group w t g l)
   unfolding coalesce_group
   group_longer hw l =
-      when_both (λ (r : List Row). length l ≤ length r) (rewrites w g) (carried_rows w t own l)
-      (settle w g l) (λ _. rows_longer w t hw own l) (λ _. omega (arith, settle_length w g l))
+      when_both (λ (r : List Row). length l ≤ length r) (ltb g.len 2 || leb g.len entries) (settle w g l)
+      (carried_rows w t own l) (λ _. omega (arith, settle_length w g l))
+      (λ _. rows_longer w t hw own l)
 
   short_settled : g.len < 2 → (l : List Row) → coalesce_group w t g l ≡ settle w g l
-  unfolding coalesce_group rewrites
-  short_settled h l = simp (lt-leb 2 g.len h)
+  unfolding coalesce_group
+  short_settled h l = simp (lt-ltb g.len 2 h)
 
   many_settled : 2 ≤ g.len → g.len ≤ entries → (l : List Row) → coalesce_group w t g l ≡ settle w g l
-  unfolding coalesce_group rewrites
-  many_settled two h l = simp (le-leb 2 g.len two, le-ltb entries g.len h)
+  unfolding coalesce_group
+  many_settled two h l = simp (le-ltb g.len 2 two, le-leb g.len entries h)
 
   rewritten : 2 ≤ g.len → entries < g.len → (l : List Row)
       → coalesce_group w t g l ≡ carried_rows w t own l
-  unfolding coalesce_group rewrites
-  rewritten two h l = simp (le-leb 2 g.len two, lt-ltb entries g.len h)
+  unfolding coalesce_group
+  rewritten two h l = simp (le-ltb g.len 2 two, lt-leb g.len entries h)
 
   -- what the bits of the group carry, as the code finds it
   module _ (hw : w ≤ 64) {carried₀ bits₀ carried bits : List ℕ} {r : ℕ}
@@ -69,9 +71,9 @@ module _ (w : ℕ) (t : Tree) (g : Group) where
     count_is : r ≡ entries
     count_is = c.count
 
-    pub carried_count_lem : r ≤ 64
+    pub carried_count : r ≤ 64
     unfolding carried_of
-    carried_count_lem = omega (arith, count_is, carried_few w g.coeffs g.masks g.len w)
+    carried_count = omega (arith, count_is, carried_few w g.coeffs g.masks g.len w)
 
   module _ (made out coeffs : List ℕ) (hw : w ≤ 64) (n : ℕ) (below : (k : ℕ) → k < g.len → (at g k).atom < n)
       (room : Room made out) where
@@ -111,7 +113,7 @@ module _ (w : ℕ) (t : Tree) (g : Group) where
           → Coalesced w 0 r (carried_rows w t (carried_in r carried bits)) made out coeffs made' out' coeffs'
           → Coalesced w n 64 (coalesce_group w t g) made out coeffs made' out' coeffs'
       rewritten_turn h p =
-          coalesced_as (omega arith) (carried_count_lem hw c)
+          coalesced_as (omega arith) (carried_count hw c)
           (λ l. ap (λ (x : List Carried). carried_rows w t x l) c.are
           ∙ sym (rewritten two (omega (arith, count_is hw c, h)) l)) p
 

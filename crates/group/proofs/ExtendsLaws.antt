@@ -8,12 +8,13 @@ use mathlib.Core.List.{List, [], ◌∷◌}
 use mathlib.Core.Bool.{Bool, true}
 use lib.ListN.{length}
 use Rattle.record.specs.Tree.{Tree}
-use Rattle.semilinear.specs.Form.{Row, row_tree, rows_ok}
+use Rattle.expr.specs.Value.{value}
+use Rattle.semilinear.specs.Form.{Row, rows_ok}
 use Rattle.decompose.specs.Decompose.{Decomposed, no_basis, masked}
 use Rattle.views.specs.Grouping.{view_row, ungrouped}
 use Rattle.atom_table.proofs.HoldsLaws.{bare_rows, new_same}
 use Rattle.semilinear.proofs.FormLaws.{Good, good_row, rows_cons}
-use Rattle.group.proofs.WorkLaws.{Extends}
+use Rattle.group.proofs.WorkLaws.{row_value, Extends}
 
 -- a row without its term
 abbrev bare : Row → Row
@@ -55,29 +56,30 @@ module _ (only : Tree → Bool) (w : ℕ) where
       let h = head x l in
       ap bare_rows h.rest ∙ ap₂ (λ (y : Row) (m : List Row). y ∷ m) h.bare_same (ungrouped_bare l)
 
-  ungrouped_tree : (l : List Row) (j : ℕ) → row_tree (ungrouped only w l) j ≡ row_tree l j
-  unfolding row_tree ungrouped
-  ungrouped_tree [] j = refl
-  ungrouped_tree (x ∷ l) zero =
-      let h = head x l in
-      ap (λ (u : List Row). row_tree u 0) h.rest ∙ h.tree_same
-  ungrouped_tree (x ∷ l) (suc j) =
-      let h = head x l in
-      ap (λ (u : List Row). row_tree u (suc j)) h.rest ∙ ungrouped_tree l j
+  module _ (vars : List ℕ) where
+    ungrouped_value : (l : List Row) (j : ℕ) → row_value w vars (ungrouped only w l) j ≡ row_value w vars l j
+    unfolding row_value ungrouped
+    ungrouped_value [] j = refl
+    ungrouped_value (x ∷ l) zero =
+        let h = head x l in
+        ap (λ (u : List Row). row_value w vars u 0) h.rest ∙ ap (value w vars) h.tree_same
+    ungrouped_value (x ∷ l) (suc j) =
+        let h = head x l in
+        ap (λ (u : List Row). row_value w vars u (suc j)) h.rest ∙ ungrouped_value l j
 
-  ungrouped_ok : (l : List Row) → rows_ok w l ≡ true → rows_ok w (ungrouped only w l) ≡ true
-  unfolding rows_ok ungrouped
-  ungrouped_ok [] e = refl
-  ungrouped_ok (x ∷ l) e =
-      let h = head x l in
-      let p = rows_cons w x l e in
-      ap (rows_ok w) h.rest ∙ simp (good_row w h.first (h.good p.0), ungrouped_ok l p.1)
+    ungrouped_ok : (l : List Row) → rows_ok w l ≡ true → rows_ok w (ungrouped only w l) ≡ true
+    unfolding rows_ok ungrouped
+    ungrouped_ok [] e = refl
+    ungrouped_ok (x ∷ l) e =
+        let h = head x l in
+        let p = rows_cons w x l e in
+        ap (rows_ok w) h.rest ∙ simp (good_row w h.first (h.good p.0), ungrouped_ok l p.1)
 
-  pub ungrouped_extends : (l : List Row) → Extends w l (ungrouped only w l)
-  ungrouped_extends l =
-      record {
-        longer = omega (arith, ungrouped_length l);
-        older = λ j h. ungrouped_tree l j;
-        ok = ungrouped_ok l;
-        new = λ h. new_same (ungrouped only w l) l (ungrouped_bare l) ∙ h;
-      }
+    pub ungrouped_extends : (l : List Row) → Extends w vars l (ungrouped only w l)
+    ungrouped_extends l =
+        record {
+          longer = omega (arith, ungrouped_length l);
+          older = λ j h. ungrouped_value l j;
+          ok = ungrouped_ok l;
+          new = λ h. new_same (ungrouped only w l) l (ungrouped_bare l) ∙ h;
+        }

@@ -35,22 +35,22 @@ pub record AllFit (w : ℕ) (vars : List ℕ) (b : Tree) (P : Entry → Type 0) 
 
 module _ (w : ℕ) (vars : List ℕ) (b : Tree) (P : Entry → Type 0) where
   -- beside a table that grows
-  pub fits_extends : {l m : List Row} (e : Entry) → Extends w l m → Fits w vars b P l e → Fits w vars b P m e
+  pub fits_extends : {l m : List Row} (e : Entry) → Extends w vars l m → Fits w vars b P l e → Fits w vars b P m e
   fits_extends e x f =
       record {
         coeff_lt = f.coeff_lt;
         atom_lt = omega (arith, x.longer, f.atom_lt);
         masked = λ p. record {
           mask_lt = (f.masked p).mask_lt;
-          atom_value = ap (value w vars) (x.older e.atom f.atom_lt) ∙ (f.masked p).atom_value;
+          atom_value = x.older e.atom f.atom_lt ∙ (f.masked p).atom_value;
         };
       }
 
-  pub all_extends : {l m : List Row} (g : Group) → Extends w l m → AllFit w vars b P g l → AllFit w vars b P g m
+  pub all_extends : {l m : List Row} (g : Group) → Extends w vars l m → AllFit w vars b P g l → AllFit w vars b P g m
   all_extends g x a = record { fit = λ i l live. fits_extends (at g i) x (a.fit i l live) }
 
   -- an entry as it was gathered
-  pub fits_fresh : {l m : List Row} (e : Entry) → Extends w l m → Fresh w vars b l e → Fits w vars b P m e
+  pub fits_fresh : {l m : List Row} (e : Entry) → Extends w vars l m → Fresh w vars b l e → Fits w vars b P m e
   fits_fresh e x f =
       fits_extends e x
       (record {

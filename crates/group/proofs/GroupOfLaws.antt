@@ -11,13 +11,13 @@ use Rattle.record.specs.Tree.{Tree}
 use Rattle.expr_refusal.specs.Refusal.{is_expr}
 use Rattle.expr.specs.Value.{value}
 use Rattle.group.specs.declared.Group.{Group}
-use Rattle.semilinear.specs.Form.{Row, row_tree, eq_tree, rows_ok}
-use Rattle.decompose.specs.Decompose.{Decomposed, no_basis, masked, decompose_atom}
+use Rattle.semilinear.specs.Form.{Row, eq_tree, rows_ok}
+use Rattle.decompose.specs.Decompose.{Decomposed, no_basis, masked}
 use Rattle.group.specs.Group.{Entry, at, empty_group, push_entry, group_of}
 use Rattle.views.specs.Grouping.{view_row}
 use Rattle.semilinear.proofs.FormLaws.{Good, rows_cons}
 use Rattle.semilinear.proofs.AtomLaws.{tree_atom, eq_of_eq_tree}
-use Rattle.views.proofs.ViewLaws.{View, Seen, seen_row, Viewed, viewed}
+use Rattle.views.proofs.ViewLaws.{View, Seen, seen_row}
 use Rattle.group.proofs.EntryLaws.{Sized, sized_push, sized_empty, at_push, at_push_other}
 use Rattle.group.proofs.TotalLaws.{total, len_push, total_push, total_empty}
 use Rattle.group.proofs.WorkLaws.{row_value}
@@ -29,20 +29,17 @@ pub record Fresh (w : ℕ) (vars : List ℕ) (b : Tree) (rows : List Row) (e : E
   pub coeff_lt : e.coeff < 2 ^ w
   pub mask_lt : e.mask < 2 ^ w
   pub atom_lt : e.atom < length rows
-  pub atom_view : decompose_atom w (row_tree rows e.atom) ≡ masked b e.mask
   pub atom_value : row_value w vars rows e.atom ≡ bit_and (value w vars b) e.mask
 
-pub record Gathered (only : Tree → Bool) (w : ℕ) (vars : List ℕ) (b : Tree) (rows : List Row) (i : ℕ) (g : Group)
-    : Type 0 where
+pub record Gathered (w : ℕ) (vars : List ℕ) (b : Tree) (rows : List Row) (i : ℕ) (g : Group) : Type 0 where
   pub sized : Sized g
   pub few : g.len ≤ i
   pub fresh : (k : ℕ) → k < g.len → Fresh w vars b rows (at g k)
-  pub counts : 0 < g.len → only b ≡ true
 
 -- l are the rows from number i on
-record Tail (rows : List Row) (i : ℕ) (l : List Row) : Type 0 where
+record Tail (w : ℕ) (vars : List ℕ) (rows : List Row) (i : ℕ) (l : List Row) : Type 0 where
   counted : i + length l ≡ length rows
-  same : (k : ℕ) → row_tree rows (i + k) ≡ row_tree l k
+  valued : (k : ℕ) → row_value w vars rows (i + k) ≡ row_value w vars l k
 
 -- a row of no basis, of this one and of another
 module _ (only : Tree → Bool) (w : ℕ) (b : Tree) where
@@ -61,53 +58,53 @@ module _ (only : Tree → Bool) (w : ℕ) (b : Tree) where
   unfolding group_of
   group_other i x l g e q = simp (e, q)
 
-  -- and what it adds to a sum over the rows of the basis
-  module _ (weight : Row → ℕ) (x : Row) (l : List Row) where
-    pub sum_no_basis : view_row only w x ≡ no_basis → basis_sum only w weight b (x ∷ l) ≡ basis_sum only w weight b l
-    unfolding basis_sum share_of
-    sum_no_basis e = simp e (omega arith)
-
-    pub sum_same : {c : Tree} {m : ℕ} → view_row only w x ≡ masked c m → eq_tree w c b ≡ true
-        → basis_sum only w weight b (x ∷ l) ≡ weight x + basis_sum only w weight b l
-    unfolding basis_sum share_of
-    sum_same e q = simp (e, q)
-
-    pub sum_other : {c : Tree} {m : ℕ} → view_row only w x ≡ masked c m → eq_tree w c b ≡ false
-        → basis_sum only w weight b (x ∷ l) ≡ basis_sum only w weight b l
-    unfolding basis_sum share_of
-    sum_other e q = simp (e, q) (omega arith)
-
 module _ (only : Tree → Bool) (w : ℕ) (vars : List ℕ) (b : Tree) (eb : is_expr b ≡ true) (rows : List Row)
     (most : length rows ≤ 256) where
-  tail_next : (i : ℕ) (x : Row) (l : List Row) → Tail rows i (x ∷ l) → Tail rows (i + 1) l
-  unfolding row_tree
+  tail_next : (i : ℕ) (x : Row) (l : List Row) → Tail w vars rows i (x ∷ l) → Tail w vars rows (i + 1) l
+  unfolding row_value
   tail_next i x l t =
       record {
         counted = omega (arith, t.counted);
-        same = λ k. ap (row_tree rows) (let e : i + 1 + k ≡ i + suc k = omega arith in e) ∙ t.same (suc k);
+        valued = λ k. ap (row_value w vars rows) (let e : i + 1 + k ≡ i + suc k = omega arith in e) ∙ t.valued (suc k);
       }
 
-  tail_head : (i : ℕ) (x : Row) (l : List Row) → Tail rows i (x ∷ l) → row_tree rows i ≡ x.tree
-  unfolding row_tree
-  tail_head i x l t = ap (row_tree rows) (let e : i ≡ i + 0 = omega arith in e) ∙ t.same 0
+  tail_head : (i : ℕ) (x : Row) (l : List Row) → Tail w vars rows i (x ∷ l)
+      → row_value w vars rows i ≡ value w vars x.tree
+  unfolding row_value
+  tail_head i x l t = ap (row_value w vars rows) (let e : i ≡ i + 0 = omega arith in e) ∙ t.valued 0
+
+  sum_no_basis : (x : Row) (l : List Row) → view_row only w x ≡ no_basis
+      → basis_sum only w (term_value w vars) b (x ∷ l) ≡ basis_sum only w (term_value w vars) b l
+  unfolding basis_sum share_of
+  sum_no_basis x l e = simp e (omega arith)
+
+  sum_same : (x : Row) (l : List Row) {c : Tree} {m : ℕ} → view_row only w x ≡ masked c m → eq_tree w c b ≡ true
+      → basis_sum only w (term_value w vars) b (x ∷ l)
+      ≡ x.coeff * value w vars x.tree + basis_sum only w (term_value w vars) b l
+  unfolding basis_sum share_of
+  sum_same x l e q = simp (e, q)
+
+  sum_other : (x : Row) (l : List Row) {c : Tree} {m : ℕ} → view_row only w x ≡ masked c m → eq_tree w c b ≡ false
+      → basis_sum only w (term_value w vars) b (x ∷ l) ≡ basis_sum only w (term_value w vars) b l
+  unfolding basis_sum share_of
+  sum_other x l e q = simp (e, q) (omega arith)
 
   -- what is gathered of the rows l on top of g
   record Over (l : List Row) (g h : Group) : Type 0 where
-    good : Gathered only w vars b rows (length rows) h
+    good : Gathered w vars b rows (length rows) h
     sum : total (value w vars b) h ≡ total (value w vars b) g + basis_sum only w (term_value w vars) b l
 
-  later : {i : ℕ} {g : Group} → Gathered only w vars b rows i g → Gathered only w vars b rows (i + 1) g
-  later {i} {g} h = record { sized = h.sized; few = omega (arith, h.few); fresh = h.fresh; counts = h.counts }
+  later : {i : ℕ} {g : Group} → Gathered w vars b rows i g → Gathered w vars b rows (i + 1) g
+  later {i} {g} h = record { sized = h.sized; few = omega (arith, h.few); fresh = h.fresh }
 
   pushed : (i : ℕ) (x : Row) (l : List Row) (g : Group) (m : ℕ) → x.coeff < 2 ^ w → View w x.tree b m
-      → decompose_atom w x.tree ≡ masked b m → only b ≡ true → Tail rows i (x ∷ l) → Gathered only w vars b rows i g
-      → Gathered only w vars b rows (i + 1) (push_entry g x.coeff m i)
-  pushed i x l g m hc v split count t h =
+      → Tail w vars rows i (x ∷ l) → Gathered w vars b rows i g
+      → Gathered w vars b rows (i + 1) (push_entry g x.coeff m i)
+  pushed i x l g m hc v t h =
       record {
         sized = sized_push g x.coeff m i h.sized room;
         few = omega (arith, h.few, len_push g x.coeff m i);
         fresh = λ k lk. go k (ℕ_discrete k g.len) (omega (arith, lk, len_push g x.coeff m i));
-        counts = λ _. count;
       }
     where
       room : g.len < 256
@@ -120,8 +117,7 @@ module _ (only : Tree → Bool) (w : ℕ) (vars : List ℕ) (b : Tree) (eb : is_
             coeff_lt = hc;
             mask_lt = v.mask_lt;
             atom_lt = omega (arith, t.counted);
-            atom_view = ap (decompose_atom w) (tail_head i x l t) ∙ split;
-            atom_value = ap (value w vars) (tail_head i x l t) ∙ v.value_is vars;
+            atom_value = tail_head i x l t ∙ v.value_is vars;
           }
 
       go : (k : ℕ) → Dec (k ≡ g.len) → k < g.len + 1 → Fresh w vars b rows (at (push_entry g x.coeff m i) k)
@@ -131,12 +127,12 @@ module _ (only : Tree → Bool) (w : ℕ) (vars : List ℕ) (b : Tree) (eb : is_
       go k (no e) lk =
           subst (Fresh w vars b rows) (sym (at_push_other g x.coeff m i k e)) (h.fresh k (omega arith))
 
-  gather : (l : List Row) (i : ℕ) (g : Group) → rows_ok w l ≡ true → Tail rows i l
-      → Gathered only w vars b rows i g → Over l g (group_of only w b i l g)
+  gather : (l : List Row) (i : ℕ) (g : Group) → rows_ok w l ≡ true → Tail w vars rows i l
+      → Gathered w vars b rows i g → Over l g (group_of only w b i l g)
   unfolding group_of basis_sum Seen
   gather [] i g ok t h =
       record {
-        good = record { sized = h.sized; few = omega (arith, h.few, t.counted); fresh = h.fresh; counts = h.counts };
+        good = record { sized = h.sized; few = omega (arith, h.few, t.counted); fresh = h.fresh };
         sum = omega arith;
       }
   gather (x ∷ l) i g ok t h =
@@ -145,39 +141,35 @@ module _ (only : Tree → Bool) (w : ℕ) (vars : List ℕ) (b : Tree) (eb : is_
       (λ g' h'. gather l (i + 1) g' p.1 (tail_next i x l t) h')
     where
       by_test : Good w x → (c : Tree) (m : ℕ) → view_row only w x ≡ masked c m → View w x.tree c m
-          → ((g' : Group) → Gathered only w vars b rows (i + 1) g' → Over l g' (group_of only w b (i + 1) l g'))
+          → ((g' : Group) → Gathered w vars b rows (i + 1) g' → Over l g' (group_of only w b (i + 1) l g'))
           → (p : Bool) → eq_tree w c b ≡ p → Over (x ∷ l) g (group_of only w b i (x ∷ l) g)
       by_test ok c m e v below false q =
           let o = below g (later h) in
           subst (Over (x ∷ l) g) (sym (group_other only w b i x l g e q))
-          (record { good = o.good; sum = omega (arith, o.sum, sum_other only w b (term_value w vars) x l e q) })
+          (record { good = o.good; sum = omega (arith, o.sum, sum_other x l e q) })
       by_test ok c m e v below true q =
           let same : c ≡ b = eq_of_eq_tree w c b v.basis.expr eb q in
           let v' : View w x.tree b m = subst (λ (u : Tree). View w x.tree u m) same v in
-          let s = viewed only w x e in
-          let split : decompose_atom w x.tree ≡ masked b m = s.split ∙ ap (λ (u : Tree). masked u m) same in
-          let count : only b ≡ true = ap only (sym same) ∙ s.counts in
-          let o = below (push_entry g x.coeff m i) (pushed i x l g m ok.fits v' split count t h) in
+          let o = below (push_entry g x.coeff m i) (pushed i x l g m ok.fits v' t h) in
           let room : g.len < 256 = omega (arith, h.few, t.counted) in
           let more = total_push (value w vars b) g x.coeff m i h.sized room in
           let row = ap (λ (n : ℕ). x.coeff * n) (v'.value_is vars) in
           subst (Over (x ∷ l) g) (sym (group_same only w b i x l g e q))
-          (record { good = o.good; sum = omega (arith, o.sum, sum_same only w b (term_value w vars) x l e q, more, row) })
+          (record { good = o.good; sum = omega (arith, o.sum, sum_same x l e q, more, row) })
 
       go : Good w x → (d : Decomposed) → view_row only w x ≡ d → Seen w x.tree d
-          → ((g' : Group) → Gathered only w vars b rows (i + 1) g' → Over l g' (group_of only w b (i + 1) l g'))
+          → ((g' : Group) → Gathered w vars b rows (i + 1) g' → Over l g' (group_of only w b (i + 1) l g'))
           → Over (x ∷ l) g (group_of only w b i (x ∷ l) g)
       go ok no_basis e v below =
           let o = below g (later h) in
           subst (Over (x ∷ l) g) (sym (group_no_basis only w b i x l g e))
-          (record { good = o.good; sum = omega (arith, o.sum, sum_no_basis only w b (term_value w vars) x l e) })
+          (record { good = o.good; sum = omega (arith, o.sum, sum_no_basis x l e) })
       go ok (masked c m) e v below = by_test ok c m e v below (eq_tree w c b) refl
 
   -- the group of the basis b among valid rows
   pub record Group-of (g : Group) : Type 0 where
     pub sized : Sized g
     pub fresh : (k : ℕ) → k < g.len → Fresh w vars b rows (at g k)
-    pub counts : 0 < g.len → only b ≡ true
     pub sum : total (value w vars b) g ≡ basis_sum only w (term_value w vars) b rows
 
   pub group_of_lem : rows_ok w rows ≡ true → Group-of (group_of only w b 0 rows empty_group)
@@ -185,11 +177,10 @@ module _ (only : Tree → Bool) (w : ℕ) (vars : List ℕ) (b : Tree) (eb : is_
   group_of_lem ok =
       let o =
       gather rows 0 empty_group ok
-      (record { counted = omega arith; same = λ k. ap (row_tree rows) (let e : 0 + k ≡ k = omega arith in e) })
-      (record { sized = sized_empty; few = omega arith; fresh = λ k lk. absurd (omega (arith, lk)); counts = λ lk. absurd (omega (arith, lk)) }) in
+      (record { counted = omega arith; valued = λ k. ap (row_value w vars rows) (let e : 0 + k ≡ k = omega arith in e) })
+      (record { sized = sized_empty; few = omega arith; fresh = λ k lk. absurd (omega (arith, lk)) }) in
       record {
         sized = o.good.sized;
         fresh = o.good.fresh;
-        counts = o.good.counts;
         sum = omega (arith, o.sum, total_empty (value w vars b));
       }

@@ -11,10 +11,9 @@ use Rattle.arith.proofs.CongruenceLaws.{eqm_of_eq, eqm_refl, eqm_trans, eqm_add,
 use Rattle.arith.proofs.WidthLaws.{mod_add_eqm, mod_add_lt}
 use Rattle.base.specs.Choice.{when}
 use Rattle.base.proofs.LoopLaws.{for_ind}
-use Rattle.record.specs.Tree.{Tree}
 use Rattle.expr.specs.Value.{value}
 use Rattle.group.specs.declared.Group.{Group}
-use Rattle.semilinear.specs.Form.{Row, new_rows, row_tree, sum_rows, rows_ok}
+use Rattle.semilinear.specs.Form.{Row, new_rows, sum_rows, rows_ok}
 use Rattle.group.specs.Group.{Entry, at, is_live, settle_at, settle}
 use Rattle.made.specs.Rows.{add_coeff}
 use Rattle.semilinear.proofs.FormLaws.{Good, good_row, rows_cons}
@@ -41,7 +40,7 @@ module _ (w : ℕ) (vars : List ℕ) (rows : List Row) (e : Entry) where
 module _ (w : ℕ) (vars : List ℕ) (le : w ≤ 64) where
   add_sum : (c j : ℕ) (l : List Row) → j < length l
       → Eqm (2 ^ w) (sum_rows w vars (add_coeff w c j l)) (sum_rows w vars l + c * row_value w vars l j)
-  unfolding sum_rows add_coeff row_tree
+  unfolding sum_rows add_coeff row_value
   add_sum c j [] lt = let z : ⊥ = omega (arith, lt) in absurd z
   add_sum c zero (x ∷ l) lt =
       let v : ℕ = value w vars x.tree in
@@ -51,13 +50,13 @@ module _ (w : ℕ) (vars : List ℕ) (le : w ≤ 64) where
       eqm_trans (eqm_add (eqm_refl (x.coeff * value w vars x.tree)) (add_sum c j l (omega (arith, lt))))
       (eqm_of_eq (omega arith))
 
-  pub add_tree : (c j : ℕ) (l : List Row) (k : ℕ) → row_tree (add_coeff w c j l) k ≡ row_tree l k
-  unfolding add_coeff row_tree
-  add_tree c j [] k = refl
-  add_tree c zero (x ∷ l) zero = refl
-  add_tree c zero (x ∷ l) (suc k) = refl
-  add_tree c (suc j) (x ∷ l) zero = refl
-  add_tree c (suc j) (x ∷ l) (suc k) = add_tree c j l k
+  add_value : (c j : ℕ) (l : List Row) (k : ℕ) → row_value w vars (add_coeff w c j l) k ≡ row_value w vars l k
+  unfolding add_coeff row_value
+  add_value c j [] k = refl
+  add_value c zero (x ∷ l) zero = refl
+  add_value c zero (x ∷ l) (suc k) = refl
+  add_value c (suc j) (x ∷ l) zero = refl
+  add_value c (suc j) (x ∷ l) (suc k) = add_value c j l k
 
   pub add_length : (c j : ℕ) (l : List Row) → length (add_coeff w c j l) ≡ length l
   unfolding add_coeff
@@ -89,7 +88,7 @@ module _ (w : ℕ) (vars : List ℕ) (le : w ≤ 64) where
         extends =
             record {
               longer = omega (arith, add_length c j l);
-              older = λ k h. add_tree c j l k;
+              older = λ k h. add_value c j l k;
               ok = add_ok c j l;
               new = λ h. add_new c j l ∙ h;
             };
@@ -122,7 +121,7 @@ module _ (w : ℕ) (vars : List ℕ) (le : w ≤ 64) where
           (when b (λ _. add_coeff w (at g i).coeff (at g i).atom t) (λ _. t))
       go true e =
           let n = has e in
-          let same = ap (λ (t : Tree). c * value w vars t) (h.extends.older j n) in
+          let same = ap (λ (v : ℕ). c * v) (h.extends.older j n) in
           added_eqm w vars (eqm_of_eq (omega (arith, next, same, owed_live w vars rows (at g i) e)))
           (added_trans w vars h (added_coeff c j t (omega (arith, n, h.extends.longer))))
       go false e = added_eqm w vars (eqm_of_eq (omega (arith, next, owed_consumed w vars rows (at g i) e))) h

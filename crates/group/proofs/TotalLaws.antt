@@ -1,6 +1,5 @@
--- What the entries of a group come to, each by a number of its own, and what the live ones come to beside a basis of
--- value x (specs/Group.antt). This sum is kept modulo M where one, two or three entries change and their own sum is
--- kept. The tests `is_live` of entries.
+-- What the live entries of a group come to beside a basis of value x (specs/Group.antt). The sum is kept modulo M where
+-- one, two or three entries change and their own sum is kept. The tests `is_live` of entries.
 use mathlib.Core.Path.{◌≡◌, refl, ap, ◌∙◌}
 use mathlib.Core.Logic.{◌≢◌}
 use mathlib.Core.Bool.{true, false, not}
@@ -85,35 +84,16 @@ pub len_push : (g : Group) (c m a : ℕ) → (push_entry g c m a).len ≡ g.len 
 unfolding push_entry
 len_push g c m a = refl
 
--- the sum over the entries, each by the number h of it
-abbrev pub entry_sum : (Entry → ℕ) → Group → ℕ
-entry_sum h g = sum_to (λ (k : ℕ). h (at g k)) g.len
-
--- one entry put: its number comes in place of the old one's
-pub sum_put : (h : Entry → ℕ) (g : Group) (i : ℕ) (e : Entry) → Sized g → i < g.len
-    → entry_sum h (put_entry g i e) + h (at g i) ≡ entry_sum h g + h e
-sum_put h g i e s l =
-    let new : ℕ → ℕ = λ k. h (at (put_entry g i e) k) in
-    let old : ℕ → ℕ = λ k. h (at g k) in
-    ap (λ (n : ℕ). sum_to new n + old i) (len_put g i e)
-    ∙ sum_but_one new old i g.len l (λ k ne. ap h (at_put_other g i k e ne))
-    ∙ ap (λ (y : Entry). sum_to old g.len + h y) (at_put g i e s (omega (arith, s.len_le)))
-
--- two entries put
-pub sum_put_two : (h : Entry → ℕ) (g : Group) (i j : ℕ) (e f : Entry) → Sized g → j ≢ i → i < g.len → j < g.len
-    → entry_sum h (put_entry (put_entry g i e) j f) + (h (at g i) + h (at g j)) ≡ entry_sum h g + (h e + h f)
-sum_put_two h g i j e f s ne li lj =
-    omega (
-      arith,
-      sum_put h g i e s li,
-      sum_put h (put_entry g i e) j f (sized_put g i e s) (rw (len_put g i e) lj),
-      ap h (at_put_other g i j e ne),
-    )
-
+-- one entry put: its worth comes in place of the old one
 pub total_put : (x : ℕ) (g : Group) (i : ℕ) (e : Entry) → Sized g → i < g.len
     → total x (put_entry g i e) + worth x (at g i) ≡ total x g + worth x e
 unfolding total
-total_put x g i e s l = sum_put (worth x) g i e s l
+total_put x g i e s l =
+    let new : ℕ → ℕ = λ k. worth x (at (put_entry g i e) k) in
+    let old : ℕ → ℕ = λ k. worth x (at g k) in
+    ap (λ (n : ℕ). sum_to new n + old i) (len_put g i e)
+    ∙ sum_but_one new old i g.len l (λ k ne. ap (worth x) (at_put_other g i k e ne))
+    ∙ ap (λ (y : Entry). sum_to old g.len + worth x y) (at_put g i e s (omega (arith, s.len_le)))
 
 pub total_empty : (x : ℕ) → total x empty_group ≡ 0
 unfolding total sum_to empty_group
@@ -147,8 +127,13 @@ module _ (M x : ℕ) (g : Group) (s : Sized g) where
   module _ (i j : ℕ) (e f : Entry) (ne : j ≢ i) (li : i < g.len) (lj : j < g.len) where
     total_two : total x (put_entry (put_entry g i e) j f) + (worth x (at g i) + worth x (at g j))
         ≡ total x g + (worth x e + worth x f)
-    unfolding total
-    total_two = sum_put_two (worth x) g i j e f s ne li lj
+    total_two =
+        omega (
+          arith,
+          total_put x g i e s li,
+          total_put x (put_entry g i e) j f (sized_put g i e s) (rw (len_put g i e) lj),
+          ap (worth x) (at_put_other g i j e ne),
+        )
 
     pub sum_two : Eqm M (worth x e + worth x f) (worth x (at g i) + worth x (at g j))
         → Eqm M (total x (put_entry (put_entry g i e) j f)) (total x g)

@@ -1,5 +1,5 @@
--- Laws of a pass's table without limits (specs/Group.antt): the tree of a row and its value by the row's number, what
--- stays where the table grows, with terms or without, and the atoms `basis & mask`.
+-- Laws of a pass's table without limits (specs/Group.antt): the value of a row's tree by the row's number, what stays
+-- where the table grows, with terms or without, and the atoms `basis & mask`.
 use mathlib.Core.Path.{◌≡◌, refl, ap, sym, ◌∙◌}
 use Prim.Native.Nat.{ℕ, zero, suc, ◌+◌, ◌-◌, ◌*◌, ◌^◌, ◌≤◌, ◌<◌}
 use native.Mathlib.Omega.{arith}
@@ -21,7 +21,7 @@ use Rattle.record.specs.Tree.{Tree}
 use Rattle.record.specs.Tree.Tree.{Constant, Binary}
 use Rattle.expr.specs.Value.{value, binary}
 use Rattle.expr.proofs.ValueLaws.{value_lt}
-use Rattle.semilinear.specs.Form.{Row, new_row, new_rows, row_tree, sum_rows, is_atom_tree, row_ok, rows_ok, fits_table}
+use Rattle.semilinear.specs.Form.{Row, new_row, new_rows, sum_rows, is_atom_tree, row_ok, rows_ok, fits_table}
 use Rattle.atom_table.specs.Terms.{coeffs_of}
 use Rattle.made.specs.Rows.{create_row, masked_tree, create_masked}
 use Rattle.semilinear.proofs.RetiredLaws.{new_append}
@@ -29,28 +29,26 @@ use Rattle.semilinear.proofs.FormLaws.{good_row, rows_cons}
 use Rattle.semilinear.proofs.AtomLaws.{atom_tree_lem, tree_atom, masked_atom}
 use Rattle.made.proofs.CoeffsLaws.{length_create, coeffs_create, fits_less}
 
--- ---- the trees of the rows
+-- ---- the value of a row's tree
 
-pub row_tree_before : (l m : List Row) (j : ℕ) → j < length l → row_tree (l ++ m) j ≡ row_tree l j
-unfolding row_tree
-row_tree_before [] m j h = absurd (omega arith)
-row_tree_before (x ∷ l) m zero h = refl
-row_tree_before (x ∷ l) m (suc j) h = row_tree_before l m j (omega arith)
-
-row_tree_next : (l : List Row) (x : Row) → row_tree (l ++ (x ∷ [])) (length l) ≡ x.tree
-unfolding row_tree
-row_tree_next [] x = refl
-row_tree_next (y ∷ l) x = row_tree_next l x
-
-pub row_tree_create : (t : Tree) (l : List Row) → row_tree (create_row t l) (length l) ≡ t
-unfolding create_row
-row_tree_create t l = row_tree_next l (new_row t 0)
-
--- the value of row j's tree
-abbrev pub row_value : ℕ → List ℕ → List Row → ℕ → ℕ
-row_value w vars l j = value w vars (row_tree l j)
+-- of row j, 0 past the end
+unfoldable pub row_value : ℕ → List ℕ → List Row → ℕ → ℕ
+row_value w vars [] j = 0
+row_value w vars (x ∷ l) zero = value w vars x.tree
+row_value w vars (x ∷ l) (suc j) = row_value w vars l j
 
 module _ (w : ℕ) (vars : List ℕ) where
+  row_value_before : (l m : List Row) (j : ℕ) → j < length l → row_value w vars (l ++ m) j ≡ row_value w vars l j
+  unfolding row_value
+  row_value_before [] m j h = omega arith
+  row_value_before (x ∷ l) m zero h = refl
+  row_value_before (x ∷ l) m (suc j) h = row_value_before l m j (omega arith)
+
+  row_value_next : (l : List Row) (x : Row) → row_value w vars (l ++ (x ∷ [])) (length l) ≡ value w vars x.tree
+  unfolding row_value
+  row_value_next [] x = refl
+  row_value_next (y ∷ l) x = row_value_next l x
+
   sum_rows_more : (l : List Row) (x : Row) → x.coeff ≡ 0 → sum_rows w vars (l ++ (x ∷ [])) ≡ sum_rows w vars l
   unfolding sum_rows
   sum_rows_more [] x z = ap (λ (c : ℕ). c * value w vars x.tree + 0) z ∙ omega arith
@@ -66,29 +64,29 @@ rows_ok_more w (y ∷ l) x h ok =
 -- ---- tables that grow
 
 -- after has the rows of before, the same trees under the same numbers whatever the coefficients, and perhaps others
-pub record Extends (w : ℕ) (before after : List Row) : Type 0 where
+pub record Extends (w : ℕ) (vars : List ℕ) (before after : List Row) : Type 0 where
   pub longer : length before ≤ length after
-  pub older : (j : ℕ) → j < length before → row_tree after j ≡ row_tree before j
+  pub older : (j : ℕ) → j < length before → row_value w vars after j ≡ row_value w vars before j
   pub ok : rows_ok w before ≡ true → rows_ok w after ≡ true
   pub new : new_rows before ≡ true → new_rows after ≡ true
 
 -- and n more in its sum, modulo 2 ^ w
 pub record Added (w : ℕ) (vars : List ℕ) (n : ℕ) (before after : List Row) : Type 0 where
-  pub extends : Extends w before after
+  pub extends : Extends w vars before after
   pub sum : Eqm (2 ^ w) (sum_rows w vars after) (sum_rows w vars before + n)
 
 -- or the same sum, and the same coefficients: the other rows have no term
 pub record Grown (w : ℕ) (vars : List ℕ) (before after : List Row) : Type 0 where
-  pub extends : Extends w before after
+  pub extends : Extends w vars before after
   pub sum_same : sum_rows w vars after ≡ sum_rows w vars before
   pub fits : fits_table after ≡ true → fits_table before ≡ true
   pub coeffs : (n : ℕ) → length after ≤ n → padded n (coeffs_of after) ≡ padded n (coeffs_of before)
 
-module _ (w : ℕ) where
-  pub extends_refl : (l : List Row) → Extends w l l
+module _ (w : ℕ) (vars : List ℕ) where
+  pub extends_refl : (l : List Row) → Extends w vars l l
   extends_refl l = record { longer = omega arith; older = λ j h. refl; ok = λ h. h; new = λ h. h }
 
-  pub extends_trans : {l m n : List Row} → Extends w l m → Extends w m n → Extends w l n
+  pub extends_trans : {l m n : List Row} → Extends w vars l m → Extends w vars m n → Extends w vars l n
   extends_trans {l} {m} {n} p q =
       record {
         longer = omega (arith, p.longer, q.longer);
@@ -97,14 +95,13 @@ module _ (w : ℕ) where
         new = λ h. q.new (p.new h);
       }
 
-module _ (w : ℕ) (vars : List ℕ) where
   pub added_refl : (l : List Row) → Added w vars 0 l l
-  added_refl l = record { extends = extends_refl w l; sum = eqm_of_eq (omega arith) }
+  added_refl l = record { extends = extends_refl l; sum = eqm_of_eq (omega arith) }
 
   pub added_trans : {n m : ℕ} {a b c : List Row} → Added w vars n a b → Added w vars m b c → Added w vars (n + m) a c
   added_trans {n} {m} p q =
       record {
-        extends = extends_trans w p.extends q.extends;
+        extends = extends_trans p.extends q.extends;
         sum = eqm_trans q.sum (eqm_trans (eqm_add p.sum (eqm_refl m)) (eqm_of_eq (omega arith)));
       }
 
@@ -114,12 +111,12 @@ module _ (w : ℕ) (vars : List ℕ) where
 
   pub grown_refl : (l : List Row) → Grown w vars l l
   grown_refl l =
-      record { extends = extends_refl w l; sum_same = refl; fits = λ h. h; coeffs = λ n h. refl }
+      record { extends = extends_refl l; sum_same = refl; fits = λ h. h; coeffs = λ n h. refl }
 
   pub grown_trans : {l m n : List Row} → Grown w vars l m → Grown w vars m n → Grown w vars l n
   grown_trans {l} {m} {n} p q =
       record {
-        extends = extends_trans w p.extends q.extends;
+        extends = extends_trans p.extends q.extends;
         sum_same = q.sum_same ∙ p.sum_same;
         fits = λ h. p.fits (q.fits h);
         coeffs = λ k h. q.coeffs k h ∙ p.coeffs k (omega (arith, q.extends.longer, h));
@@ -130,7 +127,8 @@ module _ (w : ℕ) (vars : List ℕ) where
 
   module _ (t : Tree) (l : List Row) where
     pub row_value_create : row_value w vars (create_row t l) (length l) ≡ value w vars t
-    row_value_create = ap (value w vars) (row_tree_create t l)
+    unfolding create_row
+    row_value_create = row_value_next w vars l (new_row t 0)
 
     pub grown_create : is_atom_tree t ≡ true → Grown w vars l (create_row t l)
     unfolding create_row new_rows
@@ -140,7 +138,7 @@ module _ (w : ℕ) (vars : List ℕ) where
           extends =
               record {
                 longer = omega (arith, length_create t l);
-                older = row_tree_before l (x ∷ []);
+                older = row_value_before w vars l (x ∷ []);
                 ok = rows_ok_more w l x (good_row w x (record { known = omega arith; atom = ht; fits = pow_pos w }));
                 new = λ h. new_append l (x ∷ []) h refl;
               };

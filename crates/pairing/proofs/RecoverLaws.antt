@@ -40,13 +40,13 @@ use Rattle.structure_laws.proofs.FreshLaws.{owed_total}
 module _ (w : ℕ) (hw : w ≤ 64) (vars : List ℕ) (before : List Row) (ok : rows_ok w before ≡ true)
     (most : length before ≤ 256) where
   -- the rows and the constant after a group of sum n
-  pub record Step (n : ℕ) (rows : List Row) (c : ℕ) (after : List Row) (d : ℕ) : Type 0 where
-    pub fits : d < 2 ^ w
-    pub extends : Extends w before after
-    pub sum : Eqm (2 ^ w) (d + sum_rows w vars after) (c + sum_rows w vars rows + n)
+  record Step (n : ℕ) (rows : List Row) (c : ℕ) (after : List Row) (d : ℕ) : Type 0 where
+    fits : d < 2 ^ w
+    extends : Extends w vars before after
+    sum : Eqm (2 ^ w) (d + sum_rows w vars after) (c + sum_rows w vars rows + n)
 
   -- the group of the basis b, recovered
-  kept : (b : Tree) → Atom b → (rows : List Row) (c : ℕ) → c < 2 ^ w → Extends w before rows
+  kept : (b : Tree) → Atom b → (rows : List Row) (c : ℕ) → c < 2 ^ w → Extends w vars before rows
       → KeptRecovery w vars b (group_of any_basis w b 0 before empty_group) rows c (one_recovered w before b rows c)
   kept b hb rows c hc x =
       let g : Group = group_of any_basis w b 0 before empty_group in
@@ -55,7 +55,7 @@ module _ (w : ℕ) (hw : w ≤ 64) (vars : List ℕ) (before : List Row) (ok : r
       (kept_start w vars b g rows c o.sized
       (record { fit = λ k l live. fits_fresh w vars b not_rewritten (at g k) x (o.fresh k l) }) hc)
 
-  pub group_step : (b : Tree) → Atom b → (rows : List Row) (c : ℕ) → c < 2 ^ w → Extends w before rows
+  group_step : (b : Tree) → Atom b → (rows : List Row) (c : ℕ) → c < 2 ^ w → Extends w vars before rows
       → Step (basis_sum any_basis w (term_value w vars) b before) rows c
       (settle w (one_recovered w before b rows c).group (one_recovered w before b rows c).rows)
       (one_recovered w before b rows c).constant
@@ -71,7 +71,7 @@ module _ (w : ℕ) (hw : w ≤ 64) (vars : List ℕ) (before : List Row) (ok : r
       record {
         fits = h.constant_lt;
         extends =
-            extends_trans w x (extends_trans w h.grown.extends s.extends);
+            extends_trans w vars x (extends_trans w vars h.grown.extends s.extends);
         sum =
             eqm_trans (eqm_add (eqm_refl r.constant) s.sum)
             (eqm_trans (eqm_of_eq (omega (arith, h.grown.sum_same)))
@@ -80,7 +80,7 @@ module _ (w : ℕ) (hw : w ≤ 64) (vars : List ℕ) (before : List Row) (ok : r
       }
 
   -- and each group was recovered fairly: rows without a term are added, and live entries have atoms of the table
-  fair : (b : Tree) → Atom b → (rows : List Row) (c : ℕ) → c < 2 ^ w → Extends w before rows
+  fair : (b : Tree) → Atom b → (rows : List Row) (c : ℕ) → c < 2 ^ w → Extends w vars before rows
       → FairRecovery rows (one_recovered w before b rows c)
   fair b hb rows c hc x =
       let k = kept b hb rows c hc x in
@@ -91,7 +91,7 @@ module _ (w : ℕ) (hw : w ≤ 64) (vars : List ℕ) (before : List Row) (ok : r
       }
 
   fair_all : (l : List Tree) (n : ℕ) → rising_from n l ≡ true → (rows : List Row) (c : ℕ) → c < 2 ^ w
-      → Extends w before rows → AllFairRecovery w before l rows c
+      → Extends w vars before rows → AllFairRecovery w before l rows c
   unfolding EachAllowed recover_turn FairTurn settled_form
   fair_all [] n up rows c hc x = tt
   fair_all (b ∷ l) n up rows c hc x =
@@ -109,7 +109,7 @@ module _ (w : ℕ) (hw : w ≤ 64) (vars : List ℕ) (before : List Row) (ok : r
         (c + sum_rows w vars rows + bases_sum any_basis w (term_value w vars) l before)
 
   recover_all_lem : (l : List Tree) (n : ℕ) → rising_from n l ≡ true → (rows : List Row) (c : ℕ) → c < 2 ^ w
-      → Extends w before rows → Ends l rows c (recover_all w before l rows c)
+      → Extends w vars before rows → Ends l rows c (recover_all w before l rows c)
   unfolding recover_all bases_sum
   recover_all_lem [] n up rows c hc x =
       record { width = refl; fits = hc; rows_ok_lem = x.ok ok; new = x.new; sum = eqm_of_eq (omega arith) }
@@ -142,7 +142,7 @@ module _ (vars : List ℕ) (f : Form) (e : valid_form f ≡ true) where
       let v = form_parts f e in
       recover_all_lem w v.width_le vars f.rows v.rows_ok_lem v.atoms_le (bases_of any_basis w f.rows []) 0
       (bases_rising any_basis w f.rows v.rows_ok_lem) (ungrouped any_basis w f.rows) f.constant v.fits
-      (ungrouped_extends any_basis w f.rows)
+      (ungrouped_extends any_basis w vars f.rows)
 
 -- recovering structure keeps the value of a form, under every assignment
 pub value_recover : (vars : List ℕ) (f : Form) → valid_form f ≡ true → form_value vars (recover_form f) ≡ form_value vars f
@@ -191,4 +191,4 @@ all_fair f e =
     let w : ℕ = f.bitwidth in
     fair_all w v.width_le [] f.rows v.rows_ok_lem v.atoms_le (bases_of any_basis w f.rows []) 0
     (bases_rising any_basis w f.rows v.rows_ok_lem) (ungrouped any_basis w f.rows) f.constant v.fits
-    (ungrouped_extends any_basis w f.rows)
+    (ungrouped_extends any_basis w [] f.rows)

@@ -26,13 +26,13 @@ use Rattle.truth.specs.Truth.{row_number}
 use Rattle.truth.proofs.BitwiseLaws.{Bitwise, bitwise_of_no_shift}
 use Rattle.truth.proofs.BitOfLaws.{bit_value}
 use Rattle.truth.proofs.TruthLaws.{table_lt, table_row, occurs_support, row_of_lt, row_of_bit}
-use Rattle.semilinear.specs.Form.{Form, is_atom_tree, valid_form}
+use Rattle.semilinear.specs.Form.{Row, Form, is_atom_tree, rows_ok, valid_form}
 use Rattle.base.specs.Outcome.{written_of}
-use Rattle.semilinear.proofs.FormLaws.{good_at, form_parts}
+use Rattle.semilinear.proofs.FormLaws.{rows_cons, form_parts}
 use Rattle.partition_laws.specs.Partition.{is_opaque, opaque_word, profile_word}
 use Rattle.partition_laws.specs.Partition.{PartitionClass, classes_of, class_words, partitions_outcome}
 use Rattle.partition_laws.specs.Classes.{HasWords}
-use Rattle.partition_laws.specs.Columns.{atom_tree, mask_at, word_at, HoldsPlace, InOneClass, HoldsBelow}
+use Rattle.partition_laws.specs.Columns.{row_tree, atom_tree, mask_at, word_at, HoldsPlace, InOneClass, HoldsBelow}
 use Rattle.partition_laws.specs.Columns.{IsRow, Columns}
 use Rattle.partition_laws.proofs.PartitionLaws.{class_at, holders, each_at, each_map}
 use Rattle.partition_laws.proofs.PartitionLaws.{classes_holders, holder_of}
@@ -44,6 +44,14 @@ use Rattle.partition_laws.proofs.ClassesLaws.{classes_none, classes_some, classe
 use Rattle.partition_laws.proofs.ClassesLaws.{classes_ok, classes_words, columns_count, columns_length}
 
 -- ---- valid forms
+
+-- the tree of an atom of valid rows
+good_at : (w : ℕ) (rows : List Row) → rows_ok w rows ≡ true → (i : ℕ) → i < length rows
+    → is_atom_tree (row_tree rows i) ≡ true
+unfolding row_tree
+good_at w [] e i h = absurd (omega arith)
+good_at w (x ∷ l) e zero h = (rows_cons w x l e).0.atom
+good_at w (x ∷ l) e (suc i) h = good_at w l (rows_cons w x l e).1 i (omega arith)
 
 bitwise_atom : (t : Tree) → is_atom_tree t ≡ true → is_opaque t ≡ false → Bitwise t
 unfolding is_atom_tree

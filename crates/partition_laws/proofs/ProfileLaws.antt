@@ -18,10 +18,11 @@ use Rattle.base.proofs.BoolLaws.{or_false}
 use Rattle.expr.specs.Vars.{support}
 use Rattle.truth.specs.Truth.{has_shift, table}
 use Rattle.truth.proofs.TruthLaws.{table_lt}
-use Rattle.semilinear.specs.Form.{Row, row_tree}
+use Rattle.semilinear.specs.Form.{Row}
 use Rattle.partition_laws.specs.Partition.{column_vars, is_opaque, opaque_word, profile_word, profile_from}
 use Rattle.partition_laws.specs.Partition.{PartitionClass, class_words}
 use Rattle.partition_laws.specs.Classes.{EachClass, HasWords}
+use Rattle.partition_laws.specs.Columns.{row_tree}
 use Rattle.partition_laws.proofs.PartitionLaws.{class_at}
 
 -- ---- profiles

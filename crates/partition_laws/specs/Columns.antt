@@ -1,14 +1,20 @@
 -- What the words of a partition say (document 01, "Hint columns"), apart from how the classes are made: which class
 -- holds a place, and which bit of an atom's profile word there is the atom's bit under an assignment.
-use Rattle.std.specs.Prelude.{◌≡◌, ℕ, ◌+◌, ◌*◌, ◌^◌, ◌≤◌, ◌<◌, List, true, false, length, get_or}
+use Rattle.std.specs.Prelude.{◌≡◌, ℕ, zero, suc, ◌+◌, ◌*◌, ◌^◌, ◌≤◌, ◌<◌, List, [], ◌∷◌, true, false, length, get_or}
 use Rattle.arith.specs.Bit.{bit_at}
 use Rattle.record.specs.Tree.{Tree}
+use Rattle.record.specs.Tree.Tree.{Constant}
 use Rattle.expr.specs.Value.{value}
 use Rattle.expr.specs.Vars.{support}
-use Rattle.semilinear.specs.Form.{Form, row_tree}
+use Rattle.semilinear.specs.Form.{Row, Form}
 use Rattle.partition_laws.specs.Partition.{is_opaque, opaque_word}
 
 -- the tree of atom i
+unfoldable pub row_tree : List Row → ℕ → Tree
+row_tree [] i = Constant 0
+row_tree (x ∷ l) zero = x.tree
+row_tree (x ∷ l) (suc i) = row_tree l i
+
 abbrev pub atom_tree : Form → ℕ → Tree
 atom_tree f i = row_tree f.rows i
 

@@ -17,7 +17,7 @@ use Rattle.semilinear.specs.Items.{is_atom, tree_span, after_atom}
 use Rattle.semilinear.specs.DecodeForm.{after_term, row_at, rows_of}
 use Rattle.semilinear.proofs.ItemsLaws.{fold_atom, fold_done, atoms_ind, rows_atom, rows_end}
 use Rattle.partition_laws.specs.Partition.{profile_word}
-use Rattle.semilinear.specs.Form.{row_tree}
+use Rattle.partition_laws.specs.Columns.{row_tree}
 use Rattle.profile.specs.Edges.{atom_edges}
 use Rattle.profile.specs.Index.{atom_trees, tree_of}
 use Rattle.profile.specs.Profile.{moved_word, WordsMoved}

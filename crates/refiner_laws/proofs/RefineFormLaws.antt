@@ -51,7 +51,7 @@ owed_total w vars b g rows a =
 module _ (w : ℕ) (hw : w ≤ 64) (vars : List ℕ) (before : List Row) (most : length before ≤ 256)
     (ok : rows_ok w before ≡ true) where
   -- the group of the basis b, refined
-  kept : (b : Tree) → is_atom_tree b ≡ true → (rows : List Row) → Extends w before rows
+  kept : (b : Tree) → is_atom_tree b ≡ true → (rows : List Row) → Extends w vars before rows
       → KeptWork w vars b (group_of any_basis w b 0 before empty_group) rows (one_refined w before b rows)
   kept b hb rows e =
       let g : Group = group_of any_basis w b 0 before empty_group in
@@ -60,7 +60,7 @@ module _ (w : ℕ) (hw : w ≤ 64) (vars : List ℕ) (before : List Row) (most :
       record { fit = λ k lk live. fits_fresh w vars b any_entry (at g k) e (o.fresh k lk) } in
       refine_keeps w hw vars b hb g rows (work g rows) (kept_start w vars b g rows o.sized a)
 
-  pub step : (b : Tree) → is_atom_tree b ≡ true → (rows : List Row) → Extends w before rows
+  step : (b : Tree) → is_atom_tree b ≡ true → (rows : List Row) → Extends w vars before rows
       → let x : Work = refine_group w b (work (group_of any_basis w b 0 before empty_group) rows) in
       Added w vars (basis_sum any_basis w (term_value w vars) b before) rows (settle w x.group x.rows)
   step b hb rows e =
@@ -75,17 +75,17 @@ module _ (w : ℕ) (hw : w ≤ 64) (vars : List ℕ) (before : List Row) (most :
       (added_trans w vars (grown_added w vars k.grown) s)
 
   -- and after all groups
-  steps : (bases : List Tree) (n : ℕ) → rising_from n bases ≡ true → (rows : List Row) → Extends w before rows
+  steps : (bases : List Tree) (n : ℕ) → rising_from n bases ≡ true → (rows : List Row) → Extends w vars before rows
       → Added w vars (bases_sum any_basis w (term_value w vars) bases before) rows (refine_all w before bases rows)
   unfolding refine_all bases_sum
   steps [] n r rows e = added_refl w vars rows
   steps (b ∷ l) n r rows e =
       let p = risen n b l r in
       let s = step b (atom_tree_lem b p.atom) rows e in
-      added_trans w vars s (steps l (structural_hash b) p.rest _ (extends_trans w e s.extends))
+      added_trans w vars s (steps l (structural_hash b) p.rest _ (extends_trans w vars e s.extends))
 
   -- and each group was refined fairly: rows without a term are added, and live entries have atoms of the table
-  fair : (b : Tree) → is_atom_tree b ≡ true → (rows : List Row) → Extends w before rows
+  fair : (b : Tree) → is_atom_tree b ≡ true → (rows : List Row) → Extends w vars before rows
       → FairWork rows (one_refined w before b rows)
   fair b hb rows e =
       let k = kept b hb rows e in
@@ -95,7 +95,7 @@ module _ (w : ℕ) (hw : w ≤ 64) (vars : List ℕ) (before : List Row) (most :
         atoms = λ i li live. (k.all_fit.fit i li live).atom_lt;
       }
 
-  fair_steps : (bases : List Tree) (n : ℕ) → rising_from n bases ≡ true → (rows : List Row) → Extends w before rows
+  fair_steps : (bases : List Tree) (n : ℕ) → rising_from n bases ≡ true → (rows : List Row) → Extends w vars before rows
       → AllFairWork w before bases rows
   unfolding EachAllowed refine_turn FairTurn settled_rows
   fair_steps [] n r rows e = tt
@@ -103,7 +103,7 @@ module _ (w : ℕ) (hw : w ≤ 64) (vars : List ℕ) (before : List Row) (most :
       let p = risen n b l r in
       let hb = atom_tree_lem b p.atom in
       let s = step b hb rows e in
-      (fair b hb rows e, fair_steps l (structural_hash b) p.rest _ (extends_trans w e s.extends))
+      (fair b hb rows e, fair_steps l (structural_hash b) p.rest _ (extends_trans w vars e s.extends))
 
 -- ---- the form
 
@@ -118,7 +118,7 @@ module _ (f : Form) (e : valid_form f ≡ true) where
       let v = form_parts f e in
       steps f.bitwidth v.width_le vars f.rows v.atoms_le v.rows_ok_lem
       (bases_of any_basis f.bitwidth f.rows []) 0 (bases_rising any_basis f.bitwidth f.rows v.rows_ok_lem)
-      (ungrouped any_basis f.bitwidth f.rows) (ungrouped_extends any_basis f.bitwidth f.rows)
+      (ungrouped any_basis f.bitwidth f.rows) (ungrouped_extends any_basis f.bitwidth vars f.rows)
 
   pub value_refine : (vars : List ℕ) → form_value vars (refine_form f) ≡ form_value vars f
   unfolding form_value refine_form
@@ -137,13 +137,13 @@ module _ (f : Form) (e : valid_form f ≡ true) where
         le-leb f.bitwidth 64 v.width_le,
         lt-ltb f.constant (2 ^ f.bitwidth) v.fits,
         h,
-        (made []).extends.ok ((ungrouped_extends any_basis f.bitwidth f.rows).ok v.rows_ok_lem),
+        (made []).extends.ok ((ungrouped_extends any_basis f.bitwidth [] f.rows).ok v.rows_ok_lem),
       )
 
   -- with new heads
   pub new_refine : new_rows f.rows ≡ true → new_rows (refine_form f).rows ≡ true
   unfolding refine_form
-  new_refine h = (made []).extends.new ((ungrouped_extends any_basis f.bitwidth f.rows).new h)
+  new_refine h = (made []).extends.new ((ungrouped_extends any_basis f.bitwidth [] f.rows).new h)
 
   -- refining is fair to the rows of a valid form
   pub all_fair : AllFairWork f.bitwidth f.rows (bases_of any_basis f.bitwidth f.rows [])
@@ -152,4 +152,4 @@ module _ (f : Form) (e : valid_form f ≡ true) where
       let v = form_parts f e in
       fair_steps f.bitwidth v.width_le [] f.rows v.atoms_le v.rows_ok_lem
       (bases_of any_basis f.bitwidth f.rows []) 0 (bases_rising any_basis f.bitwidth f.rows v.rows_ok_lem)
-      (ungrouped any_basis f.bitwidth f.rows) (ungrouped_extends any_basis f.bitwidth f.rows)
+      (ungrouped any_basis f.bitwidth f.rows) (ungrouped_extends any_basis f.bitwidth [] f.rows)

@@ -95,7 +95,7 @@ module _ (nots : Bool) (w : ℕ) (hw : w ≤ 64) where
           (λ _. when (not (has_var_dep r)) (λ _. collect_masked w k c (collect_terms w c x) x y)
           (λ _. collect_atom c (Binary k x y))))
       bitwise n =
-          let p = bools.or-false (has_arith l) (has_arith r) n in
+          let p = bools.or_false (has_arith l) (has_arith r) n in
           let el : l ≡ x = sym (h.same p.0) in
           let er : r ≡ y = sym (i.same p.1) in
           when_if (eqb k 4) _ _ _ _ (λ _. ap₂ (collect_and w c) el er)

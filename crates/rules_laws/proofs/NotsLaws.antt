@@ -114,7 +114,7 @@ module _ (w : ℕ) where
   nots_same (Constant v) h = refl
   nots_same (Variable i) h = refl
   nots_same (Unary k a t) h =
-      let p = bools.or-false (is_arith k) (has_arith t) h in
+      let p = bools.or_false (is_arith k) (has_arith t) h in
       go (eqb k 7) (has_arith t) p.1 ∙ ap (Unary k a) (nots_same t p.1)
     where
       go : (b d : Bool) → d ≡ false
@@ -124,8 +124,8 @@ module _ (w : ℕ) where
       go true false e = refl
       go false d e = refl
   nots_same (Binary k l r) h =
-      let p = bools.or-false (is_arith k) (has_arith l || has_arith r) h in
-      let q = bools.or-false (has_arith l) (has_arith r) p.1 in
+      let p = bools.or_false (is_arith k) (has_arith l || has_arith r) h in
+      let q = bools.or_false (has_arith l) (has_arith r) p.1 in
       ap₂ (Binary k) (nots_same l q.0) (nots_same r q.1)
 
   module _ (hw : w ≤ 64) where

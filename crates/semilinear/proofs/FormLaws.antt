@@ -1,6 +1,6 @@
 -- Laws of specs/Form.antt: the length of a form's bytes, and what a valid form and a valid row are.
 use mathlib.Core.Path.{◌≡◌, refl, ◌∙◌}
-use Prim.Native.Nat.{ℕ, zero, suc, ◌+◌, ◌*◌, ◌%◌, ◌^◌, ◌≤◌, ◌<◌}
+use Prim.Native.Nat.{ℕ, ◌+◌, ◌*◌, ◌%◌, ◌^◌, ◌≤◌, ◌<◌}
 use native.Mathlib.Omega.{arith}
 use native.Mathlib.Decide.{ℕ_discrete}
 use mathlib.Core.List.{List, [], ◌∷◌, ◌++◌}
@@ -10,7 +10,7 @@ use lib.Dec.{ltb, leb}
 use borrow.Author.Tests.{leb-true, ltb-true, eq-eqb, ne_eqb, le-ltb, lt-ltb, le-leb}
 use Rattle.base.proofs.BoolLaws.{and_true}
 use Rattle.record.proofs.BytesLaws.{length_record}
-use Rattle.semilinear.specs.Form.{Row, Form, row_tree, term_count, atom_bytes, atoms_bytes, term_bytes, terms_bytes, sum_bytes}
+use Rattle.semilinear.specs.Form.{Row, Form, term_count, atom_bytes, atoms_bytes, term_bytes, terms_bytes, sum_bytes}
 use Rattle.semilinear.specs.Form.{encode_form, is_atom_tree, row_ok, rows_ok, tree_records, fits_table, valid_form}
 use Rattle.semilinear.specs.Valid.{length_refused}
 use Rattle.semilinear.proofs.FrontLaws.{length_atom, length_front}
@@ -37,14 +37,6 @@ good_row w x g = simp (le-leb x.provenance 4 g.known, g.atom, lt-ltb x.coeff (2 
 pub rows_cons : (w : ℕ) (x : Row) (l : List Row) → rows_ok w (x ∷ l) ≡ true → Good w x × (rows_ok w l ≡ true)
 unfolding rows_ok
 rows_cons w x l e = let p = and_true (row_ok w x) (rows_ok w l) e in (row_good w x p.0, p.1)
-
--- the tree of a row
-pub good_at : (w : ℕ) (rows : List Row) → rows_ok w rows ≡ true → (i : ℕ) → i < length rows
-    → is_atom_tree (row_tree rows i) ≡ true
-unfolding row_tree
-good_at w [] e i h = absurd (omega arith)
-good_at w (x ∷ l) e zero h = (rows_cons w x l e).0.atom
-good_at w (x ∷ l) e (suc i) h = good_at w l (rows_cons w x l e).1 i (omega arith)
 
 -- what a valid form is
 pub record Valid (f : Form) : Type 0 where

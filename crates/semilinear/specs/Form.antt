@@ -1,11 +1,10 @@
 -- The semilinear form (document 01, "The sheet"; semilinear.rs 25-88): a constant and weighted bitwise atoms modulo
 -- 2 ^ w. One row for each atom, with the coefficient of its term, 0 where it has none: so the terms' order, one term to
 -- an atom and the count of terms need no rules of their own.
-use Rattle.std.specs.Prelude.{ℕ, zero, suc, ◌+◌, ◌*◌, ◌%◌, ◌^◌, List, [], ◌∷◌, ◌++◌, Bool, true, not, ◌&&◌, length, eqb, ltb, leb}
+use Rattle.std.specs.Prelude.{ℕ, ◌+◌, ◌*◌, ◌%◌, ◌^◌, List, [], ◌∷◌, ◌++◌, Bool, true, not, ◌&&◌, length, eqb, ltb, leb}
 use Rattle.base.specs.Choice.{when}
 use Rattle.base.specs.Lists.{eq_list}
 use Rattle.record.specs.Tree.{Tree, size_of, record_bytes, encode}
-use Rattle.record.specs.Tree.Tree.{Constant}
 use Rattle.expr_refusal.specs.Refusal.{is_expr}
 use Rattle.expr_utils.specs.Utils.{has_var_dep, has_arith}
 use Rattle.expr.specs.Value.{value}
@@ -35,12 +34,6 @@ pub record Form : Type 0 where
   pub bitwidth : ℕ
   pub constant : ℕ
   pub rows : List Row
-
--- the tree of row i
-unfoldable pub row_tree : List Row → ℕ → Tree
-row_tree [] i = Constant 0
-row_tree (x ∷ l) zero = x.tree
-row_tree (x ∷ l) (suc i) = row_tree l i
 
 -- the coefficient times the atom, of all rows
 unfoldable pub sum_rows : ℕ → List ℕ → List Row → ℕ

@@ -39,17 +39,17 @@ module _ (w : ℕ) (hw : w ≤ 64) (vars : List ℕ) where
 
   module _ (b : Tree) (hb : Atom b) where
     -- one new term, of the basis alone
-    pub added_bare : (c m : ℕ) (rows : List Row) → rows_ok w rows ≡ true → m ≡ 2 ^ w - 1
+    added_bare : (c m : ℕ) (rows : List Row) → rows_ok w rows ≡ true → m ≡ 2 ^ w - 1
         → Added w vars (c * bit_and (value w vars b) m) rows (add_coeff w c (row_with w b 0 rows) (with_bare w b rows))
     added_bare c m rows ok e =
         let r = with_bare_lem w vars b hb rows ok in
         let all : bit_and (value w vars b) m ≡ value w vars b =
         ap (bit_and (value w vars b)) e ∙ and_full w (value w vars b) (value_lt w vars b) in
-        added_eqm w vars (eqm_of_eq (ap (λ (n : ℕ). c * n) (ap (value w vars) r.bare_tree ∙ sym all)))
+        added_eqm w vars (eqm_of_eq (ap (λ (n : ℕ). c * n) (r.bare_value ∙ sym all)))
         (added_term c (row_with w b 0 rows) rows (with_bare w b rows) r.grown r.bare_lt)
 
     -- and of the basis under a mask
-    pub added_masked : (c m : ℕ) (rows : List Row) → m < 2 ^ w
+    added_masked : (c m : ℕ) (rows : List Row) → m < 2 ^ w
         → Added w vars (c * bit_and (value w vars b) m) rows (add_coeff w c (length rows) (create_masked w b m rows))
     added_masked c m rows hm =
         added_eqm w vars (eqm_of_eq (ap (λ (n : ℕ). c * n) (row_value_masked w vars b m rows hm)))

@@ -1,4 +1,4 @@
--- Laws of `row_with` and `with_bare` (specs/RecoverStructure.antt): the row of a bare tree is there, and has this tree.
+-- Laws of `row_with` and `with_bare` (specs/RecoverStructure.antt): the row of a bare tree is there, and has its value.
 use mathlib.Core.Path.{◌≡◌, refl, sym, ap, ◌∙◌, subst}
 use Prim.Native.Nat.{ℕ, suc, ◌+◌, ◌≤◌, ◌<◌}
 use native.Mathlib.Omega.{arith}
@@ -8,11 +8,12 @@ use lib.ListN.{length}
 use lib.Dec.{ltb}
 use borrow.Author.Tests.{ltb-true, ltb-false}
 use Rattle.record.specs.Tree.{Tree}
-use Rattle.semilinear.specs.Form.{Row, row_tree, eq_tree, rows_ok}
+use Rattle.expr.specs.Value.{value}
+use Rattle.semilinear.specs.Form.{Row, eq_tree, rows_ok}
 use Rattle.made.specs.Rows.{create_row}
 use Rattle.semilinear.proofs.FormLaws.{Good, rows_cons}
 use Rattle.semilinear.proofs.AtomLaws.{Atom, atom_tree_lem, tree_atom, eq_of_eq_tree}
-use Rattle.group.proofs.WorkLaws.{Grown, grown_refl, grown_create, row_tree_create}
+use Rattle.group.proofs.WorkLaws.{row_value, Grown, grown_refl, grown_create, row_value_create}
 use Rattle.made.proofs.CoeffsLaws.{length_create}
 use Rattle.structure_laws.specs.RecoverStructure.{row_with, with_bare}
 
@@ -24,7 +25,7 @@ module _ (w : ℕ) (vars : List ℕ) (t : Tree) (ht : Atom t) where
     steps : ℕ
     place : row_with w t i l ≡ i + steps
     most : steps ≤ length l
-    found : steps < length l → row_tree l steps ≡ t
+    found : steps < length l → row_value w vars l steps ≡ value w vars t
 
   with_here : (i : ℕ) (x : Row) (l : List Row) → eq_tree w x.tree t ≡ true → row_with w t i (x ∷ l) ≡ i
   unfolding row_with
@@ -36,7 +37,7 @@ module _ (w : ℕ) (vars : List ℕ) (t : Tree) (ht : Atom t) where
   with_later i x l e = simp e
 
   search_rows : (l : List Row) → rows_ok w l ≡ true → (i : ℕ) → Search i l
-  unfolding row_with row_tree
+  unfolding row_with row_value
   search_rows [] ok i =
       record { steps = 0; place = omega arith; most = omega arith; found = λ lt. absurd (omega (arith, lt)) }
   search_rows (x ∷ l) ok i =
@@ -50,7 +51,7 @@ module _ (w : ℕ) (vars : List ℕ) (t : Tree) (ht : Atom t) where
             steps = 0;
             place = omega (arith, with_here i x l e);
             most = omega arith;
-            found = λ lt. same;
+            found = λ lt. ap (value w vars) same;
           }
       go g false e r =
           record {
@@ -65,7 +66,7 @@ module _ (w : ℕ) (vars : List ℕ) (t : Tree) (ht : Atom t) where
   pub record Bare (l m : List Row) : Type 0 where
     pub grown : Grown w vars l m
     pub bare_lt : row_with w t 0 l < length m
-    pub bare_tree : row_tree m (row_with w t 0 l) ≡ t
+    pub bare_value : row_value w vars m (row_with w t 0 l) ≡ value w vars t
 
   bare_there : (l : List Row) → ltb (row_with w t 0 l) (length l) ≡ true → with_bare w t l ≡ l
   unfolding with_bare
@@ -86,7 +87,7 @@ module _ (w : ℕ) (vars : List ℕ) (t : Tree) (ht : Atom t) where
           (record {
             grown = grown_refl w vars l;
             bare_lt = lt;
-            bare_tree = ap (row_tree l) at-steps ∙ r.found (omega (arith, lt, at-steps));
+            bare_value = ap (row_value w vars l) at-steps ∙ r.found (omega (arith, lt, at-steps));
           })
       go false e r =
           let le : length l ≤ row_with w t 0 l = ltb-false _ _ e in
@@ -95,5 +96,5 @@ module _ (w : ℕ) (vars : List ℕ) (t : Tree) (ht : Atom t) where
           (record {
             grown = grown_create w vars t l (atom_tree_lem t ht);
             bare_lt = omega (arith, at_end, length_create t l);
-            bare_tree = ap (row_tree (create_row t l)) at_end ∙ row_tree_create t l;
+            bare_value = ap (row_value w vars (create_row t l)) at_end ∙ row_value_create w vars t l;
           })

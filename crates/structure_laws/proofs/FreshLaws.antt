@@ -24,24 +24,24 @@ live_fresh e h = ap (λ (n : ℕ). not (eqb n 1)) h
 
 module _ (w : ℕ) (hw : w ≤ 64) (vars : List ℕ) (b : Tree) (before : List Row) (g : Group)
     (fresh : (k : ℕ) → k < g.len → Fresh w vars b before (at g k)) where
-  owed_fresh : (rows : List Row) → Extends w before rows → (k : ℕ) → k < g.len
+  owed_fresh : (rows : List Row) → Extends w vars before rows → (k : ℕ) → k < g.len
       → owed w vars rows (at g k) ≡ worth (value w vars b) (at g k)
   owed_fresh rows f k l =
       let e = fresh k l in
       let live = live_fresh (at g k) e.unmarked in
       owed_live w vars rows (at g k) live
-      ∙ ap (λ (n : ℕ). (at g k).coeff * n) (ap (value w vars) (f.older (at g k).atom e.atom_lt) ∙ e.atom_value)
+      ∙ ap (λ (n : ℕ). (at g k).coeff * n) (f.older (at g k).atom e.atom_lt ∙ e.atom_value)
       ∙ sym (worth_live (value w vars b) (at g k) live)
 
   -- what they owe
-  pub owed_total : (rows : List Row) → Extends w before rows
+  pub owed_total : (rows : List Row) → Extends w vars before rows
       → sum_to (λ (k : ℕ). owed w vars rows (at g k)) g.len ≡ total (value w vars b) g
   unfolding total
   owed_total rows f =
       sum_ext (λ (k : ℕ). owed w vars rows (at g k)) (λ k. worth (value w vars b) (at g k)) g.len (owed_fresh rows f)
 
   -- settling them adds what they come to
-  pub added_settled : (rows : List Row) → Extends w before rows
+  pub added_settled : (rows : List Row) → Extends w vars before rows
       → Added w vars (total (value w vars b) g) rows (settle w g rows)
   added_settled rows f =
       added_eqm w vars (eqm_of_eq (owed_total rows f))

@@ -11,13 +11,12 @@ use lib.ListN.{length}
 use Rattle.arith.specs.Congruence.{Eqm}
 use Rattle.arith.proofs.CongruenceLaws.{eqm_of_eq, eqm_refl, eqm_trans, eqm_add, eqm_cancel}
 use Rattle.record.specs.Tree.{Tree}
-use Rattle.expr.specs.Value.{value}
 use Rattle.group.specs.declared.Group.{Group}
 use Rattle.semilinear.specs.Form.{Row}
 use Rattle.entries.specs.Marks.{rewritten_mark}
 use Rattle.group.specs.Group.{Entry, at, put_entry, is_live}
-use Rattle.group.proofs.EntryLaws.{Sized, sized_put}
-use Rattle.group.proofs.TotalLaws.{sum_to, sum_ext, sum_put_two, len_put}
+use Rattle.group.proofs.EntryLaws.{Sized, sized_put, at_put, at_put_other}
+use Rattle.group.proofs.TotalLaws.{sum_to, sum_ext, sum_but_one, len_put}
 use Rattle.group.proofs.WorkLaws.{Grown, grown_refl, grown_trans}
 use Rattle.group.proofs.FitsLaws.{Fits, AllFit, all_extends, all_put}
 use Rattle.group.proofs.SettleLaws.{owed, owed_live, owed_consumed}
@@ -42,7 +41,7 @@ module _ (w : ℕ) (vars : List ℕ) where
       go : (s : Bool) → is_live e ≡ s → owed w vars m e ≡ owed w vars l e
       go true live =
           owed_live w vars m e live
-          ∙ ap (λ (t : Tree). e.coeff * value w vars t) (g.extends.older e.atom (has live))
+          ∙ ap (λ (n : ℕ). e.coeff * n) (g.extends.older e.atom (has live))
           ∙ sym (owed_live w vars l e live)
       go false live = owed_consumed w vars m e live ∙ sym (owed_consumed w vars l e live)
 
@@ -53,13 +52,28 @@ module _ (w : ℕ) (vars : List ℕ) where
       sum_ext (λ (k : ℕ). owed w vars m (at g k)) (λ (k : ℕ). owed w vars l (at g k)) g.len
       (λ k u. owed_grown l m (at g k) more (λ live. (a.fit k u live).atom_lt))
 
-  -- two entries put: what they add comes in place of what the old ones did
+  -- one entry put: what it adds comes in place of what the old one did
+  owed_put : (rows : List Row) (g : Group) (i : ℕ) (e : Entry) → Sized g → i < g.len
+      → owed_sum w vars rows (put_entry g i e) + owed w vars rows (at g i) ≡ owed_sum w vars rows g + owed w vars rows e
+  unfolding owed_sum
+  owed_put rows g i e s l =
+      let new : ℕ → ℕ = λ k. owed w vars rows (at (put_entry g i e) k) in
+      let old : ℕ → ℕ = λ k. owed w vars rows (at g k) in
+      ap (λ (n : ℕ). sum_to new n + old i) (len_put g i e)
+      ∙ sum_but_one new old i g.len l (λ k ne. ap (owed w vars rows) (at_put_other g i k e ne))
+      ∙ ap (λ (y : Entry). sum_to old g.len + owed w vars rows y) (at_put g i e s (omega (arith, s.len_le)))
+
   owed_two : (rows : List Row) (g : Group) (i j : ℕ) (e f : Entry) → Sized g → j ≢ i → i < g.len → j < g.len
       → owed_sum w vars rows (put_entry (put_entry g i e) j f)
       + (owed w vars rows (at g i) + owed w vars rows (at g j))
       ≡ owed_sum w vars rows g + (owed w vars rows e + owed w vars rows f)
-  unfolding owed_sum
-  owed_two rows g i j e f s ne li lj = sum_put_two (owed w vars rows) g i j e f s ne li lj
+  owed_two rows g i j e f s ne li lj =
+      omega (
+        arith,
+        owed_put rows g i e s li,
+        owed_put rows (put_entry g i e) j f (sized_put g i e s) (rw (len_put g i e) lj),
+        ap (owed w vars rows) (at_put_other g i j e ne),
+      )
 
 -- ---- the state
 

@@ -13,7 +13,7 @@ use lib.Dec.{T, eqb}
 use lib.Pow.{pow_pos}
 use borrow.Author.Tests.{eqb-true}
 use Rattle.arith.specs.Bit.{bit_at}
-use Rattle.arith.proofs.BitLaws.{bit_lt, bit_of_zero, bits_below, bit_and_lem, bit_or_lem, bit_not, bit_ones, bit_mod}
+use Rattle.arith.proofs.BitLaws.{bit_lt, bit_of_zero, bits_below_lem, bit_and_lem, bit_or_lem, bit_not, bit_ones, bit_mod}
 use Rattle.arith.proofs.BitLaws.{same3, law3}
 use Rattle.arith.proofs.MaskLaws.{and_below}
 use Rattle.base.specs.Choice.{when}
@@ -127,11 +127,11 @@ module _ (w u x z r : ℕ) (hu : u < 2 ^ w) (hx : x < 2 ^ w) (hz : z < 2 ^ w) (h
       let hp : passed < 2 ^ w = lt_of_le_of_lt (and_le_l x (bit_and r (2 ^ w - 1 - z))) hx in
       let hi : inverted < 2 ^ w = lt_of_le_of_lt (and_le_l x (bit_and z (2 ^ w - 1 - r))) hx in
       let apart-l : bit_and u inverted ≡ 0 =
-      bits_below w _ _ (and_below w u inverted hi) (pow_pos w) bit_apart_l in
+      bits_below_lem w _ _ (and_below w u inverted hi) (pow_pos w) bit_apart_l in
       let apart-r : bit_and z passed ≡ 0 =
-      bits_below w _ _ (and_below w z passed hp) (pow_pos w) bit_apart_r in
+      bits_below_lem w _ _ (and_below w z passed hp) (pow_pos w) bit_apart_r in
       sym (or_disjoint u inverted apart-l)
-      ∙ bits_below w _ _ (or_lt w u inverted hu hi) (or_lt w z passed hz hp) bit_union
+      ∙ bits_below_lem w _ _ (or_lt w u inverted hu hi) (or_lt w z passed hz hp) bit_union
       ∙ or_disjoint z passed apart-r
 
 -- ---- the value

@@ -36,7 +36,7 @@ partner_fits_lem w g i l =
     (eqb-true _ _ p.0, eqb-true _ _ p.1)
 
 -- an entry that looks, and the one that it finds
-pub partner_pair : (w : ℕ) (g : Group) (i : ℕ) → eqb (at g i).mark 1 || eqb (at g i).mark 3 ≡ false
+partner_pair : (w : ℕ) (g : Group) (i : ℕ) → eqb (at g i).mark 1 || eqb (at g i).mark 3 ≡ false
     → partner_of w g i < g.len → Pair w g i (partner_of w g i)
 partner_pair w g i t l =
     let j : ℕ = partner_of w g i in
@@ -82,7 +82,7 @@ module _ (w : ℕ) (hw : w ≤ 64) (vars : List ℕ) (b : Tree) (hb : Atom b) (g
       mod_add_swap a c =
           mod_add_lem a c w hw ∙ ap (λ (n : ℕ). n % 2 ^ w) (add_comm a c) ∙ sym (mod_add_lem c a w hw)
 
-  pub at_keeps : (i : ℕ) (x : Recovery) → K x → K (recover_at w b i x)
+  at_keeps : (i : ℕ) (x : Recovery) → K x → K (recover_at w b i x)
   unfolding recover_at
   at_keeps i x h =
       let g : Group = x.group in

@@ -202,7 +202,7 @@ module _ (w : ℕ) (hw : w ≤ 64) (vars : List ℕ) (b : Tree) (hb : Atom b) (g
           atom_lt = bare.bare_lt;
           masked = λ ne. record {
             mask_lt = ones_lt w;
-            atom_value = ap (value w vars) bare.bare_tree ∙ sym (and_full w v (value_lt w vars b));
+            atom_value = bare.bare_value ∙ sym (and_full w v (value_lt w vars b));
           };
         } in
         let after : owed w vars l new-e + owed w vars l new-f ≡ d * bit_and v e.mask + f.coeff * v =
@@ -210,7 +210,7 @@ module _ (w : ℕ) (hw : w ≤ 64) (vars : List ℕ) (b : Tree) (hb : Atom b) (g
           arith,
           owed_masked l new-e (live_mark_lem new-e e refl ∙ p.live_i) p.plain_i he,
           owed_live w vars l new-f (live_of_mark new-f (λ (q : 2 ≡ 1). omega arith)),
-          ap (λ (t : Tree). f.coeff * value w vars t) bare.bare_tree,
+          ap (λ (n : ℕ). f.coeff * n) bare.bare_value,
         ) in
         kept_two w vars b g0 rows0 c0 x h l more x.constant h.constant_lt i j new-e new-f
         p.apart p.i_lt p.j_lt (λ _. he) (λ _. hf)

@@ -1,6 +1,6 @@
 -- Coalescing the terms of one variable by the coefficient of each bit (structure_recovery.rs 337-473). Differs from the
 -- Rust in differences 3 and 4.
-use Rattle.std.specs.Prelude.{ℕ, ◌-◌, ◌^◌, List, [], ◌∷◌, Bool, false, ◌&&◌, length, eqb, ltb, leb}
+use Rattle.std.specs.Prelude.{ℕ, ◌-◌, ◌^◌, List, [], ◌∷◌, false, ◌||◌, length, eqb, ltb, leb}
 use Rattle.base.specs.Choice.{when}
 use Rattle.record.specs.Tree.{Tree}
 use Rattle.group.specs.declared.Group.{Group}
@@ -22,18 +22,11 @@ carried_rows w b (x ∷ l) rows =
     (λ _. carried_rows w b l (add_coeff w x.coeff (row_with w b 0 rows) (with_bare w b rows)))
     (λ _. carried_rows w b l (add_coeff w x.coeff (length rows) (create_masked w b x.mask rows)))
 
--- how many terms a group has where it is rewritten
-abbrev pub carried_count : ℕ → Group → ℕ
-carried_count w g = length (carried_of w g.coeffs g.masks g.len)
-
 -- a group of two or more is rewritten where that leaves strictly fewer terms
-unfoldable pub rewrites : ℕ → Group → Bool
-rewrites w g = leb 2 g.len && ltb (carried_count w g) g.len
-
 unfoldable pub coalesce_group : ℕ → Tree → Group → List Row → List Row
 coalesce_group w b g rows =
-    when (rewrites w g) (λ _. carried_rows w b (carried_of w g.coeffs g.masks g.len) rows)
-    (λ _. settle w g rows)
+    when (ltb g.len 2 || leb g.len (length (carried_of w g.coeffs g.masks g.len)))
+    (λ _. settle w g rows) (λ _. carried_rows w b (carried_of w g.coeffs g.masks g.len) rows)
 
 unfoldable pub coalesce_all : ℕ → List Row → List Tree → List Row → List Row
 coalesce_all w before [] rows = rows

@@ -9,7 +9,7 @@ use mathlib.Core.List.{List, [], ◌∷◌}
 use mathlib.Core.Bool.{true, false}
 use lib.ListN.{length, get_or}
 use Rattle.arith.specs.Bit.{bit_at}
-use Rattle.arith.proofs.BitLaws.{bit_zero, bits_below}
+use Rattle.arith.proofs.BitLaws.{bit_zero, bits_below_lem}
 use Rattle.base.specs.Limits.{var_limit}
 use Rattle.record.specs.Tree.{Tree}
 use Rattle.base.proofs.ListsLaws.{eq_of_eq_list}
@@ -57,7 +57,7 @@ module _ (w : ℕ) (vs : List ℕ) (hw : 1 ≤ w) where
   word_rows : (t u : Tree) → Bitwise t → Bitwise u → (n : ℕ)
       → ((i : ℕ) → i < 2 ^ n → row_word w vs i t ≡ row_word w vs i u) → table w 0 vs n t ≡ table w 0 vs n u
   word_rows t u bt bu n e =
-      bits_below (2 ^ n) (table w 0 vs n t) (table w 0 vs n u) (table_lt w 0 vs t n) (table_lt w 0 vs u n)
+      bits_below_lem (2 ^ n) (table w 0 vs n t) (table w 0 vs n u) (table_lt w 0 vs t n) (table_lt w 0 vs u n)
       (λ i h.
       table_bit w 0 vs t n i h
       ∙ sym (row_word_bit t bt i)

@@ -102,21 +102,6 @@ seen w (Binary k l r) h = seen_binary w k l r h (decompose_atom w l) (decompose_
 
 -- ---- the view of a row
 
-view_count : Decomposed → ℕ
-view_count no_basis = 0
-view_count (masked b m) = 1
-
-no_basis_masked : {b : Tree} {m : ℕ} → no_basis ≡ masked b m → ⊥
-unfolding view_count
-no_basis_masked e = let z : ◌≡◌ {A = ℕ} 0 1 = ap view_count e in omega (arith, z)
-
-basis_of : {b c : Tree} {m n : ℕ} → masked b m ≡ masked c n → b ≡ c
-basis_of {b} e = ap (λ (d : Decomposed). basis_or b d) e
-  where
-    basis_or : Tree → Decomposed → Tree
-    basis_or t no_basis = t
-    basis_or t (masked c n) = c
-
 module _ (only : Tree → Bool) (w : ℕ) (x : Row) where
   pub view_none : x.coeff ≡ 0 → view_row only w x ≡ no_basis
   unfolding view_row
@@ -131,26 +116,6 @@ module _ (only : Tree → Bool) (w : ℕ) (x : Row) where
         → view_row only w x ≡ when (only b) (λ _. masked b m) (λ _. no_basis)
     unfolding view_row
     view_only_lem e = simp (ne_eqb x.coeff 0 ne, e)
-
-  -- a row with a view has a term, and the view is its tree's, with a basis that counts
-  pub record Viewed (b : Tree) (m : ℕ) : Type 0 where
-    pub term : x.coeff ≡ 0 → ⊥
-    pub split : decompose_atom w x.tree ≡ masked b m
-    pub counts : only b ≡ true
-
-  pub viewed : {b : Tree} {m : ℕ} → view_row only w x ≡ masked b m → Viewed b m
-  viewed {b} {m} e = go (ℕ_discrete x.coeff 0) (decompose_atom w x.tree) refl
-    where
-      by_test : (ne : x.coeff ≡ 0 → ⊥) (c : Tree) (n : ℕ) → decompose_atom w x.tree ≡ masked c n → (p : Bool)
-          → only c ≡ p → when p (λ _. masked c n) (λ _. no_basis) ≡ masked b m → Viewed b m
-      by_test ne c n split true p q =
-          record { term = ne; split = split ∙ q; counts = sym (ap only (basis_of q)) ∙ p }
-      by_test ne c n split false p q = absurd (no_basis_masked q)
-
-      go : Dec (x.coeff ≡ 0) → (d : Decomposed) → decompose_atom w x.tree ≡ d → Viewed b m
-      go (yes z) d p = absurd (no_basis_masked (sym (view_none z) ∙ e))
-      go (no ne) no_basis p = absurd (no_basis_masked (sym (view_no_basis ne p) ∙ e))
-      go (no ne) (masked c n) p = by_test ne c n p (only c) refl (sym (view_only_lem ne p) ∙ e)
 
   seen_only : {b : Tree} {m : ℕ} → View w x.tree b m → (p : Bool)
       → Seen w x.tree (when p (λ _. masked b m) (λ _. no_basis))

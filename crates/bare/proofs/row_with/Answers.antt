@@ -18,28 +18,28 @@ rest_from-r-requires c = c.loop-r.invariant.inside
 pub returns-then-not-is_atom : goal.returns-then-not-is_atom
 returns-then-not-is_atom c =
     passed_end _ _ _ _ _ c.loop-r.invariant c.rest_from-r.ensures
-    (sym c.is_atom.ensures ∙ not-true _ c.if-not-is_atom.true)
+    (sym c.is_atom.ensures ∙ c.if-not-is_atom.true)
 
 pub has_tree-requires : goal.has_tree-requires
-has_tree-requires c = sym c.is_atom.ensures ∙ not-false _ c.if-not-is_atom.false
+has_tree-requires c = sym c.is_atom.ensures ∙ c.if-not-is_atom.false
 
 pub returns-then-has_tree : goal.returns-then-has_tree
 returns-then-has_tree c =
     passed_found _ _ _ _ _ c.loop-r.invariant c.rest_from-r.ensures
-    (sym c.is_atom.ensures ∙ not-false _ c.if-not-is_atom.false) (sym c.has_tree.ensures ∙ c.if-has_tree.true)
+    (sym c.is_atom.ensures ∙ c.if-not-is_atom.false) (sym c.has_tree.ensures ∙ c.if-has_tree.true)
 
 pub overflow_add-i : goal.overflow_add-i
 overflow_add-i c = omega (arith, c.loop-r.invariant.bytes, c.loop-r.invariant.inside)
 
 pub atom_length-at-requires : goal.atom_length-at-requires
-atom_length-at-requires c = sym c.is_atom.ensures ∙ not-false _ c.if-not-is_atom.false
+atom_length-at-requires c = sym c.is_atom.ensures ∙ c.if-not-is_atom.false
 
 pub overflow_add-at : goal.overflow_add-at
 overflow_add-at c =
     omega (
       arith,
       atom_inside _ _ _ _ _ c.loop-r.invariant c.rest_from-r.ensures
-          (sym c.is_atom.ensures ∙ not-false _ c.if-not-is_atom.false),
+          (sym c.is_atom.ensures ∙ c.if-not-is_atom.false),
       c.atom_length-at.ensures.0,
     )
 
@@ -48,7 +48,7 @@ loop-r-smaller c =
     omega (
       arith,
       atom_inside _ _ _ _ _ c.loop-r.invariant c.rest_from-r.ensures
-          (sym c.is_atom.ensures ∙ not-false _ c.if-not-is_atom.false),
+          (sym c.is_atom.ensures ∙ c.if-not-is_atom.false),
       c.atom_length-at.ensures.0,
       c.atom_length-at.ensures.1,
     )
@@ -57,5 +57,5 @@ pub loop-r-preserved : goal.loop-r-preserved
 loop-r-preserved c =
     rw c.atom_length-at.ensures.0
     (passed_next _ _ _ _ _ c.loop-r.invariant c.rest_from-r.ensures
-    (sym c.is_atom.ensures ∙ not-false _ c.if-not-is_atom.false)
+    (sym c.is_atom.ensures ∙ c.if-not-is_atom.false)
     (sym c.has_tree.ensures ∙ c.if-has_tree.false))

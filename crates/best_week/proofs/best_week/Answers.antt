@@ -39,14 +39,14 @@ returns-then-not-found c =
     let s = c.args.run.now in
     gives_none s c.run_refusal-refusal.ensures c.if-refusal-ne0.false
     (records_are s c.number_of-n.ensures) c.best_of-best.ensures
-    (not-true _ c.if-not-found.true) c.no_week-then-not-found.ensures
+    c.if-not-found.true c.no_week-then-not-found.ensures
 
 pub day-day-requires : goal.day-day-requires
 day-day-requires c =
     let at-best-of = c in
     omega (
       arith,
-      (at-best-of.best_of-best.ensures.best (not-false _ c.if-not-found.false)).inside,
+      (at-best-of.best_of-best.ensures.best c.if-not-found.false).inside,
       at-best-of.number_of-n.ensures,
     )
 
@@ -55,5 +55,5 @@ returns c =
     let s = c.args.run.now in
     gives_week s c.run_refusal-refusal.ensures c.if-refusal-ne0.false
     (records_are s c.number_of-n.ensures) c.best_of-best.ensures
-    (not-false _ c.if-not-found.false)
+    c.if-not-found.false
     (back (record { sfits = c.struct_told-1.given.1.1.0.1 })) c.day-day.ensures.0

@@ -22,12 +22,12 @@ returns-then-not-root_ok t c =
     c.refuse-then-not-root_ok.ensures
     ∙ sym
     (checked_root _ _ c.if-t-lt-RECORD_LENGTH.false
-    (sym c.root_ok.ensures ∙ not-true _ c.if-not-root_ok.true))
+    (sym c.root_ok.ensures ∙ c.if-not-root_ok.true))
 
 pub returns-then-children-eq0 : goal.returns-then-children-eq0
 returns-then-children-eq0 t c =
     c.leaf_checked.ensures
-    ∙ checked_leaf _ _ c.if-t-lt-RECORD_LENGTH.false (sym c.root_ok.ensures ∙ not-false _ c.if-not-root_ok.false)
+    ∙ checked_leaf _ _ c.if-t-lt-RECORD_LENGTH.false (sym c.root_ok.ensures ∙ c.if-not-root_ok.false)
     (sym c.root_arity-children.ensures ∙ c.if-children-eq0.true)
 
 pub check_bitwise-last-requires : goal.check_bitwise-last-requires
@@ -48,7 +48,7 @@ returns-then-children-eq1 t c =
     c.one_checked.ensures
     ∙ one_alike at-kind.kind-k.ensures c.amount.ensures.0
     (at-kind.check_bitwise-last.ensures ∙ ap (checked w) (at_last.last_child.ensures ∙ last_one t one))
-    ∙ checked_one w t at-if1.if-t-lt-RECORD_LENGTH.false (sym at-if2.root_ok.ensures ∙ not-false _ at-if2.if-not-root_ok.false) one
+    ∙ checked_one w t at-if1.if-t-lt-RECORD_LENGTH.false (sym at-if2.root_ok.ensures ∙ at-if2.if-not-root_ok.false) one
 
 pub check_bitwise-first-requires : goal.check_bitwise-first-requires
 check_bitwise-first-requires t c =
@@ -72,5 +72,5 @@ returns t c =
     ∙ two_alike at-kind.kind-k.ensures
     (at_first.check_bitwise-first.ensures ∙ ap (checked w) at_first.left.ensures)
     (at-kind.check_bitwise-last.ensures ∙ ap (checked w) (at_last.last_child.ensures ∙ last_two t two))
-    ∙ checked_two w t at-if1.if-t-lt-RECORD_LENGTH.false (sym at-if2.root_ok.ensures ∙ not-false _ at-if2.if-not-root_ok.false)
+    ∙ checked_two w t at-if1.if-t-lt-RECORD_LENGTH.false (sym at-if2.root_ok.ensures ∙ at-if2.if-not-root_ok.false)
     (λ e. at_last.if-children-eq0.false (ar ∙ e)) two

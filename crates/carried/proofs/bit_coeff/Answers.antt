@@ -1,9 +1,10 @@
 -- `bit_coeff` meets its contract: the loop keeps the sum, which is cut in the end.
-use Rattle.std.proofs.Common.{◌≡◌, ◌-◌, ◌%◌, ◌^◌, ◌≤◌, [], ◌∙◌, ⊎_elim, arith, rules}
+use Rattle.std.proofs.Common.{◌≡◌, ◌-◌, ◌%◌, ◌^◌, ◌≤◌, [], ◌∙◌, arith, rules}
 use Rattle.base.specs.Loop.{for_in}
 use Rattle.structure_laws.specs.Carried.{bit_coeff_at}
 use Rattle.carried.proofs.CarriedToLaws.{bit_start, bit_one, bit_none, bit_end}
 use Rattle.carried.proofs.bit_coeff.Goals as goal
+use Rattle.carried.proofs.bit_coeff.Goals.{else-masks-i-eq1, then-masks-i-eq1}
 
 pub loop-i-init : goal.loop-i-init
 loop-i-init c =
@@ -31,12 +32,9 @@ loop-i-preserved c =
     let h = c.loop-i in
     let hw = c.requires.2 in (
       omega arith,
-      ⊎_elim
-          (λ k. bit_one a.w hw a.coeffs.now a.masks.now a.n a.p h.i h.sum h.invariant.1
-          k.0.taken _ (k.1 ∙ c.wrapping_add_u64-more.ensures.value))
-          (λ k. bit_none a.w hw a.coeffs.now a.masks.now a.n a.p h.i h.sum h.invariant.1
-          k.0.left _ k.1)
-          c.if-masks-i-eq1.branch,
+      elim c.if-masks-i-eq1.branch [ then-masks-i-eq1 w ↦ bit_one a.w hw a.coeffs.now a.masks.now a.n a.p h.i h.sum h.invariant.1
+          w.if-masks-i-eq1.true _ (w.sum-is ∙ c.wrapping_add_u64-more.ensures.value) | else-masks-i-eq1 w ↦ bit_none a.w hw a.coeffs.now a.masks.now a.n a.p h.i h.sum h.invariant.1
+          w.if-masks-i-eq1.false _ w.sum-is ],
     )
 
 pub returns : goal.returns

@@ -5,7 +5,7 @@ use Rattle.carried.proofs.carry_at.Goals as goal
 
 
 pub bit_coeff-c-requires : goal.bit_coeff-c-requires
-bit_coeff-c-requires c = let pre = c.before.before.requires in (pre.0, pre.2.place, pre.1)
+bit_coeff-c-requires c = let pre = c.requires in (pre.0, pre.2.place, pre.1)
 
 pub returns-then-c-eq0 : goal.returns-then-c-eq0
 returns-then-c-eq0 c =

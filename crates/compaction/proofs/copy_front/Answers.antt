@@ -30,7 +30,7 @@ copy_terms-requires c =
     c.loop-to.invariant
     (ap is_atom (sym c.rest_from.ensures)
     ∙ sym c.is_atom.ensures
-    ∙ not-true _ c.if-not-is_atom.true) c.terms_at-terms.result c.terms_at-terms.ensures
+    ∙ c.if-not-is_atom.true) c.terms_at-terms.result c.terms_at-terms.ensures
     c.rest_from-then-not-is_atom.ensures
 
 pub shape_of-out-then-not-is_atom : goal.shape_of-out-then-not-is_atom
@@ -46,7 +46,7 @@ returns-then-not-is_atom c =
     c.loop-to.invariant
     (ap is_atom (sym c.rest_from.ensures)
     ∙ sym c.is_atom.ensures
-    ∙ not-true _ c.if-not-is_atom.true) (front_parts c.args.w c.args.f.now c.requires.0)
+    ∙ c.if-not-is_atom.true) (front_parts c.args.w c.args.f.now c.requires.0)
     c.terms_at-terms.result c.terms_at-terms.ensures
     c.rest_from-then-not-is_atom.ensures _ c.copy_terms.result
     c.copy_terms.ensures
@@ -57,7 +57,7 @@ copy_row-x-requires c =
     let atom =
     ap is_atom (sym c.rest_from.ensures)
     ∙ sym c.is_atom.ensures
-    ∙ not-false _ c.if-not-is_atom.false in
+    ∙ c.if-not-is_atom.false in
     record {
       at_le = going.inside;
       next_le = going.terms_inside;
@@ -81,4 +81,4 @@ loop-to-preserved c =
     _ c.loop-to.invariant
     (ap is_atom (sym c.rest_from.ensures)
     ∙ sym c.is_atom.ensures
-    ∙ not-false _ c.if-not-is_atom.false) c.copy_row-x.ensures
+    ∙ c.if-not-is_atom.false) c.copy_row-x.ensures

@@ -15,7 +15,7 @@ returns-then-not-size_ok c =
     simp (
       ← c.kind-k.ensures,
       le-leb _ _ c.if-k-gt13.false,
-      sym c.size_ok.ensures ∙ not-true _ c.if-not-size_ok.true,
+      sym c.size_ok.ensures ∙ c.if-not-size_ok.true,
     )
 
 pub returns-then-unused-ne0 : goal.returns-then-unused-ne0
@@ -24,7 +24,7 @@ returns-then-unused-ne0 c =
     simp (
       ← c.kind-k.ensures,
       le-leb _ _ c.if-k-gt13.false,
-      sym c.size_ok.ensures ∙ not-false _ c.if-not-size_ok.false,
+      sym c.size_ok.ensures ∙ c.if-not-size_ok.false,
       ← c.unused.ensures,
       ne_eqb _ _ c.if-unused-ne0.true,
     )
@@ -35,7 +35,7 @@ returns c =
     simp (
       ← c.kind-k.ensures,
       le-leb _ _ c.if-k-gt13.false,
-      sym c.size_ok.ensures ∙ not-false _ c.if-not-size_ok.false,
+      sym c.size_ok.ensures ∙ c.if-not-size_ok.false,
       ← c.unused.ensures,
       eq-eqb _ _ c.if-unused-ne0.false,
       ← c.byte1.ensures,

@@ -7,24 +7,24 @@ use Rattle.expr_refusal.proofs.root_refusal.Goals as goal
 
 pub returns-then-not-form_ok : goal.returns-then-not-form_ok
 unfolding root_refusal
-returns-then-not-form_ok c = simp (sym c.form_ok.ensures ∙ not-true _ c.if-not-form_ok.true)
+returns-then-not-form_ok c = simp (sym c.form_ok.ensures ∙ c.if-not-form_ok.true)
 
 pub returns-then-not-width_ok : goal.returns-then-not-width_ok
 unfolding root_refusal
 returns-then-not-width_ok c =
     simp (
-      sym c.form_ok.ensures ∙ not-false _ c.if-not-form_ok.false,
+      sym c.form_ok.ensures ∙ c.if-not-form_ok.false,
       ← c.width.ensures,
-      sym c.width_ok.ensures ∙ not-true _ c.if-not-width_ok.true,
+      sym c.width_ok.ensures ∙ c.if-not-width_ok.true,
     )
 
 pub returns-then-k-gt9 : goal.returns-then-k-gt9
 unfolding root_refusal
 returns-then-k-gt9 c =
     simp (
-      sym c.form_ok.ensures ∙ not-false _ c.if-not-form_ok.false,
+      sym c.form_ok.ensures ∙ c.if-not-form_ok.false,
       ← c.width.ensures,
-      sym c.width_ok.ensures ∙ not-false _ c.if-not-width_ok.false,
+      sym c.width_ok.ensures ∙ c.if-not-width_ok.false,
       ← c.kind-k.ensures,
       lt-ltb _ _ c.if-k-gt9.true,
     )
@@ -33,9 +33,9 @@ pub returns-then-amount-gt63 : goal.returns-then-amount-gt63
 unfolding root_refusal
 returns-then-amount-gt63 c =
     simp (
-      sym c.form_ok.ensures ∙ not-false _ c.if-not-form_ok.false,
+      sym c.form_ok.ensures ∙ c.if-not-form_ok.false,
       ← c.width.ensures,
-      sym c.width_ok.ensures ∙ not-false _ c.if-not-width_ok.false,
+      sym c.width_ok.ensures ∙ c.if-not-width_ok.false,
       ← c.kind-k.ensures,
       le-ltb _ _ c.if-k-gt9.false,
       eq-eqb _ _ c.if-k-eq9.true,
@@ -47,9 +47,9 @@ pub returns-else-amount-gt63 : goal.returns-else-amount-gt63
 unfolding root_refusal
 returns-else-amount-gt63 c =
     simp (
-      sym c.form_ok.ensures ∙ not-false _ c.if-not-form_ok.false,
+      sym c.form_ok.ensures ∙ c.if-not-form_ok.false,
       ← c.width.ensures,
-      sym c.width_ok.ensures ∙ not-false _ c.if-not-width_ok.false,
+      sym c.width_ok.ensures ∙ c.if-not-width_ok.false,
       ← c.kind-k.ensures,
       le-ltb _ _ c.if-k-gt9.false,
       eq-eqb _ _ c.if-k-eq9.true,
@@ -61,9 +61,9 @@ pub returns-else-k-eq9 : goal.returns-else-k-eq9
 unfolding root_refusal
 returns-else-k-eq9 c =
     simp (
-      sym c.form_ok.ensures ∙ not-false _ c.if-not-form_ok.false,
+      sym c.form_ok.ensures ∙ c.if-not-form_ok.false,
       ← c.width.ensures,
-      sym c.width_ok.ensures ∙ not-false _ c.if-not-width_ok.false,
+      sym c.width_ok.ensures ∙ c.if-not-width_ok.false,
       ← c.kind-k.ensures,
       le-ltb _ _ c.if-k-gt9.false,
       ne_eqb _ _ c.if-k-eq9.false,

@@ -33,7 +33,7 @@ returns-then-not-is_atom c =
     walked_end _ _ _ _ c.loop-x.x _ _ _ c.loop-x.invariant
     (ap is_atom (sym c.rest_from.ensures)
     ∙ sym c.is_atom.ensures
-    ∙ not-true _ c.if-not-is_atom.true)
+    ∙ c.if-not-is_atom.true)
 
 pub flatten_row-x-requires : goal.flatten_row-x-requires
 flatten_row-x-requires c =
@@ -41,7 +41,7 @@ flatten_row-x-requires c =
     let atom =
     ap is_atom (sym c.rest_from.ensures)
     ∙ sym c.is_atom.ensures
-    ∙ not-false _ c.if-not-is_atom.false in
+    ∙ c.if-not-is_atom.false in
     let n = walked_number _ _ _ _ c.loop-x.x _ _ _ h atom in
     record {
       row = record {
@@ -68,4 +68,4 @@ loop-x-preserved c =
     walked_row _ _ _ _ c.loop-x.x c.flatten_row-x.result _ _ _ _ _ _ c.loop-x.invariant
     (ap is_atom (sym c.rest_from.ensures)
     ∙ sym c.is_atom.ensures
-    ∙ not-false _ c.if-not-is_atom.false) c.flatten_row-x.ensures
+    ∙ c.if-not-is_atom.false) c.flatten_row-x.ensures

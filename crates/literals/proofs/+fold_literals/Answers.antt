@@ -21,52 +21,52 @@ use Rattle.literals.proofs.+fold_literals.Goals as goal
 use Rattle.literals.proofs.+fold_literals.Goals.{After-either-deeper, After-left, After-right}
 
 pub overflow_sub-last : goal.overflow_sub-last
-overflow_sub-last t c = marks_some c.requires.1
+overflow_sub-last t c = marks_some c.requires
 
 pub bounds-marks-last : goal.bounds-marks-last
-bounds-marks-last t c = omega (arith, marks_some c.requires.1)
+bounds-marks-last t c = omega (arith, marks_some c.requires)
 
 pub constant_value-v-requires : goal.constant_value-v-requires
 constant_value-v-requires t c =
-    let room = c.requires.1 in
+    let room = c.requires in
     (whole room, omega (arith, (accepted_root _ _ room.accepted).width_le))
 
 pub put_record-requires : goal.put_record-requires
 put_record-requires t c =
-    (record_room c.requires.1, lit< tt)
+    (record_room c.requires, lit< tt)
 
 pub overflow_add-result : goal.overflow_add-result
 overflow_add-result t c =
-    omega (arith, record_room c.requires.1)
+    omega (arith, record_room c.requires)
 
 pub returns-then-is_literal : goal.returns-then-is_literal
 returns-then-is_literal t c =
-    let room = c.requires.1 in
+    let room = c.requires in
     folded_literal room (mark_folded _ _ room.marked c.is_literal.ensures c.if-is_literal.true)
     c.constant_value-v.ensures c.put_record.ensures
 
 pub root_arity-children-requires : goal.root_arity-children-requires
-root_arity-children-requires t c = span_big c.requires.1
+root_arity-children-requires t c = span_big c.requires
 
 pub put_bytes-requires : goal.put_bytes-requires
 put_bytes-requires t c =
-    c.requires.1.room
+    c.requires.room
 
 pub overflow_add-result-then-children-eq0 : goal.overflow_add-result-then-children-eq0
 overflow_add-result-then-children-eq0 t c =
-    omega (arith, record_room c.requires.1)
+    omega (arith, record_room c.requires)
 
 pub returns-then-children-eq0 : goal.returns-then-children-eq0
 returns-then-children-eq0 t c =
     let at-known = c in
-    let room = at-known.requires.1 in
+    let room = at-known.requires in
     folded_leaf room (λ i. (at-known.shared_slice_known-1.given i).fits)
     (mark_folded _ _ room.marked c.is_literal.ensures c.if-is_literal.false)
     (sym c.root_arity-children.ensures ∙ c.if-children-eq0.true) c.put_bytes.ensures
 
 pub kind-requires : goal.kind-requires
 kind-requires t c =
-    span_big c.requires.1
+    span_big c.requires
 
 -- where the function starts, from the state after which `deeper` is known
 abbrev start : (t : ℕ) → fold-literals-lts.After-either (claims t) (fold_literals_at t) fold-literals.Post
@@ -81,7 +81,7 @@ kept t c =
     let at-bitwise = c.before in
     let at-kind = at-bitwise.before in
     let at-if1 = at-kind.before.before.before in
-    let room = (start t c).requires.1 in
+    let room = (start t c).requires in
     record {
       room = room;
       off = mark_folded _ _ room.marked at-if1.before.is_literal.ensures at-if1.if1.false;
@@ -93,7 +93,7 @@ kept t c =
 
 pub number_of-number-requires : goal.number_of-number-requires
 number_of-number-requires t c =
-    last_whole _ (whole (start t c).requires.1) c.root_arity-children.ensures c.if-children-eq0.false
+    last_whole _ (whole (start t c).requires) c.root_arity-children.ensures c.if-children-eq0.false
     c.cut.ensures.0
 
 -- one that has two children
@@ -120,12 +120,12 @@ slice_bounds-fold_literals-end t c =
 
 pub fold_literals-middle-requires : goal.fold_literals-middle-requires
 fold_literals-middle-requires t c =
-    let two = two_children t c in
+    let two = two_children t (goal.at.fold_literals-middle-requires t c).After-left in
     (omega (arith, left_falls two, (start t c).pre.0), left_room two refl)
 
 pub number_of-number-requires-2 : goal.number_of-number-requires-2
 number_of-number-requires-2 t c =
-    last_whole _ (whole (start t c).requires.1) c.root_arity-children.ensures c.if-children-eq0.false
+    last_whole _ (whole (start t c).requires) c.root_arity-children.ensures c.if-children-eq0.false
     c.cut-2.ensures.0
 
 -- the last child, the left one folded or not there
@@ -170,7 +170,7 @@ slice_bounds-fold_literals-count t c = (last_child_lem t c).count_le
 
 pub fold_literals-end-requires : goal.fold_literals-end-requires
 fold_literals-end-requires t c =
-    let last = last_child_lem t c in
+    let last = last_child_lem t (goal.at.fold_literals-end-requires t c).After-right in
     (omega (arith, last.falls, (start t c).pre.0), last.room _ _ refl refl)
 
 pub kind-requires-2 : goal.kind-requires-2
@@ -183,13 +183,13 @@ byte1-requires t c =
 
 pub put_root-requires : goal.put_root-requires
 put_root-requires t c =
-    (last_child_lem t c).root _ _ c.fold_literals-end.ensures
+    (last_child_lem t (goal.at.put_root-requires t c).After-right).root _ _ c.fold_literals-end.ensures
 
 pub shape_of-out : goal.shape_of-out
 shape_of-out t c =
-    omega (arith, (last_child_lem t c).long)
+    omega (arith, (last_child_lem t (goal.at.shape_of-out t c).After-right).long)
 
 pub returns : goal.returns
 returns t c =
-    (last_child_lem t c).folded _ _ c.fold_literals-end.ensures _ _
+    (last_child_lem t (goal.at.returns t c).After-right).folded _ _ c.fold_literals-end.ensures _ _
     c.kind-2.ensures c.byte1.ensures _ _ c.put_root.ensures

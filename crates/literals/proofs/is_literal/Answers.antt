@@ -6,9 +6,9 @@ use Rattle.literals.proofs.is_literal.Goals as goal
 
 
 pub returns-then-not-below : goal.returns-then-not-below
-returns-then-not-below c = literal_off c.args.below c.args.m (not-true _ c.if-not-below.true)
+returns-then-not-below c = literal_off c.args.below c.args.m c.if-not-below.true
 
 pub returns : goal.returns
 returns c =
     let args = c.args in
-    literal_on args.below args.m (not-false _ c.if-not-below.false) c.has_variable.ensures
+    literal_on args.below args.m c.if-not-below.false c.has_variable.ensures

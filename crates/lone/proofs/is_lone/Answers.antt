@@ -20,5 +20,5 @@ pub returns : goal.returns
 returns c =
     let at-none-has = c in
     let pre = at-none-has.requires in
-    λ e. gathered_lone _ _ _ _ _ _ pre.within pre.has_basis_lem (at-none-has.none_has.ensures (not-false _ c.if-not-none_has.false))
+    λ e. gathered_lone _ _ _ _ _ _ pre.within pre.has_basis_lem (at-none-has.none_has.ensures c.if-not-none_has.false)
     (c.none_has-2.ensures e)

@@ -11,6 +11,6 @@ returns-then-not-stays c = λ e. false_true e
 pub returns : goal.returns
 unfolding view_at
 returns c = λ e. record {
-  stays = c.stays.ensures (not-false _ c.if-not-stays.false);
+  stays = c.stays.ensures c.if-not-stays.false;
   lone = c.is_lone.ensures e;
 }

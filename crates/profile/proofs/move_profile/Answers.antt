@@ -1,6 +1,5 @@
 -- `move_profile` meets its contract: the loop keeps that the words before i were moved and the others are as they were.
 use Prim.Native.Nat.{ℕ, ◌-◌, ◌≤◌, ◌<◌}
-use mathlib.Core.Logic.{⊎_elim}
 use Rattle.arith.specs.Bit.{bit_at}
 use Rattle.profile.proofs.AtomWordsLaws.{index_edges}
 use mathlib.Core.Path.{ap, sym, ◌∙◌}
@@ -8,6 +7,7 @@ use native.Mathlib.Omega.{arith}
 use lib.ListN.{length}
 use Rattle.profile.proofs.MoveLaws.{Moving, moving_none, moving_all, moving_edge, moving_still}
 use Rattle.profile.proofs.move_profile.Goals as goal
+use Rattle.profile.proofs.move_profile.Goals.{else-bit-eq1, then-bit-eq1}
 
 pub loop-i-init : goal.loop-i-init
 loop-i-init c = (omega arith, moving_none _ _ _ _)
@@ -52,11 +52,7 @@ loop-i-preserved c =
     c.bit.ensures
     ∙ ap (λ (x : ℕ). bit_at x c.args.p) (index_edges index i e.at _ e.words) in (
       omega arith,
-      ⊎_elim
-          (λ k.
-          moving_edge f _ _ _ _ i inside c.loop-i.invariant.1 (sym edges ∙ k.0.taken) k.1.ensures k.2)
-          (λ k. moving_still f _ _ _ _ i inside c.loop-i.invariant.1 (λ b. k.0.left (edges ∙ b)) k.1)
-          c.if-bit-eq1.branch,
+      elim c.if-bit-eq1.branch [ then-bit-eq1 w ↦ moving_edge f _ _ _ _ i inside c.loop-i.invariant.1 (sym edges ∙ w.if-bit-eq1.true) w.profile_word.ensures w.profile-is | else-bit-eq1 w ↦ moving_still f _ _ _ _ i inside c.loop-i.invariant.1 (λ b. w.if-bit-eq1.false (edges ∙ b)) w.profile-is ],
     )
 
 pub shape_of-profile : goal.shape_of-profile

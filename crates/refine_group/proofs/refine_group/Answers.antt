@@ -1,7 +1,6 @@
 -- `refine_group` meets its contract: after each stage, taken or not, the group, the words and the bytes are those of the
 -- stages so far; the end settles the group.
 use mathlib.Core.Path.{◌≡◌, refl, sym, ◌∙◌}
-use mathlib.Core.Logic.{⊎_elim}
 use native.Mathlib.Omega.{arith}
 use borrow.Author.Rules.{rules}
 use Rattle.record.specs.Decode.{decode}
@@ -14,19 +13,7 @@ use Rattle.collapse_search.proofs.CollapseMetLaws.{three_collapsible, collapse_s
 use Rattle.refine_group.proofs.RefiningLaws.{no_merge_at, found_at, merged, collapsed, group_refined}
 use Rattle.group.proofs.PassLaws.{few_entries}
 use Rattle.refine_group.proofs.refine_group.Goals as goal
-use Rattle.refine_group.proofs.refine_group.Goals.{After-gather-g, Joined-any_merge, Joined-any_single, Joined-i-len, Start}
-
-abbrev gather2 : Joined-any_merge → After-gather-g
-gather2 c = gather1 c
-
-abbrev gather3 : Joined-i-len → After-gather-g
-gather3 c = gather2 c
-
-abbrev begin2 : Joined-any_merge → Start
-begin2 c = begin1 c
-
-abbrev begin3 : Joined-i-len → Start
-begin3 c = begin2 c
+use Rattle.refine_group.proofs.refine_group.Goals.{Joined-any_merge, Joined-any_single, Joined-i-len, else-any_merge, else-any_single, else-i-len, then-any_merge, then-any_single, then-i-len}
 
 -- the stages so far, taken or not
 joined1 : (c : Joined-any_single)
@@ -34,36 +21,29 @@ joined1 : (c : Joined-any_single)
     c.gather-g.result c.args.made.now c.args.out.now c.if-any_single.g c.if-any_single.made
     c.if-any_single.out
 joined1 c =
-    ⊎_elim (λ k. stepped_met k.8 k.9 k.10 k.3.ensures)
-    (λ k. stepped_met k.1 k.2 k.3
-    (single_none _ (c.any_single.ensures k.0.left) c.requires.makes.room))
-    c.if-any_single.branch
+    elim c.if-any_single.branch [ then-any_single w ↦ stepped_met w.g-is w.made-is w.out-is w.cut_and_drop-g.ensures | else-any_single w ↦ stepped_met w.g-is w.made-is w.out-is
+    (single_none _ (c.any_single.ensures w.if-any_single.false) c.requires.makes.room) ]
 
 joined2 : (c : Joined-any_merge)
-    → Stepped (begin2 c).args.w 196864 (merged (begin2 c).args.w (decode (begin2 c).args.b.now))
-    (gather2 c).gather.result (begin2 c).args.made.now (begin2 c).args.out.now c.if-any_merge.g c.if-any_merge.made
+    → Stepped c.args.w 196864 (merged c.args.w (decode c.args.b.now))
+    c.gather-g.result c.args.made.now c.args.out.now c.if-any_merge.g c.if-any_merge.made
     c.if-any_merge.out
 joined2 c =
-    let one = joined1 c in
+    let one = joined1 (goal.at.Joined-any_merge c).Joined-any_single in
     stepped_then one
-    (⊎_elim (λ k. stepped_met k.8 k.9 k.10 k.3.ensures)
-    (λ k. stepped_met k.1 k.2 k.3
-    (merge_none _ (no_merge_at c.if-any_single.g (sym one.len) (c.any_merge.ensures k.0.left))
-    one.room))
-    c.if-any_merge.branch)
+    (elim c.if-any_merge.branch [ then-any_merge w ↦ stepped_met w.g-is w.made-is w.out-is w.merge_all-g.ensures | else-any_merge w ↦ stepped_met w.g-is w.made-is w.out-is
+    (merge_none _ (no_merge_at c.if-any_single.g (sym one.len) (c.any_merge.ensures w.if-any_merge.false))
+    one.room) ])
 
 joined3 : (c : Joined-i-len)
-    → Stepped (begin3 c).args.w 196866 (collapsed (begin3 c).args.w (decode (begin3 c).args.b.now))
-    (gather3 c).gather.result (begin3 c).args.made.now (begin3 c).args.out.now c.if-i-len.g c.if-i-len.made
+    → Stepped c.args.w 196866 (collapsed c.args.w (decode c.args.b.now))
+    c.gather-g.result c.args.made.now c.args.out.now c.if-i-len.g c.if-i-len.made
     c.if-i-len.out
 joined3 c =
-    let two = joined2 c in
+    let two = joined2 (goal.at.Joined-i-len c).Joined-any_merge in
     let found = found_at c.if-any_merge.g (sym two.len) c.find_three-found.ensures in
     stepped_then two
-    (⊎_elim
-    (λ k. collapse_met _ found (omega (arith, k.0.taken, two.len)) k.3.ensures k.8 k.9 k.10)
-    (λ k. collapse_same _ found (omega (arith, k.0.left, two.len)) two.room k.1 k.2 k.3)
-    c.if-i-len.branch)
+    (elim c.if-i-len.branch [ then-i-len w ↦ collapse_met _ found (omega (arith, w.if-i-len.true, two.len)) w.collapse-g.ensures w.g-is w.made-is w.out-is | else-i-len w ↦ collapse_same _ found (omega (arith, w.if-i-len.false, two.len)) two.room w.g-is w.made-is w.out-is ])
 
 pub any_single-requires : goal.any_single-requires
 any_single-requires c =
@@ -85,7 +65,7 @@ any_merge-requires c =
 pub merge_all-g-requires : goal.merge_all-g-requires
 merge_all-g-requires c =
     let pre = c.requires in
-    let one = joined1 c in
+    let one = joined1 (goal.at.merge_all-g-requires c).Joined-any_single in
     let few = few_entries _ _ _ _ _ c.gather-g.ensures pre.few in
     record {
       makes = makes_later pre.makes one.room (omega (arith, one.later.rows_le));
@@ -94,15 +74,15 @@ merge_all-g-requires c =
 
 pub find_three-found-requires : goal.find_three-found-requires
 find_three-found-requires c =
-    few_entries _ _ _ _ _ (gather2 c.before.before.before).gather.ensures (begin2 c.before.before.before).requires.few
+    few_entries _ _ _ _ _ c.gather-g.ensures c.requires.few
 
 pub collapse-g-requires : goal.collapse-g-requires
 collapse-g-requires c =
-    let pre = (begin2 c.before.before.before.before.before.before.before).requires in
-    let two = joined2 c in
+    let pre = c.requires in
+    let two = joined2 (goal.at.collapse-g-requires c).Joined-any_merge in
     let found = found_at c.if-any_merge.g (sym two.len) c.find_three-found.ensures in
     let three = three_collapsible found (omega (arith, c.if-i-len.true, two.len)) in
-    let few = few_entries _ _ _ _ _ (gather2 c.before.before.before.before.before.before.before).gather.ensures pre.few in
+    let few = few_entries _ _ _ _ _ c.gather-g.ensures pre.few in
     record {
       makes = makes_later pre.makes two.room (omega (arith, two.later.rows_le));
       i_lt = omega (arith, three.i_lt, two.len, few);
@@ -114,16 +94,16 @@ collapse-g-requires c =
 
 pub settle-requires : goal.settle-requires
 settle-requires c =
-    few_entries _ _ _ _ _ (gather3 c.before.before.before.before).gather.ensures (begin3 c.before.before.before.before).requires.few
+    few_entries _ _ _ _ _ c.gather-g.ensures c.requires.few
 
 pub shape_of-made : goal.shape_of-made
 shape_of-made c =
-    (joined3 c.before.before.before.before.before.before.before).room.words ∙ sym (begin3 c.before.before.before.before.before.before.before).requires.makes.room.words
+    (joined3 (goal.at.shape_of-made c).Joined-i-len).room.words ∙ sym c.requires.makes.room.words
 
 pub shape_of-out : goal.shape_of-out
-shape_of-out c = (joined3 c.before.before.before.before.before.before.before).long
+shape_of-out c = (joined3 (goal.at.shape_of-out c).Joined-i-len).long
 
 pub returns : goal.returns
 returns c =
-    group_refined _ (begin3 c.before.before.before.before.before.before.before).requires.makes.width (omega arith) (joined3 c.before.before.before.before.before.before.before) _ refl c.settle.ensures
-    (gather3 c.before.before.before.before.before.before.before).gather.ensures
+    group_refined _ c.requires.makes.width (omega arith) (joined3 (goal.at.returns c).Joined-i-len) _ refl c.settle.ensures
+    c.gather-g.ensures

@@ -24,7 +24,7 @@ returns-then-not-is_pass c =
     let v = loop.invariant in
     let words = c.args.calls.now in
     let two : loop.i + 2 ≤ length words = omega (arith, v.0, c.loop-i-test.true, c.if-n-i-lt2.false) in
-    let none = sym c.is_pass.ensures ∙ not-true _ c.if-not-is_pass.true in
+    let none = sym c.is_pass.ensures ∙ c.if-not-is_pass.true in
     sym (sym v.2 ∙ list_pass _ loop.i _ _ two none)
 
 pub returns-then-a-len : goal.returns-then-a-len
@@ -33,7 +33,7 @@ returns-then-a-len c =
     let v = loop.invariant in
     let words = c.args.calls.now in
     let two : loop.i + 2 ≤ length words = omega (arith, v.0, c.loop-i-test.true, c.if-n-i-lt2.false) in
-    let one = sym c.is_pass.ensures ∙ not-false _ c.if-not-is_pass.false in
+    let one = sym c.is_pass.ensures ∙ c.if-not-is_pass.false in
     sym (sym v.2 ∙ list_a _ loop.i _ _ two one c.if-a-len.true)
 
 pub returns-then-b-len : goal.returns-then-b-len
@@ -42,7 +42,7 @@ returns-then-b-len c =
     let v = loop.invariant in
     let words = c.args.calls.now in
     let two : loop.i + 2 ≤ length words = omega (arith, v.0, c.loop-i-test.true, c.if-n-i-lt2.false) in
-    let one = sym c.is_pass.ensures ∙ not-false _ c.if-not-is_pass.false in
+    let one = sym c.is_pass.ensures ∙ c.if-not-is_pass.false in
     sym (sym v.2 ∙ list_b _ loop.i _ _ two one c.if-a-len.false c.if-b-len.true)
 
 pub loop-i-preserved : goal.loop-i-preserved
@@ -51,7 +51,7 @@ loop-i-preserved c =
     let v = loop.invariant in
     let words = c.args.calls.now in
     let two : loop.i + 2 ≤ length words = omega (arith, v.0, c.loop-i-test.true, c.if-n-i-lt2.false) in
-    let one = sym c.is_pass.ensures ∙ not-false _ c.if-not-is_pass.false in
+    let one = sym c.is_pass.ensures ∙ c.if-not-is_pass.false in
     (v.0, two, sym (list_turn _ loop.i _ _ two one c.if-a-len.false c.if-b-len.false) ∙ v.2)
 
 pub returns : goal.returns

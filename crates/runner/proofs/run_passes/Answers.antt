@@ -24,7 +24,7 @@ returns-then-not-is_list c =
     let refuse = c.refuse in
     run_bad c.args.expr.now c.args.calls.now (length c.args.sheet.now) (length c.args.spare.now)
     normal.result normal.new.1.0 normal.ensures
-    c.if-found-eq1.false c.if-found-eq2.false (list_is _ _ normal.auto.1.0 c.is_list.ensures (not-true _ c.if-not-is_list.true))
+    c.if-found-eq1.false c.if-found-eq2.false (list_is _ _ normal.auto.1.0 c.is_list.ensures c.if-not-is_list.true)
     _ normal.auto.1.0 refuse.result _ refuse.ensures
 
 pub returns-then-found-ne0 : goal.returns-then-found-ne0
@@ -32,7 +32,7 @@ returns-then-found-ne0 c =
     let normal = c.normalize_to_semilinear-found in
     run_refused c.args.expr.now c.args.calls.now (length c.args.sheet.now) (length c.args.spare.now)
     normal.result normal.new.1.0 normal.ensures
-    c.if-found-eq1.false c.if-found-eq2.false (list_is _ _ normal.auto.1.0 c.is_list.ensures (not-false _ c.if-not-is_list.false))
+    c.if-found-eq1.false c.if-found-eq2.false (list_is _ _ normal.auto.1.0 c.is_list.ensures c.if-not-is_list.false)
     c.if-found-ne0.true
 
 pub run_from-requires : goal.run_from-requires
@@ -40,10 +40,10 @@ run_from-requires c =
     let normal = c.normalize_to_semilinear-found in
     let known = c in
     let at = known in (
-      sym c.is_list.ensures ∙ not-false _ c.if-not-is_list.false,
+      sym c.is_list.ensures ∙ c.if-not-is_list.false,
       run_start at.args.expr.now at.args.calls.now (length at.args.sheet.now) (length at.args.spare.now)
           normal.result normal.new.1.0 normal.ensures
-          c.if-found-eq1.false c.if-found-eq2.false (list_is _ _ normal.auto.1.0 c.is_list.ensures (not-false _ c.if-not-is_list.false))
+          c.if-found-eq1.false c.if-found-eq2.false (list_is _ _ normal.auto.1.0 c.is_list.ensures c.if-not-is_list.false)
           (λ i. (known.shared_slice_known-1.given i).fits) c.if-found-ne0.false,
     )
 
@@ -55,5 +55,5 @@ returns c =
     let run = c.run_from in
     run_end at.args.expr.now at.args.calls.now (length at.args.sheet.now) (length at.args.spare.now)
     normal.result normal.new.1.0 normal.ensures
-    c.if-found-eq1.false c.if-found-eq2.false (list_is _ _ normal.auto.1.0 c.is_list.ensures (not-false _ c.if-not-is_list.false))
+    c.if-found-eq1.false c.if-found-eq2.false (list_is _ _ normal.auto.1.0 c.is_list.ensures c.if-not-is_list.false)
     (λ i. (known.shared_slice_known-1.given i).fits) c.if-found-ne0.false run.result _ run.ensures

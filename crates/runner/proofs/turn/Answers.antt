@@ -7,7 +7,7 @@ use Rattle.runner.proofs.turn.Goals as goal
 
 
 pub call_part-made-requires : goal.call_part-made-requires
-call_part-made-requires c = let at = c.before.before.before.before.before in (first_asks c.before.before.if1.true at.requires.2, at.requires.1)
+call_part-made-requires c = let at = c.before.before.before.before.before in (first_asks c.if1.true at.requires.2, at.requires.1)
 
 pub returns-then-made-ne0 : goal.returns-then-made-ne0
 returns-then-made-ne0 c =
@@ -22,7 +22,7 @@ returns-then-x c =
     c.if-x.true c.requires.2 call.ensures c.if-made-ne0.false
 
 pub call_part-back-requires : goal.call_part-back-requires
-call_part-back-requires c = let at = c.before.before.before.before.before in (second_asks c.before.before.if1.false at.requires.2, at.requires.0)
+call_part-back-requires c = let at = c.before.before.before.before.before in (second_asks c.if1.false at.requires.2, at.requires.0)
 
 pub returns-then-back-ne0 : goal.returns-then-back-ne0
 returns-then-back-ne0 c =

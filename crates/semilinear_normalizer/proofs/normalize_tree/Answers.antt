@@ -38,7 +38,7 @@ returns-then-not-found c =
     let at-known = c in
     let at-start = at-known in
     gives_eight _ _ (λ i. (at-known.shared_slice_known-1.given i).fits) at-start.requires.accepted _
-    c.start.ensures c.collect_terms-found.ensures (not-true _ c.if-not-found.true)
+    c.start.ensures c.collect_terms-found.ensures c.if-not-found.true
     at-start.requires.written c.refuse.result c.refuse.ensures
 
 pub write_form-requires : goal.write_form-requires
@@ -68,5 +68,5 @@ returns c =
     let at-known = c in
     let at-start = at-known in
     gives_collected _ _ (λ i. (at-known.shared_slice_known-1.given i).fits) at-start.requires.accepted _
-    c.start.ensures c.collect_terms-found.ensures (not-false _ c.if-not-found.false)
+    c.start.ensures c.collect_terms-found.ensures c.if-not-found.false
     c.write_form.result c.write_form.ensures

@@ -23,7 +23,7 @@ returns-then-not-is_atom c =
     summed_end _ _ _ _ c.loop-x.x c.loop-x.invariant
     (ap is_atom (sym c.rest_from.ensures)
     ∙ sym c.is_atom.ensures
-    ∙ not-true _ c.if-not-is_atom.true)
+    ∙ c.if-not-is_atom.true)
 
 pub add_row-x-requires : goal.add_row-x-requires
 add_row-x-requires c =
@@ -35,7 +35,7 @@ add_row-x-requires c =
         terms_inside = inv.terms_inside;
         atom = ap is_atom (sym c.rest_from.ensures)
             ∙ sym c.is_atom.ensures
-            ∙ not-false _ c.if-not-is_atom.false;
+            ∙ c.if-not-is_atom.false;
         atoms_ok_lem = inv.atoms;
       };
       number_le = inv.number_le;
@@ -50,4 +50,4 @@ loop-x-preserved c =
     summed_row _ _ _ _ c.loop-x.x c.add_row-x.result c.loop-x.invariant
     (ap is_atom (sym c.rest_from.ensures)
     ∙ sym c.is_atom.ensures
-    ∙ not-false _ c.if-not-is_atom.false) c.add_row-x.ensures
+    ∙ c.if-not-is_atom.false) c.add_row-x.ensures

@@ -8,23 +8,16 @@ use Rattle.truth.proofs.RowsLaws.{rows_join}
 use Rattle.truth.proofs.PassedLaws.{rows_of, rows_leaf, ChainPassed}
 use Rattle.truth.proofs.PassedLaws.{passed_none, passed_not, passed_shift, passed_past}
 use mathlib.Core.Path.{◌≡◌, refl, sym, ◌∙◌}
-use mathlib.Core.Logic.{⊎_elim}
 use mathlib.Core.Bool.{true}
 use lib.ListN.{length, length-take}
 use native.Mathlib.Omega.{arith}
 use borrow.Author.Rules.{rules}
 use Prim.Native.Nat.{ℕ, ◌-◌, ◌<◌}
 use Rattle.truth.proofs.+rows_in.Goals as goal
-use Rattle.truth.proofs.+rows_in.Goals.{After-right-r, Joined-root_arity-eq0, Joined-root_arity-eq0-2}
-
-abbrev rows_in_Inv_loop : rows-in-lts.invariant-loop
-rows_in_Inv_loop t vars at s₀ here₀ flip₀ s here flip = ChainPassed vars t at s here flip
-
-abbrev rows_in_μ_loop : rows-in-lts.decreases-loop
-rows_in_μ_loop t vars at s₀ here₀ flip₀ s here flip = size s
+use Rattle.truth.proofs.+rows_in.Goals.{After-right-r, Joined-root_arity-eq0, Joined-root_arity-eq0-2, then-root_arity-eq0, else-root_arity-eq0, then-root_arity-eq0-2, else-root_arity-eq0-2, then-k-eq7, else-k-eq7+else-here-source}
 
 pub loop-s-init : goal.loop-s-init
-loop-s-init t c = passed_none _ _ _ (omega arith) c.requires.1
+loop-s-init t c = passed_none _ _ _ (omega arith) c.requires
 
 pub root_arity-children-requires : goal.root_arity-children-requires
 root_arity-children-requires t c = sized_big _ c.loop-s.invariant.ok
@@ -43,74 +36,60 @@ pub kind-k-requires : goal.kind-k-requires
 kind-k-requires t c = sized_big _ c.loop-s.invariant.ok
 
 -- the spans of the children: sizes fall, and size fields are right
-left_child :
-    (t : ℕ) (c : After-right-r rows_in_Inv_loop rows_in_μ_loop)
+left_child : (t : ℕ) (c : After-right-r t)
     → (size c.left-l.result.now < t) × (sized c.left-l.result.now ≡ true)
 left_child t c =
-    let at-if2 = c.before.before in
-    let at-if1 = at-if2.before.before in
-    let at-arity = at-if1.before in
-    let at-loop = at-arity.before in
-    let at-start = at-loop.before.before.before in
     let r =
-    child_left _ at-loop.loop.invariant.ok at-arity.root_arity.ensures at-if1.if1.false at-if2.if2.true
-    c.before.left.ensures in
-    (omega (arith, r.falls, at-loop.loop.invariant.falls, at-start.requires.0), r.ok)
+    child_left _ c.loop-s.invariant.ok c.root_arity-children.ensures c.if-children-eq0.false c.if-children-ne1.true
+    c.left-l.ensures in
+    (omega (arith, r.falls, c.loop-s.invariant.falls), r.ok)
 
-right_child :
-    (t : ℕ) (c : After-right-r rows_in_Inv_loop rows_in_μ_loop)
+right_child : (t : ℕ) (c : After-right-r t)
     → (size c.right-r.result.now < t) × (sized c.right-r.result.now ≡ true)
 right_child t c =
-    let at-if2 = c.before.before in
-    let at-if1 = at-if2.before.before in
-    let at-arity = at-if1.before in
-    let at-loop = at-arity.before in
-    let at-start = at-loop.before.before.before in
     let r =
-    child_right _ at-loop.loop.invariant.ok at-arity.root_arity.ensures at-if1.if1.false at-if2.if2.true
-    c.right.ensures in
-    (omega (arith, r.falls, at-loop.loop.invariant.falls, at-start.requires.0), r.ok)
+    child_right _ c.loop-s.invariant.ok c.root_arity-children.ensures c.if-children-eq0.false c.if-children-ne1.true
+    c.right-r.ensures in
+    (omega (arith, r.falls, c.loop-s.invariant.falls), r.ok)
 
 pub root_arity-requires : goal.root_arity-requires
 root_arity-requires t c = sized_big _ (right_child t c).1
 
 pub leaf_rows-y-requires : goal.leaf_rows-y-requires
-leaf_rows-y-requires t c = sized_big _ (right_child t c).1
+leaf_rows-y-requires t c = sized_big _ (right_child t (goal.at.leaf_rows-y-requires t c).After-right-r).1
 
 pub rows_in-y-requires : goal.rows_in-y-requires
-rows_in-y-requires t c = right_child t c
+rows_in-y-requires t c = right_child t (goal.at.rows_in-y-requires t c).After-right-r
 
 -- the rows of the children
-right_rows :
-    (t : ℕ) (c : Joined-root_arity-eq0 rows_in_Inv_loop rows_in_μ_loop)
-    → c.if-root_arity-eq0.y
-    ≡ rows_of c.args.vars.now c.right-r.result.now c.loop-s.here
+right_rows : (t : ℕ) (c : Joined-root_arity-eq0 t)
+    → c.if-root_arity-eq0.y ≡ rows_of c.args.vars.now c.right-r.result.now c.loop-s.here
 right_rows t c =
-    ⊎_elim
-    (λ q.
-    q.2
-    ∙ rows_leaf _ _ _ (right_child t.before.before c.before.before).1 c.before.root_arity2.ensures q.0.taken
-    q.1.ensures) (λ q. q.2 ∙ q.1.ensures) c.if3.branch
+    elim c.if-root_arity-eq0.branch [
+      then-root_arity-eq0 w ↦ w.y-is
+      ∙ rows_leaf _ _ _ (right_child t (goal.at.Joined-root_arity-eq0 t c).After-right-r).1 c.root_arity.ensures w.if-root_arity-eq0.true
+      w.leaf_rows-y.ensures
+    | else-root_arity-eq0 w ↦ w.y-is ∙ w.rows_in-y.ensures
+    ]
 
 pub root_arity-requires-then-children-ne1 : goal.root_arity-requires-then-children-ne1
-root_arity-requires-then-children-ne1 t c = sized_big _ (left_child t c).1
+root_arity-requires-then-children-ne1 t c = sized_big _ (left_child t (goal.at.root_arity-requires-then-children-ne1 t c).After-right-r).1
 
 pub leaf_rows-x-requires : goal.leaf_rows-x-requires
-leaf_rows-x-requires t c = sized_big _ (left_child t c).1
+leaf_rows-x-requires t c = sized_big _ (left_child t (goal.at.leaf_rows-x-requires t c).After-right-r).1
 
 pub rows_in-x-requires : goal.rows_in-x-requires
-rows_in-x-requires t c = left_child t c
+rows_in-x-requires t c = left_child t (goal.at.rows_in-x-requires t c).After-right-r
 
-left_rows :
-    (t : ℕ) (c : Joined-root_arity-eq0-2 rows_in_Inv_loop rows_in_μ_loop)
-    → c.if-root_arity-eq0-2.x
-    ≡ rows_of c.args.vars.now c.left-l.result.now c.loop-s.here
+left_rows : (t : ℕ) (c : Joined-root_arity-eq0-2 t)
+    → c.if-root_arity-eq0-2.x ≡ rows_of c.args.vars.now c.left-l.result.now c.loop-s.here
 left_rows t c =
-    ⊎_elim
-    (λ q.
-    q.2
-    ∙ rows_leaf _ _ _ (left_child t.before.before.before.before c.before.before.before.before).1 c.before.root_arity3.ensures
-    q.0.taken q.1.ensures) (λ q. q.2 ∙ q.1.ensures) c.if4.branch
+    elim c.if-root_arity-eq0-2.branch [
+      then-root_arity-eq0-2 w ↦ w.x-is
+      ∙ rows_leaf _ _ _ (left_child t (goal.at.Joined-root_arity-eq0-2 t c).After-right-r).1 c.root_arity-then-children-ne1.ensures
+      w.if-root_arity-eq0-2.true w.leaf_rows-x.ensures
+    | else-root_arity-eq0-2 w ↦ w.x-is ∙ w.rows_in-x.ensures
+    ]
 
 pub returns-then-children-ne1 : goal.returns-then-children-ne1
 returns-then-children-ne1 t c =
@@ -121,7 +100,7 @@ returns-then-children-ne1 t c =
           c.left-l.ensures c.right-r.ensures,
       ← c.kind-k.ensures,
     )
-    (rows_join 64 _ _ _ _ _ _ (left_rows t c) (right_rows t c) c.join_rows.result
+    (rows_join 64 _ _ _ _ _ _ (left_rows t (goal.at.returns-then-children-ne1 t c).Joined-root_arity-eq0-2) (right_rows t (goal.at.returns-then-children-ne1 t c).Joined-root_arity-eq0) c.join_rows.result
     (search rules) c.join_rows.ensures))
 
 pub amount-a-requires : goal.amount-a-requires
@@ -132,12 +111,9 @@ overflow_add-source t c = omega (arith, c.amount-a.ensures.1)
 
 pub returns-then-here-source : goal.returns-then-here-source
 returns-then-here-source t c =
-    let at-kind = c in
-    let at-arity = at-kind in
-    let at-loop = at-arity in
     c.complement-then-here-source.ensures
-    ∙ passed_past at-loop.loop-s.invariant at-arity.root_arity-children.ensures c.if-children-ne1.false
-    (λ e. c.if-k-eq7.false (at-kind.kind-k.ensures ∙ e)) (omega (arith, c.amount-a.ensures.0))
+    ∙ passed_past c.loop-s.invariant c.root_arity-children.ensures c.if-children-ne1.false
+    (λ e. c.if-k-eq7.false (c.kind-k.ensures ∙ e)) (omega (arith, c.amount-a.ensures.0))
 
 pub overflow_add-here : goal.overflow_add-here
 overflow_add-here t c = omega (arith, c.loop-s.invariant.fits)
@@ -158,15 +134,12 @@ loop-s-smaller t c =
 pub loop-s-preserved : goal.loop-s-preserved
 unfolding body
 loop-s-preserved t c =
-    let at-kind = c in
-    let at-arity = at-kind in
-    let at-loop = at-arity in
-    let passed = at-loop.loop-s.invariant in
-    let arity-is = at-arity.root_arity-children.ensures in
+    let passed = c.loop-s.invariant in
+    let arity_is = c.root_arity-children.ensures in
     let one = c.if-children-ne1.false in
-    ⊎_elim
-    (λ q. rw (q.1, q.2) (passed_not passed arity-is one (sym at-kind.kind-k.ensures ∙ q.0.taken) refl))
-    (λ q.
-    rw (q.3, q.4)
-    (passed_shift passed arity-is one (λ e. q.0.left (at-kind.kind-k.ensures ∙ e)) _ q.1.ensures.0
-    (omega (arith, q.2.left)) refl)) c.if-k-eq7.branch
+    elim c.if-k-eq7.branch [
+      then-k-eq7 w ↦ rw (w.here-is, w.flip-is) (passed_not passed arity_is one (sym c.kind-k.ensures ∙ w.if-k-eq7.true) refl)
+    | else-k-eq7+else-here-source w ↦ rw (w.here-is, w.flip-is)
+      (passed_shift passed arity_is one (λ e. w.if-k-eq7.false (c.kind-k.ensures ∙ e)) _ w.amount-a.ensures.0
+      (omega (arith, w.if-here-source.false)) refl)
+    ]

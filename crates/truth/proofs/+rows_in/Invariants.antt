@@ -18,3 +18,9 @@ use Rattle.truth.proofs.+rows_in.Given as goal
 
 abbrev pub decreases-rows_in : goal.decreases-rows_in
 decreases-rows_in l = size l.t.now
+
+abbrev pub invariant-loop-s : goal.invariant-loop-s
+invariant-loop-s l = ChainPassed l.vars l.t l.at l.s l.here l.flip
+
+abbrev pub decreases-loop-s : goal.decreases-loop-s
+decreases-loop-s l = size l.s

@@ -9,32 +9,26 @@ use Rattle.truth.proofs.leaf_rows.Goals as goal
 
 pub returns-then-bit-eq0 : goal.returns-then-bit-eq0
 returns-then-bit-eq0 c w =
-    let at-kind = c.before.before.before.before in
-    let at-start = at-kind.before.before.before in
-    rw (leaf_constant at-start.args.t.now at-kind.kind.ensures c.before.before.before.if1.true)
+    rw (leaf_constant c.args.t.now c.kind.ensures c.if-kind-eq0.true)
     (rows_clear 64 w _ _ _
-    (ap (λ (x : ℕ). bit_at x at-start.args.place) (sym c.before.before.literal.ensures)
-    ∙ sym c.before.bit.ensures
-    ∙ c.if2.true))
+    (ap (λ (x : ℕ). bit_at x c.args.place) (sym c.literal.ensures)
+    ∙ sym c.bit.ensures
+    ∙ c.if-bit-eq0.true))
 
 pub returns-then-kind-eq0 : goal.returns-then-kind-eq0
 returns-then-kind-eq0 c w =
-    let at-kind = c.before.before.before.before in
-    let at-start = at-kind.before.before.before in
-    rw (leaf_constant at-start.args.t.now at-kind.kind.ensures c.before.before.before.if1.true)
+    rw (leaf_constant c.args.t.now c.kind.ensures c.if-kind-eq0.true)
     (rows_set 64 w _ _ _
     (λ e.
-    c.if2.false
-    (c.before.bit.ensures
-    ∙ ap (λ (x : ℕ). bit_at x at-start.args.place) c.before.before.literal.ensures
+    c.if-bit-eq0.false
+    (c.bit.ensures
+    ∙ ap (λ (x : ℕ). bit_at x c.args.place) c.literal.ensures
     ∙ e)))
 
 pub returns : goal.returns
 returns c w =
-    let at-kind = c.before.before.before in
-    let at-start = at-kind.before.before.before in
     rw (
-      leaf_variable at-start.args.t.now at-kind.kind.ensures c.before.before.if1.false,
-      ← c.before.var_index.ensures.0,
+      leaf_variable c.args.t.now c.kind.ensures c.if-kind-eq0.false,
+      ← c.var_index.ensures.0,
     )
-    (c.variable_rows.ensures w at-start.args.place)
+    (c.variable_rows.ensures w c.args.place)

@@ -4,9 +4,9 @@ use borrow.Author.Rules.{rules}
 use Rattle.truth.proofs.variable_rows.Goals as goal
 
 pub returns-then-j-vars : goal.returns-then-j-vars
-returns-then-j-vars c w p = rows_none 64 _ _ c.before.place_of.ensures c.if1.true w p
+returns-then-j-vars c w p = rows_none 64 _ _ c.place_of-j.ensures c.if-j-vars.true w p
 
 pub returns : goal.returns
 returns c w p =
-    rows_place 64 _ _ c.before.before.place_of.ensures c.before.if1.false c.column.result (search rules)
+    rows_place 64 _ _ c.place_of-j.ensures c.if-j-vars.false c.column.result (search rules)
     c.column.ensures w p

@@ -26,7 +26,7 @@ returns-then-not-found c =
     viewed_no_basis _ at-start.args.f.now (λ i. (at-shared-slice-known.shared_slice_known-1.given i).fits)
     at-start.args.from at-start.args.to
     at-start.requires.from_le at-start.requires.to_le at-start.requires.accepted c.decompose_atom-found.ensures
-    (not-true _ c.if-not-found.true) at-start.args.only x et (λ z. c.if-c-eq0.false (sym ec ∙ z)) _
+    c.if-not-found.true at-start.args.only x et (λ z. c.if-c-eq0.false (sym ec ∙ z)) _
     c.no_view-then-not-found.ensures
 
 pub kind-requires : goal.kind-requires
@@ -36,7 +36,7 @@ kind-requires c =
     basis_big _ at-start.args.f.now (λ i. (at-shared-slice-known.shared_slice_known-1.given i).fits)
     at-start.args.from at-start.args.to
     at-start.requires.from_le at-start.requires.to_le at-start.requires.accepted c.decompose_atom-found.ensures
-    (not-false _ c.if-not-found.false) refl
+    c.if-not-found.false refl
 
 pub returns-then-kind-ne1 : goal.returns-then-kind-ne1
 returns-then-kind-ne1 c =
@@ -51,7 +51,7 @@ returns-then-kind-ne1 c =
     viewed_other _ at-start.args.f.now (λ i. (at-shared-slice-known.shared_slice_known-1.given i).fits)
     at-start.args.from at-start.args.to
     at-start.requires.from_le at-start.requires.to_le at-start.requires.accepted at-decompose-atom.decompose_atom-found.ensures
-    (not-false _ at-if2.if-not-found.false) refl
+    at-if2.if-not-found.false refl
     at-start.args.only x et (λ z. at-if1.if-c-eq0.false (sym ec ∙ z)) _ c.no_view-then-kind-ne1.ensures at-if3.if-only.true
     (λ k. c.if-kind-ne1.true (at-kind.kind.ensures ∙ k))
 
@@ -62,7 +62,7 @@ structural_hash-requires c =
     basis_sized _ at-start.args.f.now (λ i. (at-shared-slice-known.shared_slice_known-1.given i).fits)
     at-start.args.from at-start.args.to
     at-start.requires.from_le at-start.requires.to_le at-start.requires.accepted c.decompose_atom-found.ensures
-    (not-false _ c.if-not-found.false) refl
+    c.if-not-found.false refl
 
 pub returns : goal.returns
 returns c =
@@ -73,16 +73,16 @@ returns c =
     viewed_basis _ at-start.args.f.now (λ i. (at-shared-slice-known.shared_slice_known-1.given i).fits)
     at-start.args.from at-start.args.to
     at-start.requires.from_le at-start.requires.to_le at-start.requires.accepted c.decompose_atom-found.ensures
-    (not-false _ c.if-not-found.false) refl
+    c.if-not-found.false refl
     at-start.args.only x et n c.structural_hash.ensures ec
     (⊎_elim
     (λ k. counts_variable _ at-start.args.f.now (λ i. (at-shared-slice-known.shared_slice_known-1.given i).fits)
     at-start.args.from at-start.args.to
     at-start.requires.from_le at-start.requires.to_le at-start.requires.accepted c.decompose_atom-found.ensures
-    (not-false _ c.if-not-found.false) refl at-start.args.only x et n k.0.taken
+    c.if-not-found.false refl at-start.args.only x et n k.0.taken
     (sym k.1.ensures ∙ k.2.left))
     (λ k. counts_any _ at-start.args.f.now (λ i. (at-shared-slice-known.shared_slice_known-1.given i).fits)
     at-start.args.from at-start.args.to
     at-start.requires.from_le at-start.requires.to_le at-start.requires.accepted c.decompose_atom-found.ensures
-    (not-false _ c.if-not-found.false) refl at-start.args.only x et n k.left)
+    c.if-not-found.false refl at-start.args.only x et n k.left)
     c.if-only.branch)

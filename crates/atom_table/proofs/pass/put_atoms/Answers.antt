@@ -26,19 +26,19 @@ returns-then-not-is_atom c =
     let a = c.args in
     spans_all a.w a.f.now a.out.now c.requires.0 c.requires.1 c.loop-r.at
     c.loop-r.count c.loop-r.records _ c.loop-r.invariant c.rest_from-r.ensures
-    (sym c.is_atom.ensures ∙ not-true _ c.if-not-is_atom.true)
+    (sym c.is_atom.ensures ∙ c.if-not-is_atom.true)
 
 pub tree_span-requires : goal.tree_span-requires
-tree_span-requires c = sym c.is_atom.ensures ∙ not-false _ c.if-not-is_atom.false
+tree_span-requires c = sym c.is_atom.ensures ∙ c.if-not-is_atom.false
 
 pub front_word-requires : goal.front_word-requires
 front_word-requires c =
-    (atom_room _ (sym c.is_atom.ensures ∙ not-false _ c.if-not-is_atom.false)).big
+    (atom_room _ (sym c.is_atom.ensures ∙ c.if-not-is_atom.false)).big
 
 pub put_atom-requires : goal.put_atom-requires
 put_atom-requires c =
     let a = c.args in
-    let atom = sym c.is_atom.ensures ∙ not-false _ c.if-not-is_atom.false in
+    let atom = sym c.is_atom.ensures ∙ c.if-not-is_atom.false in
     let et = c.tree_span.ensures in
     let ready =
     span_ready a.w a.f.now a.out.now c.requires.0 c.requires.1 c.loop-r.at
@@ -55,7 +55,7 @@ overflow_add-count c =
 
 pub front_number-records-requires : goal.front_number-records-requires
 front_number-records-requires c =
-    (atom_room _ (sym c.is_atom.ensures ∙ not-false _ c.if-not-is_atom.false)).big
+    (atom_room _ (sym c.is_atom.ensures ∙ c.if-not-is_atom.false)).big
 
 pub overflow_add-records : goal.overflow_add-records
 overflow_add-records c =
@@ -65,7 +65,7 @@ overflow_add-records c =
 
 pub atom_length-at-requires : goal.atom_length-at-requires
 atom_length-at-requires c =
-    sym c.is_atom.ensures ∙ not-false _ c.if-not-is_atom.false
+    sym c.is_atom.ensures ∙ c.if-not-is_atom.false
 
 pub overflow_add-at : goal.overflow_add-at
 overflow_add-at c =
@@ -74,7 +74,7 @@ overflow_add-at c =
       arith,
       span_inside a.w a.f.now a.out.now c.requires.0 c.requires.1 c.loop-r.at
           c.loop-r.count c.loop-r.records _ c.loop-r.invariant c.rest_from-r.ensures
-          (sym c.is_atom.ensures ∙ not-false _ c.if-not-is_atom.false),
+          (sym c.is_atom.ensures ∙ c.if-not-is_atom.false),
       c.atom_length-at.ensures.0,
     )
 
@@ -85,7 +85,7 @@ loop-r-smaller c =
       arith,
       span_inside a.w a.f.now a.out.now c.requires.0 c.requires.1 c.loop-r.at
           c.loop-r.count c.loop-r.records _ c.loop-r.invariant c.rest_from-r.ensures
-          (sym c.is_atom.ensures ∙ not-false _ c.if-not-is_atom.false),
+          (sym c.is_atom.ensures ∙ c.if-not-is_atom.false),
       c.atom_length-at.ensures.0,
       c.atom_length-at.ensures.1,
     )
@@ -102,5 +102,5 @@ loop-r-preserved c =
     rw (c.atom_length-at.ensures.0, c.front_number-records.ensures.0)
     (spans_more a.w a.f.now a.out.now at-start.requires.0 at-start.requires.1 at-loop.loop-r.at
     at-loop.loop-r.count at-loop.loop-r.records _ at-loop.loop-r.invariant at-is-atom.rest_from-r.ensures
-    (sym at-is-atom.is_atom.ensures ∙ not-false _ at-if1.if-not-is_atom.false)
+    (sym at-is-atom.is_atom.ensures ∙ at-if1.if-not-is_atom.false)
     (at-put-atom.put_atom.ensures ∙ rw at-tree-span.tree_span.ensures))

@@ -14,9 +14,9 @@ returns-then-len-whole c = open_slice _ _ _ (sym c.length_refused.ensures ∙ c.
 pub returns-then-not-is_semilinear : goal.returns-then-not-is_semilinear
 returns-then-not-is_semilinear c =
     open_form _ _ _ (sym c.length_refused.ensures ∙ c.if-length_refused.false) c.if-len-whole.false
-    (sym c.is_semilinear.ensures ∙ not-true _ c.if-not-is_semilinear.true)
+    (sym c.is_semilinear.ensures ∙ c.if-not-is_semilinear.true)
 
 pub returns : goal.returns
 returns c =
     open_none _ _ _ (sym c.length_refused.ensures ∙ c.if-length_refused.false) c.if-len-whole.false
-    (sym c.is_semilinear.ensures ∙ not-false _ c.if-not-is_semilinear.false)
+    (sym c.is_semilinear.ensures ∙ c.if-not-is_semilinear.false)

@@ -16,7 +16,7 @@ returns-then-not-any_apart c =
     let a = c.args in
     let g = lent a.coeffs.now a.masks.now a.marks.now a.n in
     two_apart a.w g a.i c.if-marks-i-eq-CONSUMED.false c.requires.1
-    (c.any_apart.ensures (not-true _ c.if-not-any_apart.true))
+    (c.any_apart.ensures c.if-not-any_apart.true)
 
 pub put_links-requires : goal.put_links-requires
 put_links-requires c = (omega arith, refl, refl)

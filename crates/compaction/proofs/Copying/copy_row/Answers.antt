@@ -16,7 +16,7 @@ returns-then-not-has_term c =
     copied_without c.args.w c.args.f.now c.args.self c.requires.at_le
     c.requires.next_le c.requires.atom c.rest_from-r.ensures
     c.rest_from.ensures c.atom_length-n.ensures.0
-    (sym c.has_term.ensures ∙ not-true _ c.if-not-has_term.true) _
+    (sym c.has_term.ensures ∙ c.if-not-has_term.true) _
 
 pub tree_span-requires : goal.tree_span-requires
 tree_span-requires c =
@@ -31,7 +31,7 @@ put_atom-requires c =
     room_with c.args.w c.args.f.now c.args.self c.requires.at_le
     c.requires.next_le c.requires.atom er c.rest_from.ensures
     c.atom_length-n.ensures.0
-    (sym c.has_term.ensures ∙ not-false _ c.if-not-has_term.false)
+    (sym c.has_term.ensures ∙ c.if-not-has_term.false)
     c.requires.room in
     (omega (arith, ap length et, room), rw et ready.0, c.front_word.ensures ∙ rw et ready.1)
 
@@ -46,5 +46,5 @@ returns c =
     copied_with at-start.args.w at-start.args.f.now at-start.args.self at-start.requires.at_le
     at-start.requires.next_le at-start.requires.atom at-atom-length.rest_from-r.ensures
     at-has-term.rest_from.ensures at-atom-length.atom_length-n.ensures.0
-    (sym at-has-term.has_term.ensures ∙ not-false _ at-if1.if-not-has_term.false) _ _
+    (sym at-has-term.has_term.ensures ∙ at-if1.if-not-has_term.false) _ _
     (at-put-atom.put_atom.ensures ∙ rw at-tree-span.tree_span.ensures)

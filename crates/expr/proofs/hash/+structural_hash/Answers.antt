@@ -7,35 +7,35 @@ use Rattle.expr.proofs.HashLaws.{hash_one, hash_two}
 use Rattle.expr.proofs.hash.+structural_hash.Goals as goal
 
 pub root_arity-children-requires : goal.root_arity-children-requires
-root_arity-children-requires t c = sized_big _ c.requires.1
+root_arity-children-requires t c = sized_big _ c.requires
 
 pub leaf_hash-requires : goal.leaf_hash-requires
-leaf_hash-requires t c = sized_big _ c.requires.1
+leaf_hash-requires t c = sized_big _ c.requires
 
 pub returns-then-children-eq0 : goal.returns-then-children-eq0
 returns-then-children-eq0 t c =
     rw
-    (decode_leaf c.args.t.now c.requires.1 c.root_arity-children.ensures
+    (decode_leaf c.args.t.now c.requires c.root_arity-children.ensures
     c.if-children-eq0.true) c.leaf_hash.ensures
 
 pub kind-k-requires : goal.kind-k-requires
-kind-k-requires t c = sized_big _ c.requires.1
+kind-k-requires t c = sized_big _ c.requires
 
 pub structural_hash-x-requires : goal.structural_hash-x-requires
 structural_hash-x-requires t c =
     let r =
-    child_body c.args.t.now c.requires.1 c.root_arity-children.ensures c.if-children-eq1.true
+    child_body c.args.t.now c.requires c.root_arity-children.ensures c.if-children-eq1.true
     c.body.ensures in
     (omega (arith, r.falls), r.ok)
 
 pub amount-requires : goal.amount-requires
 amount-requires t c =
-    sized_big _ c.requires.1
+    sized_big _ c.requires
 
 pub returns-then-children-eq1 : goal.returns-then-children-eq1
 returns-then-children-eq1 t c =
     rw
-    (decode_one c.args.t.now c.requires.1 c.root_arity-children.ensures
+    (decode_one c.args.t.now c.requires c.root_arity-children.ensures
     c.if-children-eq1.true c.body.ensures)
     (hash_one _ c.kind-k.ensures c.amount.ensures.0
     c.structural_hash-x.ensures c.tag_hash.ensures c.mix_hash.ensures)
@@ -43,21 +43,21 @@ returns-then-children-eq1 t c =
 pub structural_hash-x-requires-2 : goal.structural_hash-x-requires-2
 structural_hash-x-requires-2 t c =
     let r =
-    child_left c.args.t.now c.requires.1 c.root_arity-children.ensures c.if-children-eq0.false
+    child_left c.args.t.now c.requires c.root_arity-children.ensures c.if-children-eq0.false
     c.if-children-eq1.false c.left.ensures in
     (omega (arith, r.falls), r.ok)
 
 pub structural_hash-y-requires : goal.structural_hash-y-requires
 structural_hash-y-requires t c =
     let r =
-    child_right c.args.t.now c.requires.1 c.root_arity-children.ensures
+    child_right c.args.t.now c.requires c.root_arity-children.ensures
     c.if-children-eq0.false c.if-children-eq1.false c.right.ensures in
     (omega (arith, r.falls), r.ok)
 
 pub returns : goal.returns
 returns t c =
     rw
-    (decode_two c.args.t.now c.requires.1 c.root_arity-children.ensures
+    (decode_two c.args.t.now c.requires c.root_arity-children.ensures
     c.if-children-eq0.false c.if-children-eq1.false c.left.ensures
     c.right.ensures)
     (hash_two _ _ c.kind-k.ensures c.structural_hash-x-2.ensures

@@ -18,11 +18,11 @@ pub returns-then-not-has_term : goal.returns-then-not-has_term
 returns-then-not-has_term c =
     turn_none _ _ c.args.self c.requires.row.inside c.requires.row.terms_inside c.requires.row.atom
     c.rest_from-r.ensures c.rest_from-q.ensures c.atom_length.ensures.0
-    c.requires.room _ (sym c.has_term.ensures ∙ not-true _ c.if-not-has_term.true)
+    c.requires.room _ (sym c.has_term.ensures ∙ c.if-not-has_term.true)
 
 pub front_word-c-requires : goal.front_word-c-requires
 front_word-c-requires c =
-    term_big _ (has_term_is _ _ (sym c.has_term.ensures ∙ not-false _ c.if-not-has_term.false)).0
+    term_big _ (has_term_is _ _ (sym c.has_term.ensures ∙ c.if-not-has_term.false)).0
 
 pub tree_span-t-requires : goal.tree_span-t-requires
 tree_span-t-requires c =
@@ -73,7 +73,7 @@ returns-then-is_complex c =
     turn_flat _ _ c.args.self c.requires.row.inside c.requires.row.terms_inside c.requires.row.atom
     c.rest_from-r.ensures c.rest_from-q.ensures c.atom_length.ensures.0
     c.requires.room _
-    (sym c.has_term.ensures ∙ not-false _ c.if-not-has_term.false)
+    (sym c.has_term.ensures ∙ c.if-not-has_term.false)
     c.front_word-c.ensures c.tree_span-t.ensures c.requires.terms_ok_lem
     (sym c.is_complex.ensures ∙ c.if-is_complex.true) c.flatten_atom.ensures
 
@@ -82,6 +82,6 @@ returns c =
     turn_put _ _ c.args.self c.requires.row.inside c.requires.row.terms_inside c.requires.row.atom
     c.rest_from-r.ensures c.rest_from-q.ensures c.atom_length.ensures.0
     c.requires.room _
-    (sym c.has_term.ensures ∙ not-false _ c.if-not-has_term.false)
+    (sym c.has_term.ensures ∙ c.if-not-has_term.false)
     c.front_word-c.ensures c.tree_span-t.ensures c.requires.terms_ok_lem
     (sym c.is_complex.ensures ∙ c.if-is_complex.false) refl

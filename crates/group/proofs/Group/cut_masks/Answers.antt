@@ -1,4 +1,3 @@
-use mathlib.Core.Logic.{⊎_elim}
 use mathlib.Core.Path.{◌≡◌, refl, sym, ap, ◌∙◌}
 use Prim.Native.Nat.{ℕ, ◌+◌, ◌-◌, ◌≤◌}
 use native.Mathlib.Omega.{arith}
@@ -11,6 +10,7 @@ use Rattle.group.specs.Made.{Stepped}
 use Rattle.group.proofs.SteppedLaws.{loop_none, loop_turn, loop_done}
 use Rattle.group.proofs.CutLaws.{turn_same, turn_cut, cut_loop}
 use Rattle.group.proofs.Group.cut_masks.Goals as goal
+use Rattle.group.proofs.Group.cut_masks.Goals.{else-cut-m, then-cut-m}
 
 pub loop-i-init : goal.loop-i-init
 loop-i-init c = (omega arith, loop_none _ 0 c.requires.makes.room)
@@ -31,10 +31,7 @@ loop-i-preserved c =
     let cut = c.cut_of-cut.ensures in (
       omega arith,
       loop_turn (cut_at c.args.w t) 0 h.i (omega arith) h.invariant.1
-          (⊎_elim
-          (λ k. turn_cut t h.i cut k.0.taken k.4.ensures k.9 k.10 k.11)
-          (λ k. turn_same t h.i cut k.0.left h.invariant.1.room k.1 k.2 k.3)
-          c.if-cut-m.branch)
+          (elim c.if-cut-m.branch [ then-cut-m w ↦ turn_cut t h.i cut w.if-cut-m.true w.create_masked.ensures w.self-is w.made-is w.out-is | else-cut-m w ↦ turn_same t h.i cut w.if-cut-m.false h.invariant.1.room w.self-is w.made-is w.out-is ])
           (omega arith),
     )
 

@@ -1,5 +1,4 @@
 use mathlib.Core.Path.{◌≡◌, sym, ◌∙◌}
-use mathlib.Core.Logic.{⊎_elim}
 use Prim.Native.Nat.{ℕ, ◌+◌, ◌-◌, ◌≤◌, ◌<◌}
 use native.Mathlib.Omega.{arith}
 use Rattle.base.specs.Loop.{for_in}
@@ -7,6 +6,7 @@ use Rattle.base.proofs.LoopLaws.{for_none, for_turn, for_done}
 use Rattle.group.specs.Steps.{drop_at, drop_zero}
 use Rattle.group.proofs.DropLaws.{drop_at_same, drop_at_drop}
 use Rattle.group.proofs.Group.drop_zero.Goals as goal
+use Rattle.group.proofs.Group.drop_zero.Goals.{else-drops, then-drops}
 
 pub loop-i-init : goal.loop-i-init
 loop-i-init c = (omega arith, sym (for_none _ 0 0 _ (omega arith)))
@@ -18,10 +18,7 @@ loop-i-preserved c =
     let test = c.drops.ensures in (
       omega arith,
       for_turn (drop_at w) h.i _ h.invariant.1
-          (⊎_elim
-          (λ k. k.1 ∙ sym (drop_at_drop w h.i h.self (sym test ∙ k.0.taken)))
-          (λ k. k.1 ∙ sym (drop_at_same w h.i h.self (sym test ∙ k.0.left)))
-          c.if-drops.branch),
+          (elim c.if-drops.branch [ then-drops w ↦ w.self-is ∙ sym (drop_at_drop w h.i h.self (sym test ∙ w.if-drops.true)) | else-drops w ↦ w.self-is ∙ sym (drop_at_same w h.i h.self (sym test ∙ w.if-drops.false)) ]),
     )
 
 pub returns : goal.returns

@@ -1,6 +1,5 @@
 -- `Group::gather` meets its contract: the loop keeps the entries of the rows before i.
 use mathlib.Core.Path.{◌≡◌, sym, ◌∙◌}
-use mathlib.Core.Logic.{⊎_elim}
 use Prim.Native.Nat.{◌-◌, ◌≤◌}
 use native.Mathlib.Omega.{arith}
 use Rattle.base.specs.Loop.{for_in}
@@ -11,6 +10,7 @@ use Rattle.group.specs.Gathered.{gather_at, gathered}
 use Rattle.views.proofs.HasBasisLaws.{readable_fewer}
 use Rattle.group.proofs.GatherLaws.{gather_same, gather_push, few_entries}
 use Rattle.group.proofs.Group.gather.Goals as goal
+use Rattle.group.proofs.Group.gather.Goals.{else-has_basis, then-has_basis}
 
 pub loop-i-init : goal.loop-i-init
 loop-i-init c = (omega arith, c.empty-g.ensures ∙ sym (for_none _ 0 0 _ (omega arith)))
@@ -78,12 +78,9 @@ loop-i-preserved c =
     let test = c.has_basis.ensures in (
       omega arith,
       for_turn (gather_at a.f.now a.views.now a.hash a.b.now) h.i _ h.invariant.1
-          (⊎_elim
-          (λ k. k.3 ∙ sym
-          (gather_push a.f.now a.views.now a.hash a.b.now h.i h.g (sym test ∙ k.0.taken)))
-          (λ k. k.1 ∙ sym
-          (gather_same a.f.now a.views.now a.hash a.b.now h.i h.g (sym test ∙ k.0.left)))
-          c.if-has_basis.branch),
+          (elim c.if-has_basis.branch [ then-has_basis w ↦ w.g-is ∙ sym
+          (gather_push a.f.now a.views.now a.hash a.b.now h.i h.g (sym test ∙ w.if-has_basis.true)) | else-has_basis w ↦ w.g-is ∙ sym
+          (gather_same a.f.now a.views.now a.hash a.b.now h.i h.g (sym test ∙ w.if-has_basis.false)) ]),
     )
 
 pub returns : goal.returns

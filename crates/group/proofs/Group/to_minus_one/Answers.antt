@@ -1,5 +1,4 @@
 use mathlib.Core.Path.{◌≡◌, sym, ◌∙◌}
-use mathlib.Core.Logic.{⊎_elim}
 use Prim.Native.Nat.{◌-◌, ◌≤◌}
 use native.Mathlib.Omega.{arith}
 use Rattle.base.specs.Loop.{for_in}
@@ -7,6 +6,7 @@ use Rattle.base.proofs.LoopLaws.{for_none, for_turn, for_done}
 use Rattle.group.specs.Steps.{minus_one_at, to_minus_one}
 use Rattle.group.proofs.MinusOneLaws.{minus_one_at_same, minus_one_at_set}
 use Rattle.group.proofs.Group.to_minus_one.Goals as goal
+use Rattle.group.proofs.Group.to_minus_one.Goals.{else-becomes_minus_one, then-becomes_minus_one}
 
 pub loop-i-init : goal.loop-i-init
 loop-i-init c = (omega arith, sym (for_none _ 0 0 _ (omega arith)))
@@ -19,10 +19,7 @@ loop-i-preserved c =
     let test = c.becomes_minus_one.ensures in (
       omega arith,
       for_turn (minus_one_at w) h.i _ h.invariant.1
-          (⊎_elim
-          (λ k. k.1 ∙ sym (minus_one_at_set w h.i h.self (omega arith) minus (sym test ∙ k.0.taken)))
-          (λ k. k.1 ∙ sym (minus_one_at_same w h.i h.self (sym test ∙ k.0.left)))
-          c.if-becomes_minus_one.branch),
+          (elim c.if-becomes_minus_one.branch [ then-becomes_minus_one w ↦ w.self-is ∙ sym (minus_one_at_set w h.i h.self (omega arith) minus (sym test ∙ w.if-becomes_minus_one.true)) | else-becomes_minus_one w ↦ w.self-is ∙ sym (minus_one_at_same w h.i h.self (sym test ∙ w.if-becomes_minus_one.false)) ]),
     )
 
 pub returns : goal.returns

@@ -34,7 +34,7 @@ returns-then-not-is_atom c =
           summing_end _ _ _ _ _ c.loop-x.sums c.loop-x.x c.loop-x.invariant
           (ap is_atom (sym c.rest_from.ensures)
           ∙ sym c.is_atom.ensures
-          ∙ not-true _ c.if-not-is_atom.true)
+          ∙ c.if-not-is_atom.true)
           i (omega (arith, size));
     }
 
@@ -51,7 +51,7 @@ add_row-x-requires c =
         atom =
             ap is_atom (sym c.rest_from.ensures)
             ∙ sym c.is_atom.ensures
-            ∙ not-false _ c.if-not-is_atom.false;
+            ∙ c.if-not-is_atom.false;
         atoms_ok_lem = inv.atoms;
       };
       number_le = inv.number_le;
@@ -69,4 +69,4 @@ loop-x-preserved c =
     c.loop-x.sums c.loop-x.x c.loop-x.invariant _ c.add_row-x.result
     (ap is_atom (sym c.rest_from.ensures)
     ∙ sym c.is_atom.ensures
-    ∙ not-false _ c.if-not-is_atom.false) c.add_row-x.ensures
+    ∙ c.if-not-is_atom.false) c.add_row-x.ensures

@@ -11,33 +11,33 @@ use Prim.Native.Nat.{ℕ, ◌<◌}
 use Rattle.profile.proofs.facts.+has_shift.Goals as goal
 
 pub root_arity-children-requires : goal.root_arity-children-requires
-root_arity-children-requires t c = sized_big _ c.requires.1
+root_arity-children-requires t c = sized_big _ c.requires
 
 pub returns-then-children-eq0 : goal.returns-then-children-eq0
 returns-then-children-eq0 t c =
     rw
-    (decode_leaf c.args.t.now c.requires.1 c.root_arity-children.ensures c.if-children-eq0.true)
+    (decode_leaf c.args.t.now c.requires c.root_arity-children.ensures c.if-children-eq0.true)
     (shift_leaf _)
 
 pub has_shift-x-requires : goal.has_shift-x-requires
 has_shift-x-requires t c =
     let r =
-    child_body c.args.t.now c.requires.1 c.root_arity-children.ensures c.if-children-eq1.true
+    child_body c.args.t.now c.requires c.root_arity-children.ensures c.if-children-eq1.true
     c.body.ensures in
     (omega (arith, r.falls), r.ok)
 
 pub kind-requires : goal.kind-requires
 kind-requires t c =
-    sized_big _ c.requires.1
+    sized_big _ c.requires
 
 pub amount-requires : goal.amount-requires
 amount-requires t c =
-    sized_big _ c.requires.1
+    sized_big _ c.requires
 
 pub returns-then-children-eq1 : goal.returns-then-children-eq1
 returns-then-children-eq1 t c =
     rw
-    (decode_one c.args.t.now c.requires.1 c.root_arity-children.ensures c.if-children-eq1.true
+    (decode_one c.args.t.now c.requires c.root_arity-children.ensures c.if-children-eq1.true
     c.body.ensures)
     (c.node_shift.ensures
     ∙ ap₂ (λ (k a : ℕ). (eqb k 9 && not (eqb a 0)) || c.has_shift-x.result) c.kind.ensures
@@ -50,27 +50,27 @@ returns-then-children-eq1 t c =
 pub has_shift-requires : goal.has_shift-requires
 has_shift-requires t c =
     let r =
-    child_left c.args.t.now c.requires.1 c.root_arity-children.ensures c.if-children-eq0.false
+    child_left c.args.t.now c.requires c.root_arity-children.ensures c.if-children-eq0.false
     c.if-children-eq1.false c.left.ensures in
     (omega (arith, r.falls), r.ok)
 
 pub returns-then-has_shift : goal.returns-then-has_shift
 returns-then-has_shift t c =
     rw
-    (decode_two c.args.t.now c.requires.1 c.root_arity-children.ensures c.if-children-eq0.false
+    (decode_two c.args.t.now c.requires c.root_arity-children.ensures c.if-children-eq0.false
     c.if-children-eq1.false c.left.ensures refl)
     (shift_left _ _ _ c.has_shift.ensures c.if-has_shift.true)
 
 pub has_shift-requires-2 : goal.has_shift-requires-2
 has_shift-requires-2 t c =
     let r =
-    child_right c.args.t.now c.requires.1 c.root_arity-children.ensures
+    child_right c.args.t.now c.requires c.root_arity-children.ensures
     c.if-children-eq0.false c.if-children-eq1.false c.right.ensures in
     (omega (arith, r.falls), r.ok)
 
 pub returns : goal.returns
 returns t c =
     rw
-    (decode_two c.args.t.now c.requires.1 c.root_arity-children.ensures c.if-children-eq0.false
+    (decode_two c.args.t.now c.requires c.root_arity-children.ensures c.if-children-eq0.false
     c.if-children-eq1.false c.left.ensures c.right.ensures)
     (c.has_shift-2.ensures ∙ shift_right _ _ _ c.has_shift.ensures c.if-has_shift.false)

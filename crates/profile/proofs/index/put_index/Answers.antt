@@ -33,22 +33,22 @@ returns-then-not-is_atom c =
     indexing_all _ _ _ _ _ c.loop-r.invariant.0
     (ap is_atom (sym c.rest_from-r.ensures)
     ∙ sym c.is_atom.ensures
-    ∙ not-true _ c.if-not-is_atom.true)
+    ∙ c.if-not-is_atom.true)
     (omega (arith, trees_count f, c.requires.1, c.loop-r.invariant.1))
 
 pub tree_span-requires : goal.tree_span-requires
-tree_span-requires c = sym c.is_atom.ensures ∙ not-false _ c.if-not-is_atom.false
+tree_span-requires c = sym c.is_atom.ensures ∙ c.if-not-is_atom.false
 
 pub atom_words-words-requires : goal.atom_words-words-requires
 atom_words-words-requires c =
     ap sized c.tree_span.ensures
     ∙ here_sized _ _ _ _ _ c.loop-r.invariant.0 _ c.rest_from-r.ensures
-    (sym c.is_atom.ensures ∙ not-false _ c.if-not-is_atom.false)
+    (sym c.is_atom.ensures ∙ c.if-not-is_atom.false)
 
 pub overflow_mul-i : goal.overflow_mul-i
 overflow_mul-i c =
     let f = c.args.f.now in
-    let ea = sym c.is_atom.ensures ∙ not-false _ c.if-not-is_atom.false in
+    let ea = sym c.is_atom.ensures ∙ c.if-not-is_atom.false in
     let more = here_count _ _ _ _ _ c.loop-r.invariant.0 _ c.rest_from-r.ensures ea in
     omega (arith, more, trees_count f, c.requires.1)
 
@@ -59,31 +59,31 @@ slice_bounds-put_words-end c =
 pub put_words-requires : goal.put_words-requires
 put_words-requires c =
     let f = c.args.f.now in
-    let ea = sym c.is_atom.ensures ∙ not-false _ c.if-not-is_atom.false in
+    let ea = sym c.is_atom.ensures ∙ c.if-not-is_atom.false in
     let more = here_count _ _ _ _ _ c.loop-r.invariant.0 _ c.rest_from-r.ensures ea in
     let nine = ap length c.atom_words-words.ensures ∙ length_words _ _ in
     omega (arith, more, nine, trees_count f, c.requires.1, c.loop-r.invariant.1)
 
 pub atom_length-at-requires : goal.atom_length-at-requires
 atom_length-at-requires c =
-    sym c.is_atom.ensures ∙ not-false _ c.if-not-is_atom.false
+    sym c.is_atom.ensures ∙ c.if-not-is_atom.false
 
 pub overflow_add-at : goal.overflow_add-at
 overflow_add-at c =
-    let ea = sym c.is_atom.ensures ∙ not-false _ c.if-not-is_atom.false in
+    let ea = sym c.is_atom.ensures ∙ c.if-not-is_atom.false in
     let inside = here_inside _ _ _ _ _ c.loop-r.invariant.0 _ c.rest_from-r.ensures ea in
     omega (arith, inside, c.atom_length-at.ensures.0)
 
 pub overflow_add-i : goal.overflow_add-i
 overflow_add-i c =
     let f = c.args.f.now in
-    let ea = sym c.is_atom.ensures ∙ not-false _ c.if-not-is_atom.false in
+    let ea = sym c.is_atom.ensures ∙ c.if-not-is_atom.false in
     let more = here_count _ _ _ _ _ c.loop-r.invariant.0 _ c.rest_from-r.ensures ea in
     omega (arith, more, trees_count f, c.requires.1)
 
 pub loop-r-smaller : goal.loop-r-smaller
 loop-r-smaller c =
-    let ea = sym c.is_atom.ensures ∙ not-false _ c.if-not-is_atom.false in
+    let ea = sym c.is_atom.ensures ∙ c.if-not-is_atom.false in
     let inside = here_inside _ _ _ _ _ c.loop-r.invariant.0 _ c.rest_from-r.ensures ea in
     omega (arith, inside, c.atom_length-at.ensures.0, c.atom_length-at.ensures.1)
 
@@ -93,7 +93,7 @@ loop-r-preserved c =
     let at-start = at-loop in
     let f = at-start.args.f.now in
     let index = at-loop.loop-r.index in
-    let ea = sym c.is_atom.ensures ∙ not-false _ c.if-not-is_atom.false in
+    let ea = sym c.is_atom.ensures ∙ c.if-not-is_atom.false in
     let er = c.rest_from-r.ensures in
     let more = here_count _ _ _ _ _ at-loop.loop-r.invariant.0 _ er ea in
     let ew =

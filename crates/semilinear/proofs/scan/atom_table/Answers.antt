@@ -21,27 +21,27 @@ returns-then-not-is_atom c =
     passed_table _ _ _ _ c.loop-r.invariant
     (ap is_atom (sym c.rest_from-r.ensures)
     ∙ sym c.is_atom.ensures
-    ∙ not-true _ c.if-not-is_atom.true)
+    ∙ c.if-not-is_atom.true)
 
 pub overflow_add-count : goal.overflow_add-count
 overflow_add-count c = omega (arith, c.loop-r.invariant.bytes, c.loop-r.invariant.inside)
 
 pub front_number-records-requires : goal.front_number-records-requires
-front_number-records-requires c = (atom_room _ (sym c.is_atom.ensures ∙ not-false _ c.if-not-is_atom.false)).big
+front_number-records-requires c = (atom_room _ (sym c.is_atom.ensures ∙ c.if-not-is_atom.false)).big
 
 pub overflow_add-records : goal.overflow_add-records
 overflow_add-records c =
     omega (arith, c.loop-r.invariant.bytes, c.loop-r.invariant.inside, c.front_number-records.ensures.1)
 
 pub atom_length-at-requires : goal.atom_length-at-requires
-atom_length-at-requires c = (sym c.is_atom.ensures ∙ not-false _ c.if-not-is_atom.false)
+atom_length-at-requires c = (sym c.is_atom.ensures ∙ c.if-not-is_atom.false)
 
 pub overflow_add-at : goal.overflow_add-at
 overflow_add-at c =
     omega (
       arith,
       atom_inside c.args.f.now c.loop-r.at _ c.rest_from-r.ensures
-          (sym c.is_atom.ensures ∙ not-false _ c.if-not-is_atom.false)
+          (sym c.is_atom.ensures ∙ c.if-not-is_atom.false)
           c.loop-r.invariant.inside,
       c.atom_length-at.ensures.0,
     )
@@ -51,7 +51,7 @@ loop-r-smaller c =
     omega (
       arith,
       atom_inside c.args.f.now c.loop-r.at _ c.rest_from-r.ensures
-          (sym c.is_atom.ensures ∙ not-false _ c.if-not-is_atom.false)
+          (sym c.is_atom.ensures ∙ c.if-not-is_atom.false)
           c.loop-r.invariant.inside,
       c.atom_length-at.ensures.0,
       c.atom_length-at.ensures.1,
@@ -63,4 +63,4 @@ loop-r-preserved c =
       c.atom_length-at.ensures.0,
       c.front_number-records.ensures.0,
     ) (passed_atom c.args.f.now c.loop-r.at _ c.rest_from-r.ensures
-    (sym c.is_atom.ensures ∙ not-false _ c.if-not-is_atom.false) _ _ c.loop-r.invariant)
+    (sym c.is_atom.ensures ∙ c.if-not-is_atom.false) _ _ c.loop-r.invariant)

@@ -25,10 +25,10 @@ returns-then-not-is_atom c =
     ∙ fold_done _ _ _
     (ap is_atom (sym c.rest_from-r.ensures)
     ∙ sym c.is_atom.ensures
-    ∙ not-true _ c.if-not-is_atom.true))
+    ∙ c.if-not-is_atom.true))
 
 pub atom_ok-requires : goal.atom_ok-requires
-atom_ok-requires c = (sym c.is_atom.ensures ∙ not-false _ c.if-not-is_atom.false)
+atom_ok-requires c = (sym c.is_atom.ensures ∙ c.if-not-is_atom.false)
 
 pub returns-then-not-atom_ok : goal.returns-then-not-atom_ok
 returns-then-not-atom_ok c =
@@ -37,19 +37,19 @@ returns-then-not-atom_ok c =
     sym
     (at-loop.loop-r.invariant.1
     ∙ atoms_ok_stop at-start.args.f.now at-loop.loop-r.at _ c.rest_from-r.ensures
-    (sym c.is_atom.ensures ∙ not-false _ c.if-not-is_atom.false) _
-    (sym c.atom_ok.ensures ∙ not-true _ c.if-not-atom_ok.true))
+    (sym c.is_atom.ensures ∙ c.if-not-is_atom.false) _
+    (sym c.atom_ok.ensures ∙ c.if-not-atom_ok.true))
 
 pub atom_length-at-requires : goal.atom_length-at-requires
 atom_length-at-requires c =
-    (sym c.is_atom.ensures ∙ not-false _ c.if-not-is_atom.false)
+    (sym c.is_atom.ensures ∙ c.if-not-is_atom.false)
 
 pub overflow_add-at : goal.overflow_add-at
 overflow_add-at c =
     omega (
       arith,
       atom_inside c.args.f.now c.loop-r.at _ c.rest_from-r.ensures
-          (sym c.is_atom.ensures ∙ not-false _ c.if-not-is_atom.false) c.loop-r.invariant.0,
+          (sym c.is_atom.ensures ∙ c.if-not-is_atom.false) c.loop-r.invariant.0,
       c.atom_length-at.ensures.0,
     )
 
@@ -58,7 +58,7 @@ loop-r-smaller c =
     omega (
       arith,
       atom_inside c.args.f.now c.loop-r.at _ c.rest_from-r.ensures
-          (sym c.is_atom.ensures ∙ not-false _ c.if-not-is_atom.false) c.loop-r.invariant.0,
+          (sym c.is_atom.ensures ∙ c.if-not-is_atom.false) c.loop-r.invariant.0,
       c.atom_length-at.ensures.0,
       c.atom_length-at.ensures.1,
     )
@@ -67,9 +67,9 @@ pub loop-r-preserved : goal.loop-r-preserved
 loop-r-preserved c =
     rw c.atom_length-at.ensures.0 (
       atom_inside c.args.f.now c.loop-r.at _ c.rest_from-r.ensures
-          (sym c.is_atom.ensures ∙ not-false _ c.if-not-is_atom.false) c.loop-r.invariant.0,
+          (sym c.is_atom.ensures ∙ c.if-not-is_atom.false) c.loop-r.invariant.0,
       c.loop-r.invariant.1
           ∙ atoms_ok_next c.args.f.now c.loop-r.at _ c.rest_from-r.ensures
-          (sym c.is_atom.ensures ∙ not-false _ c.if-not-is_atom.false) _
-          (sym c.atom_ok.ensures ∙ not-false _ c.if-not-atom_ok.false),
+          (sym c.is_atom.ensures ∙ c.if-not-is_atom.false) _
+          (sym c.atom_ok.ensures ∙ c.if-not-atom_ok.false),
     )

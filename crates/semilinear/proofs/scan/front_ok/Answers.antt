@@ -7,13 +7,13 @@ use Rattle.semilinear.proofs.scan.front_ok.Goals as goal
 
 pub returns-then-not-atoms_ok : goal.returns-then-not-atoms_ok
 unfolding front_ok
-returns-then-not-atoms_ok c = simp (sym c.atoms_ok.ensures ∙ not-true _ c.if-not-atoms_ok.true)
+returns-then-not-atoms_ok c = simp (sym c.atoms_ok.ensures ∙ c.if-not-atoms_ok.true)
 
 pub returns-then-n-gt-ATOM_LIMIT_U64 : goal.returns-then-n-gt-ATOM_LIMIT_U64
 unfolding front_ok
 returns-then-n-gt-ATOM_LIMIT_U64 c =
     simp (
-      sym c.atoms_ok.ensures ∙ not-false _ c.if-not-atoms_ok.false,
+      sym c.atoms_ok.ensures ∙ c.if-not-atoms_ok.false,
       ← c.atom_table-found.ensures.number,
       lt-leb _ _ c.if-n-gt-ATOM_LIMIT_U64.true,
     )
@@ -22,7 +22,7 @@ pub returns-then-found-gt-TREE_RECORD_LIMIT_U64 : goal.returns-then-found-gt-TRE
 unfolding front_ok
 returns-then-found-gt-TREE_RECORD_LIMIT_U64 c =
     simp (
-      sym c.atoms_ok.ensures ∙ not-false _ c.if-not-atoms_ok.false,
+      sym c.atoms_ok.ensures ∙ c.if-not-atoms_ok.false,
       ← c.atom_table-found.ensures.number,
       le-leb _ _ c.if-n-gt-ATOM_LIMIT_U64.false,
       ← c.atom_table-found.ensures.trees,
@@ -33,7 +33,7 @@ pub returns : goal.returns
 unfolding front_ok
 returns c =
     simp (
-      sym c.atoms_ok.ensures ∙ not-false _ c.if-not-atoms_ok.false,
+      sym c.atoms_ok.ensures ∙ c.if-not-atoms_ok.false,
       ← c.atom_table-found.ensures.number,
       le-leb _ _ c.if-n-gt-ATOM_LIMIT_U64.false,
       ← c.atom_table-found.ensures.trees,

@@ -28,10 +28,10 @@ returns-then-not-is_term c =
     (omega (arith, length-drop at-loop.loop-at.at at-start.args.q.now))
     (ap is_term (sym c.rest_from-rest.ensures)
     ∙ sym c.is_term.ensures
-    ∙ not-true _ c.if-not-is_term.true))
+    ∙ c.if-not-is_term.true))
 
 pub term_ok-requires : goal.term_ok-requires
-term_ok-requires c = (sym c.is_term.ensures ∙ not-false _ c.if-not-is_term.false)
+term_ok-requires c = (sym c.is_term.ensures ∙ c.if-not-is_term.false)
 
 pub returns-then-not-term_ok : goal.returns-then-not-term_ok
 returns-then-not-term_ok c =
@@ -41,12 +41,12 @@ returns-then-not-term_ok c =
     (at-loop.loop-at.invariant.1
     ∙ terms_ok_stop at-start.args.w at-start.args.n at-loop.loop-at.next at-start.args.q.now
     at-loop.loop-at.at _ c.rest_from-rest.ensures
-    (sym c.is_term.ensures ∙ not-false _ c.if-not-is_term.false)
-    (sym c.term_ok.ensures ∙ not-true _ c.if-not-term_ok.true))
+    (sym c.is_term.ensures ∙ c.if-not-is_term.false)
+    (sym c.term_ok.ensures ∙ c.if-not-term_ok.true))
 
 pub front_number-next-requires : goal.front_number-next-requires
 front_number-next-requires c =
-    term_big _ (sym c.is_term.ensures ∙ not-false _ c.if-not-is_term.false)
+    term_big _ (sym c.is_term.ensures ∙ c.if-not-is_term.false)
 
 pub overflow_add-next : goal.overflow_add-next
 overflow_add-next c = omega (arith, c.front_number-next.ensures.1)
@@ -57,7 +57,7 @@ overflow_add-at c =
       arith,
       term_inside c.args.w c.args.n c.loop-at.next c.args.q.now
           c.loop-at.at _ c.rest_from-rest.ensures
-          (sym c.is_term.ensures ∙ not-false _ c.if-not-is_term.false) c.loop-at.invariant.0,
+          (sym c.is_term.ensures ∙ c.if-not-is_term.false) c.loop-at.invariant.0,
     )
 
 pub loop-at-smaller : goal.loop-at-smaller
@@ -66,7 +66,7 @@ loop-at-smaller c =
       arith,
       term_inside c.args.w c.args.n c.loop-at.next c.args.q.now
           c.loop-at.at _ c.rest_from-rest.ensures
-          (sym c.is_term.ensures ∙ not-false _ c.if-not-is_term.false) c.loop-at.invariant.0,
+          (sym c.is_term.ensures ∙ c.if-not-is_term.false) c.loop-at.invariant.0,
     )
 
 pub loop-at-preserved : goal.loop-at-preserved
@@ -75,13 +75,13 @@ loop-at-preserved c =
     let at-start = at-loop in (
       term_inside at-start.args.w at-start.args.n at-loop.loop-at.next at-start.args.q.now
           at-loop.loop-at.at _ c.rest_from-rest.ensures
-          (sym c.is_term.ensures ∙ not-false _ c.if-not-is_term.false) at-loop.loop-at.invariant.0,
+          (sym c.is_term.ensures ∙ c.if-not-is_term.false) at-loop.loop-at.invariant.0,
       rw c.front_number-next.ensures.0
           (at-loop.loop-at.invariant.1
           ∙ terms_ok_next at-start.args.w at-start.args.n at-loop.loop-at.next at-start.args.q.now
           at-loop.loop-at.at _ c.rest_from-rest.ensures
-          (sym c.is_term.ensures ∙ not-false _ c.if-not-is_term.false)
-          (sym c.term_ok.ensures ∙ not-false _ c.if-not-term_ok.false)),
+          (sym c.is_term.ensures ∙ c.if-not-is_term.false)
+          (sym c.term_ok.ensures ∙ c.if-not-term_ok.false)),
     )
 
 pub returns : goal.returns

@@ -23,12 +23,12 @@ returns-then-not-has_term c =
       passed = passed_without c.args.f.now c.args.self.at c.args.self.next
           c.args.self.number c.requires.row.inside c.requires.row.terms_inside c.requires.row.atom
           c.rest_from-r.ensures c.rest_from-q.ensures
-          c.atom_length.ensures.0 (sym c.has_term.ensures ∙ not-true _ c.if-not-has_term.true);
+          c.atom_length.ensures.0 (sym c.has_term.ensures ∙ c.if-not-has_term.true);
       sum = sum_without c.args.f.now c.args.self.at c.args.self.next
           c.args.self.number c.requires.row.inside c.requires.row.terms_inside c.requires.row.atom
           c.rest_from-r.ensures c.rest_from-q.ensures
           c.atom_length.ensures.0
-          (sym c.has_term.ensures ∙ not-true _ c.if-not-has_term.true) c.args.w _ c.requires.fits;
+          (sym c.has_term.ensures ∙ c.if-not-has_term.true) c.args.w _ c.requires.fits;
     }
 
 pub tree_span-requires : goal.tree_span-requires
@@ -45,7 +45,7 @@ value_at-atom-requires c =
 
 pub front_word-requires : goal.front_word-requires
 front_word-requires c =
-    term_big _ (has_term_is _ _ (sym c.has_term.ensures ∙ not-false _ c.if-not-has_term.false)).0
+    term_big _ (has_term_is _ _ (sym c.has_term.ensures ∙ c.if-not-has_term.false)).0
 
 pub returns : goal.returns
 returns c =
@@ -62,7 +62,7 @@ returns c =
           at-start.args.self.number at-start.requires.row.inside at-start.requires.row.terms_inside at-start.requires.row.atom
           at-rest-from.rest_from-r.ensures at-rest-from2.rest_from-q.ensures
           at-atom-length.atom_length.ensures.0
-          (sym at-has-term.has_term.ensures ∙ not-false _ at-if1.if-not-has_term.false);
+          (sym at-has-term.has_term.ensures ∙ at-if1.if-not-has_term.false);
       sum = sum_step at-start.args.w at-start.requires.row.width at-start.args.self.sum
           at-front-word.front_word.result at-value-at.value_at-atom.result c.mod_mul-term.ensures
           c.mod_add.ensures
@@ -72,7 +72,7 @@ returns c =
           at-start.args.self.number at-start.requires.row.inside at-start.requires.row.terms_inside at-start.requires.row.atom
           at-rest-from.rest_from-r.ensures at-rest-from2.rest_from-q.ensures
           at-atom-length.atom_length.ensures.0
-          (sym at-has-term.has_term.ensures ∙ not-false _ at-if1.if-not-has_term.false))
+          (sym at-has-term.has_term.ensures ∙ at-if1.if-not-has_term.false))
           (at-value-at.value_at-atom.ensures
           ∙ ap (λ (l : List ℕ). value at-start.args.w at-start.args.vars.now (decode l))
           (at-value-at.tree_span.ensures ∙ ap tree_span at-rest-from.rest_from-r.ensures));

@@ -1,6 +1,5 @@
 -- `recover_group` meets its contract: the entries looked or there is no partner; the end settles the group.
 use mathlib.Core.Path.{refl, sym, ◌∙◌}
-use mathlib.Core.Logic.{⊎_elim}
 use native.Mathlib.Omega.{arith}
 use Rattle.arith.proofs.WidthLaws.{bitmask_ones}
 use Rattle.record.specs.Decode.{decode}
@@ -12,7 +11,7 @@ use Rattle.structure_recovery.proofs.GroupRecoveredLaws.{recovered_none, recover
 use Rattle.structure_recovery.proofs.GroupRecoveredLaws.{group_settled}
 use borrow.Author.Rules.{rules}
 use Rattle.structure_recovery.proofs.recover.recover_group.Goals as goal
-use Rattle.structure_recovery.proofs.recover.recover_group.Goals.{Joined-any_partner}
+use Rattle.structure_recovery.proofs.recover.recover_group.Goals.{Joined-any_partner, else-any_partner, then-any_partner}
 
 -- the entries looked, or would have found nothing
 joined1 : (c : Joined-any_partner)
@@ -20,11 +19,9 @@ joined1 : (c : Joined-any_partner)
     c.gather-g.result c.args.made.now c.args.out.now c.if-any_partner.g c.if-any_partner.made
     c.if-any_partner.out
 joined1 c =
-    ⊎_elim (λ k. recovered_met k.8 k.9 k.10 k.3.ensures)
-    (λ k. recovered_met k.1 k.2 k.3
+    elim c.if-any_partner.branch [ then-any_partner w ↦ recovered_met w.g-is w.made-is w.out-is w.recover_entries-g.ensures | else-any_partner w ↦ recovered_met w.g-is w.made-is w.out-is
     (recovered_none _ (c.bitmask-full.ensures ∙ bitmask_ones c.args.w c.requires.makes.width)
-    (c.any_partner.ensures k.0.left) c.requires.makes.room))
-    c.if-any_partner.branch
+    (c.any_partner.ensures w.if-any_partner.false) c.requires.makes.room) ]
 
 pub any_partner-requires : goal.any_partner-requires
 any_partner-requires c = few_entries _ _ _ _ _ c.gather-g.ensures
@@ -36,31 +33,31 @@ recover_entries-g-requires c =
     record { makes = pre.makes; few = few_entries _ _ _ _ _ c.gather-g.ensures pre.few }
 
 pub bounds-made-3 : goal.bounds-made-3
-bounds-made-3 c = let p = joined1 c.before in omega (arith, p.room.words)
+bounds-made-3 c = let p = joined1 (goal.at.bounds-made-3 c).Joined-any_partner in omega (arith, p.room.words)
 
 pub shape_of-made-then-made-eq1 : goal.shape_of-made-then-made-eq1
-shape_of-made-then-made-eq1 c = (joined1 c.before.before).room.words ∙ sym c.pre.makes.room.words
+shape_of-made-then-made-eq1 c = (joined1 (goal.at.shape_of-made-then-made-eq1 c).Joined-any_partner).room.words ∙ sym c.requires.makes.room.words
 
 pub shape_of-out-then-made-eq1 : goal.shape_of-out-then-made-eq1
-shape_of-out-then-made-eq1 c = (joined1 c.before.before).long
+shape_of-out-then-made-eq1 c = (joined1 (goal.at.shape_of-out-then-made-eq1 c).Joined-any_partner).long
 
 pub returns-then-made-eq1 : goal.returns-then-made-eq1
 returns-then-made-eq1 c =
-    group_past _ (joined1 c.before.before) (is_full _ c.if-made-eq1.true) _ c.gather-g.ensures
+    group_past _ (joined1 (goal.at.returns-then-made-eq1 c).Joined-any_partner) (is_full _ c.if-made-eq1.true) _ c.gather-g.ensures
 
 pub settle-requires : goal.settle-requires
 settle-requires c = few_entries _ _ _ _ _ c.gather-g.ensures
-    c.pre.few
+    c.requires.few
 
 pub shape_of-made : goal.shape_of-made
-shape_of-made c = (joined1 c.before.before.before.before.before.before.before.before.before).room.words ∙ sym
-    c.pre.makes.room.words
+shape_of-made c = (joined1 (goal.at.shape_of-made c).Joined-any_partner).room.words ∙ sym
+    c.requires.makes.room.words
 
 pub shape_of-out : goal.shape_of-out
-shape_of-out c = (joined1 c.before.before.before.before.before.before.before.before.before).long
+shape_of-out c = (joined1 (goal.at.shape_of-out c).Joined-any_partner).long
 
 pub returns : goal.returns
 returns c =
-    group_settled _ (joined1 c.before.before.before.before.before.before.before.before.before) c.requires.makes.width refl
+    group_settled _ (joined1 (goal.at.returns c).Joined-any_partner) c.requires.makes.width refl
     c.settle.ensures
     c.gather-g.ensures

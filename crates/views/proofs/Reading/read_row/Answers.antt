@@ -24,7 +24,7 @@ returns-then-not-has_term c =
     let er = c.rest_from-r.ensures in
     let eq = c.rest_from-q.ensures in
     let en = c.atom_length.ensures.0 in
-    let no-term = sym c.has_term.ensures ∙ not-true _ c.if-not-has_term.true in
+    let no-term = sym c.has_term.ensures ∙ c.if-not-has_term.true in
     let none = row_coeff_none number (drop at f) (drop next f) (rw eq at no-term) in
     record {
       passed = passed_without f at next number c.requires.row.inside c.requires.row.terms_inside c.requires.row.atom er eq en
@@ -38,7 +38,7 @@ returns-then-not-has_term c =
 
 pub front_word-c-requires : goal.front_word-c-requires
 front_word-c-requires c =
-    term_big _ (has_term_is _ _ (sym c.has_term.ensures ∙ not-false _ c.if-not-has_term.false)).0
+    term_big _ (has_term_is _ _ (sym c.has_term.ensures ∙ c.if-not-has_term.false)).0
 
 pub view_of-v-requires : goal.view_of-v-requires
 view_of-v-requires c =
@@ -82,7 +82,7 @@ returns c =
     let er = at_length.rest_from-r.ensures in
     let eq = at_length.rest_from-q.ensures in
     let en = at_length.atom_length.ensures.0 in
-    let term = sym at-has-term.has_term.ensures ∙ not-false _ at-if1.if-not-has_term.false in
+    let term = sym at-has-term.has_term.ensures ∙ at-if1.if-not-has_term.false in
     let coeff = row_coeff number (drop at f) (drop next f)
     ∙ sym (at-front-word.front_word-c.ensures ∙ coeff_with f at next number at-start.requires.row.inside at-start.requires.row.terms_inside
     at-start.requires.row.atom er eq en term) in

@@ -53,7 +53,7 @@ returns-then-not-has_variable c =
     let two = c.requires.2 in
     let number_is = right_number_is spot two c.cut-cut.ensures.0 c.number_of-number.ensures in
     side_right spot two c.cut-cut.ensures.0 number_is _
-    (sym (left_variable spot two number_is c.has_variable.ensures) ∙ not-true _ c.if-not-has_variable.true)
+    (sym (left_variable spot two number_is c.has_variable.ensures) ∙ c.if-not-has_variable.true)
     (left_value spot two c.constant_value-value.ensures c.left.ensures)
 
 pub overflow_sub-last-2 : goal.overflow_sub-last-2
@@ -72,7 +72,7 @@ returns-then-has_variable c =
     let two = c.requires.2 in
     let number_is = right_number_is spot two c.cut-cut.ensures.0 c.number_of-number.ensures in
     SideOf.neither c.no_side.ensures
-    (sym (left_variable spot two number_is c.has_variable.ensures) ∙ not-false _ c.if-not-has_variable.false)
+    (sym (left_variable spot two number_is c.has_variable.ensures) ∙ c.if-not-has_variable.false)
     (sym (right_variable spot two c.has_variable-2.ensures) ∙ c.if-has_variable.true)
 
 pub constant_value-value-requires-2 : goal.constant_value-value-requires-2
@@ -87,6 +87,6 @@ returns c =
     let two = c.requires.2 in
     let number_is = right_number_is spot two c.cut-cut.ensures.0 c.number_of-number.ensures in
     side_left spot two c.cut-cut.ensures.0 number_is _
-    (sym (left_variable spot two number_is c.has_variable.ensures) ∙ not-false _ c.if-not-has_variable.false)
+    (sym (left_variable spot two number_is c.has_variable.ensures) ∙ c.if-not-has_variable.false)
     (sym (right_variable spot two c.has_variable-2.ensures) ∙ c.if-has_variable.false)
     (right_value spot two c.constant_value-value-2.ensures c.right.ensures)

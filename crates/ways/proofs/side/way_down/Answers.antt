@@ -25,7 +25,7 @@ bounds-marks-last c = omega (arith, spot_some c.requires.0)
 
 pub returns-then-not-has_variable : goal.returns-then-not-has_variable
 returns-then-not-has_variable c =
-    let closed = not-true _ c.if-not-has_variable.true in
+    let closed = c.if-not-has_variable.true in
     let none = spot_variable c.requires.0 c.has_variable.ensures closed in
     WayDown.none c.nowhere-then-not-has_variable.ensures (λ _ some. false_true (sym none ∙ some))
 
@@ -42,7 +42,7 @@ pub returns-then-kind-eq2 : goal.returns-then-kind-eq2
 returns-then-kind-eq2 c =
     WayDown.sum (kind_read c.span_of.ensures c.kind.ensures c.if-kind-eq2.true)
     (ne_eqb _ 0 c.if-coeff-eq0.false)
-    (spot_variable c.requires.0 c.has_variable.ensures (not-false _ c.if-not-has_variable.false))
+    (spot_variable c.requires.0 c.has_variable.ensures c.if-not-has_variable.false)
     (ap
     (λ (b : Side). record { found = true; more = true; turned = false; coeff = c.args.x.coeff; child = b })
     c.left_side-child.ensures.0)
@@ -51,7 +51,7 @@ returns-then-kind-eq2 c =
 pub way_on-requires : goal.way_on-requires
 way_on-requires c =
     let at = c.requires.0 in
-    let variable = spot_variable at c.has_variable.ensures (not-false _ c.if-not-has_variable.false) in
+    let variable = spot_variable at c.has_variable.ensures c.if-not-has_variable.false in
     let kinds = c.kind.ensures ∙ ap kind c.span_of.ensures in
     let some = ne_eqb _ 0 c.if-coeff-eq0.false in
     record {
@@ -66,7 +66,7 @@ way_on-requires c =
 pub returns : goal.returns
 returns c =
     let at = c.requires.0 in
-    let variable = spot_variable at c.has_variable.ensures (not-false _ c.if-not-has_variable.false) in
+    let variable = spot_variable at c.has_variable.ensures c.if-not-has_variable.false in
     let kinds = c.kind.ensures ∙ ap kind c.span_of.ensures in
     let some = ne_eqb _ 0 c.if-coeff-eq0.false in
     WayDown.other (ne_eqb _ 2 (λ e. c.if-kind-eq2.false (kinds ∙ e))) some variable c.way_on.ensures

@@ -15,7 +15,7 @@ returns-then-not-follows c =
     let s = at-start.args.run.now in
     let i = at-start.args.i in
     let new = at-over-par.over_par-new.ensures in
-    streak_new s i _ (λ _. sym c.follows.ensures ∙ not-true _ c.if-not-follows.true) refl
+    streak_new s i _ (λ _. sym c.follows.ensures ∙ c.if-not-follows.true) refl
     (back (same_fits (sym new) (over_fits s (λ j. (at-over-par.shared_slice_known-1.given j).fits) i)) ∙ new)
 
 pub overflow_add-total : goal.overflow_add-total
@@ -32,7 +32,7 @@ returns-then-days-lt-WEEK_DAYS c =
     let s = at-start.args.run.now in
     let i = at-start.args.i in
     let x = at-start.args.self in
-    streak_longer s i x at-start.requires.0 _ (sym c.follows.ensures ∙ not-false _ c.if-not-follows.false)
+    streak_longer s i x at-start.requires.0 _ (sym c.follows.ensures ∙ c.if-not-follows.false)
     c.if-days-lt-WEEK_DAYS.true refl
     (sum_back s i x at-start.requires.0 (λ j. (at-over-par.shared_slice_known-1.given j).fits)
     at-over-par.over_par-new.ensures)
@@ -52,7 +52,7 @@ returns c =
     let s = at-start.args.run.now in
     let i = at-start.args.i in
     let x = at-start.args.self in
-    streak_moved s i x at-start.requires.0 _ (sym c.follows.ensures ∙ not-false _ c.if-not-follows.false)
+    streak_moved s i x at-start.requires.0 _ (sym c.follows.ensures ∙ c.if-not-follows.false)
     c.if-days-lt-WEEK_DAYS.false refl
     (difference_back s i x at-start.requires.0 (λ j. (at-over-par.shared_slice_known-1.given j).fits)
     at-over-par.over_par-new.ensures c.if-days-lt-WEEK_DAYS.false c.over_par-old.ensures)

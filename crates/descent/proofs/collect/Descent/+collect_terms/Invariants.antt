@@ -19,3 +19,11 @@ use Rattle.descent.proofs.collect.Descent.+collect_terms.Given as goal
 
 abbrev pub decreases-collect_terms : goal.decreases-collect_terms
 decreases-collect_terms l = size (span_of l.x.1.0.now l.x.0.start l.x.0.end)
+
+abbrev pub invariant-loop-way : goal.invariant-loop-way
+invariant-loop-way l =
+    Going l.nots l.w l.file l.initial.here l.initial.spots l.initial.done l.seen l.here l.spots l.done
+
+abbrev pub decreases-loop-way : goal.decreases-loop-way
+decreases-loop-way l =
+    size (span_of l.file l.here.start l.here.end)

@@ -40,7 +40,7 @@ kind-requires c =
 
 pub returns-then-kind-ne7 : goal.returns-then-kind-ne7
 returns-then-kind-ne7 c =
-    let found = not-false _ c.if-not-side.false in
+    let found = (not-false _ c.if-not-side.false) in
     let of = c.side_of-side.ensures in
     let kinds = c.kind.ensures ∙ ap kind c.span_of.ensures in
     collects_as
@@ -57,7 +57,7 @@ overflow_sub-end c =
 
 pub returns : goal.returns
 returns c =
-    let found = not-false _ c.if-not-side.false in
+    let found = (not-false _ c.if-not-side.false) in
     let of = c.side_of-side.ensures in
     let span = (side_at _ _ _ _ _ _ of found).span in
     let seven = kind_read c.span_of.ensures c.kind.ensures c.if-kind-ne7.false in

@@ -33,7 +33,7 @@ constant_value-requires c =
 
 pub returns-then-not-has_variable : goal.returns-then-not-has_variable
 returns-then-not-has_variable c =
-    let closed = not-true _ c.if-not-has_variable.true in
+    let closed = c.if-not-has_variable.true in
     let none = spot_variable c.requires.0 c.has_variable.ensures closed in
     let w = c.args.w in
     let value_is =
@@ -50,12 +50,12 @@ collect_whole-requires c =
       spot = at;
       ready = ready_less 1 (omega (arith, spot_some at, spot_marks at)) c.requires.1;
       some = ne_eqb _ 0 c.if-coeff-eq0.false;
-      variable = spot_variable at c.has_variable.ensures (not-false _ c.if-not-has_variable.false);
+      variable = spot_variable at c.has_variable.ensures c.if-not-has_variable.false;
     }
 
 pub returns : goal.returns
 returns c =
     let at = c.requires.0 in
-    let some = spot_variable at c.has_variable.ensures (not-false _ c.if-not-has_variable.false) in
+    let some = spot_variable at c.has_variable.ensures c.if-not-has_variable.false in
     collects_more _ (omega (arith, spot_some at, spot_marks at))
     (collects_as (end_whole _ _ _ (ne_eqb _ 0 c.if-coeff-eq0.false) some) c.collect_whole.ensures)

@@ -6,7 +6,7 @@ use Rattle.descent.proofs.collect.Descent.turn.Goals as goal
 
 
 pub returns-then-not-turned : goal.returns-then-not-turned
-returns-then-not-turned c = turn_off _ _ _ _ (not-true _ c.if-not-turned.true)
+returns-then-not-turned c = turn_off _ _ _ _ c.if-not-turned.true
 
 pub returns : goal.returns
-returns c = turn_on _ _ _ _ (not-false _ c.if-not-turned.false) c.mod_add.ensures
+returns c = turn_on _ _ _ _ c.if-not-turned.false c.mod_add.ensures

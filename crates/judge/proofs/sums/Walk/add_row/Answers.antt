@@ -23,7 +23,7 @@ atom_length-requires c = rw c.rest_from-r.ensures
 pub returns-then-not-has_term : goal.returns-then-not-has_term
 returns-then-not-has_term c =
     let start = c in
-    let none = sym c.has_term.ensures ∙ not-true _ c.if-not-has_term.true in
+    let none = sym c.has_term.ensures ∙ c.if-not-has_term.true in
     record {
       passed = passed_without start.args.f.now start.args.self.at start.args.self.next
           start.args.self.number start.requires.row.inside start.requires.row.terms_inside start.requires.row.atom
@@ -48,11 +48,11 @@ pub front_word-requires : goal.front_word-requires
 front_word-requires c =
     term_big _ (has_term_is _ _
     (sym c.has_term.ensures
-    ∙ not-false _ c.if-not-has_term.false)).0
+    ∙ c.if-not-has_term.false)).0
 
 pub returns : goal.returns
 returns c =
-    let some = sym c.has_term.ensures ∙ not-false _ c.if-not-has_term.false in
+    let some = sym c.has_term.ensures ∙ c.if-not-has_term.false in
     let tree-span = c in
     let rows_at = c in
     let front-word = c in
