@@ -6,7 +6,7 @@ with 1.
 A divisor must be one that can be read here: a number in any spelling, a const, or +, -, *, /, %, <<, >>,
 &, ^ and | of such. Another one could be 16 when the code runs, so it is a fault too. Divisions one after
 the other in one expression count as one by the product (n / 4 / 4). Left out: comments, texts, `ghost use`
-and contracts, which are not run.
+and contracts with their ghost members, which are not run.
 """
 
 import glob
@@ -55,8 +55,8 @@ def without_comments(text: str) -> str:
 
 
 def without_contracts(text: str) -> str:
-    """The text without `requires { … }` and `ensures { … }`."""
-    while found := re.search(r"\b(?:requires|ensures)\s*\{", text):
+    """The text without clauses and ghost members, named ones too: `ensures { … }`, `requires small { … }`, `ghost n: { … }`."""
+    while found := re.search(r"\b(?:requires|ensures)\b\*?(?:\s+\w+)?\s*\{|\bghost\s+\w+\s*:\s*\{", text):
         deep, end = 1, found.end()
         while deep and end < len(text):
             deep += {"{": 1, "}": -1}.get(text[end], 0)

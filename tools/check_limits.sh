@@ -9,14 +9,15 @@ set -euo pipefail
 cd -- "$(dirname -- "${BASH_SOURCE[0]}")/.." > /dev/null
 export LC_ALL=C.UTF-8
 
-files=$(find crates -path '*/src/*.rt' -o -path '*/specs/*.antt' | grep -vE '^crates/(vectors|stored|claims)/' \
+files=$(find crates -path 'crates/*/out' -prune -o -path '*/src/*.rt' -print -o -path '*/specs/*.antt' -print |
+    grep -vE '^crates/(vectors|stored|claims)/' \
     | grep -vE '^crates/base/(specs/Limits\.antt|src/limits\.rt)$' | sort)
 # shellcheck disable=SC2086
 awk '
 function other(file, line, n) {
     # the values of a byte, and the digits of a word in text
     if (n == 256 && file ~ /^crates\/record\//) return 1
-    if (n == 256 && file == "crates/semilinear/src/items.rt" && line ~ /r ≡ x/) return 1
+    if (n == 256 && file == "crates/semilinear/src/items.rt" && line ~ /result ≡ x/) return 1
     if (n == 16 && file == "crates/par/src/main.rt" && line ~ /print_hex/) return 1
     # literals and variables of worked examples
     if ((n == 16 || n == 256) && file == "crates/judge_laws/specs/Examples.antt") return 1
@@ -25,7 +26,7 @@ function other(file, line, n) {
     # pairs of the entries of a group
     if (n == 65536 && line ~ /Step(Ready|ped) w 65536/) return 1
     # the records of a run, in its place
-    if (n == 4096 && line ~ /RUN_RECORDS: usize = 4096|^runRecords = 4096/) return 1
+    if (n == 4096 && line ~ /RUN_RECORDS: usize = 4096|^run_records = 4096/) return 1
     # how far apart the words of a loop may stand; the folds of links
     if (n == 16 && line ~ /step ≤ 16/) return 1
     if (n == 1024 && line ~ /FOLDS: usize = 1024|^folds = 1024/) return 1

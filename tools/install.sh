@@ -2,8 +2,8 @@
 # Installs the library for C below PREFIX: the header, the archive, a shared object made of it, and what
 # pkg-config and CMake need to find them.
 #   tools/install.sh PREFIX
-# The archive is target/staticlib/libhogzelt.a, which rt proves and builds where it is missing, or the one
-# that HOGZELT_LIB names. Files that are there are replaced. Needs cc.
+# The archive is target/staticlib/libhogzelt.a, which tools/build.sh proves and builds where it is missing, or
+# the one that HOGZELT_LIB names. Files that are there are replaced. Needs cc.
 # Status: 0 done, 1 something could not be built or written, 2 wrong usage or a tool that is missing.
 set -euo pipefail
 
@@ -21,8 +21,8 @@ command -v cc > /dev/null 2>&1 || stop "cc, a C compiler, is missing"
 archive=${HOGZELT_LIB:-$top/target/staticlib/libhogzelt.a}
 if [ -z "${HOGZELT_LIB:-}" ] && [ ! -f "$archive" ]; then
     command -v rt > /dev/null 2>&1 || stop "rt is missing, and so is the archive; HOGZELT_LIB can name one"
-    printf 'install: rt staticlib hogzelt proves and builds the archive, in about ten minutes\n' >&2
-    (cd "$top" && rt staticlib hogzelt) >&2
+    printf 'install: tools/build.sh proves and builds the archive, in an hour or so\n' >&2
+    "$top/tools/build.sh" >&2
 fi
 [ -f "$archive" ] || stop "there is no archive $archive"
 

@@ -15,7 +15,7 @@ fn main() {
     let is_named_so = archive.file_name() == Some("libhogzelt.a".as_ref());
     assert!(
         is_named_so && archive.is_file(),
-        "{} is no archive libhogzelt.a; 'rt staticlib hogzelt' builds it, or HOGZELT_LIB names one",
+        "{} is no archive libhogzelt.a; tools/build.sh builds it, or HOGZELT_LIB names one",
         archive.display()
     );
     let folder = archive.parent().expect("a file stands in a folder");

@@ -13,8 +13,8 @@
 #   run.sh both BEFORE AFTER [SECONDS]
 #                            time two archives of the library beside each other on the same inputs, by
 #                            turns in one process, each linked at four places; 240 seconds, or SECONDS
-# compare, stack and bench build target/staticlib/libhogzelt.a with rt. Where HOGZELT_LIB names an
-# archive libhogzelt.a, that one is taken and nothing is built.
+# compare, stack and bench build target/staticlib/libhogzelt.a by tools/build.sh. Where HOGZELT_LIB names
+# an archive libhogzelt.a, that one is taken and nothing is built.
 # Status: 0 done, 1 a difference or a failure, 2 something that the harness needs is missing.
 set -u
 
@@ -59,7 +59,7 @@ compare | stack | bench)
     if [ -z "${HOGZELT_LIB:-}" ]; then
         BENCH_BUILT=1
         command -v rt >/dev/null 2>&1 || stop "rt is missing, and HOGZELT_LIB is not set"
-        (cd "$root" && rt staticlib hogzelt) || exit 1
+        "$root/tools/build.sh" || exit 1
         HOGZELT_LIB=$root/target/staticlib/libhogzelt.a
     fi
     [ -f "$HOGZELT_LIB" ] || stop "there is no archive $HOGZELT_LIB"

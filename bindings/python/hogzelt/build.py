@@ -1,5 +1,5 @@
-"""The shared object, made from the static library of a checkout: `rt staticlib hogzelt` proves and
-writes the archive, `cc` makes a shared object of it."""
+"""The shared object, made from the static library of a checkout: `tools/build.sh` proves and writes
+the archive, `cc` makes a shared object of it."""
 
 from __future__ import annotations
 
@@ -8,6 +8,7 @@ import sys
 
 ARCHIVE = os.path.join("target", "staticlib", "libhogzelt.a")
 SHARED = os.path.join("target", "shared", "libhogzelt.so")
+BUILD = os.path.join("tools", "build.sh")
 
 
 class NoLibrary(Exception):
@@ -55,13 +56,13 @@ def prove_archive(top: str) -> None:
     if not shutil.which("rt"):
         raise NoLibrary(f"{ARCHIVE} is missing, and so is rt, the Rattle toolchain, which builds"
                         " it; HOGZELT_SO can name a shared object that is elsewhere")
-    say(f"{ARCHIVE} is missing; 'rt staticlib hogzelt' proves and builds it, which takes about ten"
-        " minutes the first time and prints a line for each crate:")
-    status = subprocess.run(["rt", "staticlib", "hogzelt"], cwd=top, stdout=sys.stderr).returncode
+    say(f"{ARCHIVE} is missing; {BUILD} proves and builds it, which takes an hour or so the first"
+        " time and prints what is proved of each crate:")
+    status = subprocess.run([os.path.join(top, BUILD)], cwd=top, stdout=sys.stderr).returncode
     if status:
-        raise NoLibrary(f"'rt staticlib hogzelt' ended with status {status}")
+        raise NoLibrary(f"{BUILD} ended with status {status}")
     if not os.path.isfile(os.path.join(top, ARCHIVE)):
-        raise NoLibrary(f"'rt staticlib hogzelt' made no {ARCHIVE}")
+        raise NoLibrary(f"{BUILD} made no {ARCHIVE}")
 
 
 def link(archive: str, shared: str) -> None:
@@ -97,7 +98,7 @@ def note_newer_sources(top: str, archive: str) -> None:
         for entry in os.scandir(source):
             if entry.name.endswith(".rt") and entry.stat().st_mtime_ns > built:
                 say(f"crates/{crate}/src/{entry.name} is newer than {ARCHIVE};"
-                    " 'rt staticlib hogzelt' builds it again")
+                    f" {BUILD} builds it again")
                 return
 
 

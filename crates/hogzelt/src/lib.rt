@@ -1,4 +1,4 @@
-// What users link: every entry point, exported for C. include/hogzelt.h declares them.
+// Every entry point. The crate hogzelt_c exports them for C, each with the same clauses.
 #![tactic(auto)]
 
 ghost use Rattle.std.specs.Prelude.{◌≡◌, [], ◌∷◌, length, replicate};
@@ -20,63 +20,42 @@ ghost use Rattle.judge_laws.specs.Judge.{judge_of};
 ghost use Rattle.judge_laws.specs.Judged.{IsVerdict};
 
 // The value of an expression under an assignment; returns the refusal, 0 where it is accepted.
-#[unsafe(no_mangle)]
-pub extern "C" fn hogzelt_expr_value(expr: &[u8], vars: &[u64], value: &mut u64) -> u64
+pub fn hogzelt_expr_value(expr: &[u8], vars: &[u64], value: &mut u64) -> u64
     ensures { IsExprValue expr.now vars.now result value.new }
 {
     expr::expr_value(expr, vars, value)
 }
 
 // The bits of a mask that count beside a coefficient, at w bits.
-#[unsafe(no_mangle)]
-pub extern "C" fn hogzelt_reduce_mask(coeff: u64, mask: u64, w: u32) -> u64
+pub fn hogzelt_reduce_mask(coeff: u64, mask: u64, w: u32) -> u64
     ensures { result ≡ reduce_mask coeff mask w }
 {
     arith::reduce_mask(coeff, mask, w)
 }
 
 // Whether one mask may stand for another beside a coefficient, at w bits.
-#[unsafe(no_mangle)]
-pub extern "C" fn hogzelt_can_change_mask_to(
-    coeff: u64,
-    old_mask: u64,
-    new_mask: u64,
-    w: u32,
-) -> bool
+pub fn hogzelt_can_change_mask_to(coeff: u64, old_mask: u64, new_mask: u64, w: u32) -> bool
     ensures { result ≡ can_change_mask_to coeff old_mask new_mask w }
 {
     arith::can_change_mask_to(coeff, old_mask, new_mask, w)
 }
 
 // Whether one coefficient may stand for another before a masked number, at w bits.
-#[unsafe(no_mangle)]
-pub extern "C" fn hogzelt_can_change_coefficient_to(
-    old_coeff: u64,
-    new_coeff: u64,
-    mask: u64,
-    w: u32,
-) -> bool
+pub fn hogzelt_can_change_coefficient_to(old_coeff: u64, new_coeff: u64, mask: u64, w: u32) -> bool
     ensures { result ≡ can_change_coefficient_to old_coeff new_coeff mask w }
 {
     arith::can_change_coefficient_to(old_coeff, new_coeff, mask, w)
 }
 
 // The value of a semilinear form under an assignment; returns the refusal, 0 where it is accepted.
-#[unsafe(no_mangle)]
-pub extern "C" fn hogzelt_semilinear_value(s: &[u8], vars: &[u64], value: &mut u64) -> u64
+pub fn hogzelt_semilinear_value(s: &[u8], vars: &[u64], value: &mut u64) -> u64
     ensures { IsSemilinearValue s.now vars.now result value.new }
 {
     semilinear_value::semilinear_value(s, vars, value)
 }
 
 // The form s without the atoms that have no term; returns the refusal, 0 where it is accepted.
-#[unsafe(no_mangle)]
-pub extern "C" fn hogzelt_compact_atom_table(
-    s: &[u8],
-    out: &mut [u8],
-    used: &mut u64,
-    terms: &mut u64,
-) -> u64
+pub fn hogzelt_compact_atom_table(s: &[u8], out: &mut [u8], used: &mut u64, terms: &mut u64) -> u64
     ensures { Gives (compact_atom_table s.now (length out.old))
         (length out.old) result (used.new ∷ terms.new ∷ []) out.new }
 {
@@ -87,8 +66,7 @@ pub extern "C" fn hogzelt_compact_atom_table(
 }
 
 // The semilinear form of an expression; returns the refusal, 0 where it is accepted.
-#[unsafe(no_mangle)]
-pub extern "C" fn hogzelt_normalize_to_semilinear(
+pub fn hogzelt_normalize_to_semilinear(
     expr: &[u8],
     out: &mut [u8],
     used: &mut u64,
@@ -105,8 +83,7 @@ pub extern "C" fn hogzelt_normalize_to_semilinear(
 
 // The semilinear form of an expression by the rules that the caller names, 1 or 2; returns the
 // refusal, 0 where it is accepted.
-#[unsafe(no_mangle)]
-pub extern "C" fn hogzelt_normalize_by_rules(
+pub fn hogzelt_normalize_by_rules(
     rules: u64,
     expr: &[u8],
     out: &mut [u8],
@@ -123,13 +100,7 @@ pub extern "C" fn hogzelt_normalize_by_rules(
 }
 
 // The form s with its terms refined; returns the refusal, 0 where it is accepted.
-#[unsafe(no_mangle)]
-pub extern "C" fn hogzelt_refine_terms(
-    s: &[u8],
-    out: &mut [u8],
-    used: &mut u64,
-    terms: &mut u64,
-) -> u64
+pub fn hogzelt_refine_terms(s: &[u8], out: &mut [u8], used: &mut u64, terms: &mut u64) -> u64
     ensures { Gives (refine_terms s.now (length out.old))
         (length out.old) result (used.new ∷ terms.new ∷ []) out.new }
 {
@@ -140,13 +111,7 @@ pub extern "C" fn hogzelt_refine_terms(
 }
 
 // The form s with its structure recovered; returns the refusal, 0 where it is accepted.
-#[unsafe(no_mangle)]
-pub extern "C" fn hogzelt_recover_structure(
-    s: &[u8],
-    out: &mut [u8],
-    used: &mut u64,
-    terms: &mut u64,
-) -> u64
+pub fn hogzelt_recover_structure(s: &[u8], out: &mut [u8], used: &mut u64, terms: &mut u64) -> u64
     ensures { Gives (recover_structure s.now (length out.old))
         (length out.old) result (used.new ∷ terms.new ∷ []) out.new }
 {
@@ -157,13 +122,7 @@ pub extern "C" fn hogzelt_recover_structure(
 }
 
 // The form s with its terms coalesced; returns the refusal, 0 where it is accepted.
-#[unsafe(no_mangle)]
-pub extern "C" fn hogzelt_coalesce_terms(
-    s: &[u8],
-    out: &mut [u8],
-    used: &mut u64,
-    terms: &mut u64,
-) -> u64
+pub fn hogzelt_coalesce_terms(s: &[u8], out: &mut [u8], used: &mut u64, terms: &mut u64) -> u64
     ensures { Gives (coalesce_terms s.now (length out.old))
         (length out.old) result (used.new ∷ terms.new ∷ []) out.new }
 {
@@ -185,8 +144,7 @@ fn flag_number(flag: bool) -> u64
 
 // The form s with its complex atoms flattened, and whether there was one; returns the refusal, 0
 // where it is accepted.
-#[unsafe(no_mangle)]
-pub extern "C" fn hogzelt_flatten_complex_atoms(
+pub fn hogzelt_flatten_complex_atoms(
     s: &[u8],
     out: &mut [u8],
     used: &mut u64,
@@ -205,8 +163,7 @@ pub extern "C" fn hogzelt_flatten_complex_atoms(
 }
 
 // The classes of the places of s; returns the refusal, 0 where it is accepted.
-#[unsafe(no_mangle)]
-pub extern "C" fn hogzelt_compute_partitions(s: &[u8], out: &mut [u64], classes: &mut u64) -> u64
+pub fn hogzelt_compute_partitions(s: &[u8], out: &mut [u64], classes: &mut u64) -> u64
     ensures { Gives (compute_partitions s.now (length out.old))
         (length out.old) result (classes.new ∷ []) out.new }
 {
@@ -217,8 +174,7 @@ pub extern "C" fn hogzelt_compute_partitions(s: &[u8], out: &mut [u64], classes:
 
 // The form in use after a list of passes, run from an expression; two words of calls for each: the
 // number of the pass and the length of its result slice. Returns the refusal, 0 where it is accepted.
-#[unsafe(no_mangle)]
-pub extern "C" fn hogzelt_run_passes(
+pub fn hogzelt_run_passes(
     expr: &[u8],
     calls: &[u64],
     sheet: &mut [u8],
@@ -240,13 +196,7 @@ pub extern "C" fn hogzelt_run_passes(
 
 // The best seven days of a run: 1 in found where there are such, their total and the first day.
 // Returns the refusal, 0 where the run is accepted.
-#[unsafe(no_mangle)]
-pub extern "C" fn hogzelt_best_week(
-    run: &[u8],
-    found: &mut u64,
-    total: &mut i64,
-    day: &mut u64,
-) -> u64
+pub fn hogzelt_best_week(run: &[u8], found: &mut u64, total: &mut i64, day: &mut u64) -> u64
     ensures { IsBestWeek run.now result found.new total.new day.new }
 {
     let best = best_week::best_week(run);
@@ -260,8 +210,7 @@ pub extern "C" fn hogzelt_best_week(
 // Whether two expressions have the same value under every assignment: 1 in equal where they have;
 // where they have not, the place and the index of the first assignment that tells them apart.
 // Returns the refusal, 0 where they are judged.
-#[unsafe(no_mangle)]
-pub extern "C" fn hogzelt_judge(
+pub fn hogzelt_judge(
     left: &[u8],
     right: &[u8],
     equal: &mut u64,

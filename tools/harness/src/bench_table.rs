@@ -129,7 +129,7 @@ pub fn text(rows: &[Row]) -> String {
 fn foot() -> String {
     let said = |name: &str| env::var(name).unwrap_or_else(|_| "unknown".to_string());
     let library = match env::var("BENCH_BUILT").as_deref() {
-        Ok("1") => "built by `rt staticlib hogzelt` for this run",
+        Ok("1") => "built by `tools/build.sh` for this run",
         _ => "an archive that HOGZELT_LIB named",
     };
     let machine = format!(

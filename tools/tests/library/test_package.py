@@ -140,6 +140,9 @@ class Building(Calls):
         super().setUp()
         self.top = self.path("top")
         os.makedirs(os.path.join(self.top, "crates", "one", "src"))
+        os.makedirs(os.path.join(self.top, "crates", "hogzelt_c"))
+        os.makedirs(os.path.join(self.top, "tools"))
+        shutil.copy(os.path.join(ROOT, build.BUILD), os.path.join(self.top, build.BUILD))
         self.shared = os.path.join(self.top, build.SHARED)
         self.archive = os.path.join(ROOT, build.ARCHIVE)
         if not os.path.isfile(self.archive):
@@ -162,11 +165,11 @@ class Building(Calls):
         return done.returncode, done.stdout.decode().strip(), done.stderr.decode()
 
     def test_made_and_made_again(self):
-        self.with_rt(f'[ "$*" = "staticlib hogzelt" ] && mkdir -p target/staticlib && cp'
-                     f' "{self.archive}" target/staticlib/; echo one proved')
+        self.with_rt('[ "$*" = lib ] && [ "${PWD##*/}" = hogzelt_c ] && mkdir -p out && cp'
+                     f' "{self.archive}" out/libhogzelt_c.a; echo one proved')
         status, shared, said = self.made()
         self.assertEqual((status, shared), (0, self.shared))
-        self.assertIn("takes about ten minutes the first time", said)
+        self.assertIn("takes an hour or so the first time", said)
         self.assertIn("one proved\n", said)
         first = os.stat(shared).st_mtime_ns
         self.assertEqual(self.made(), (0, shared, ""))
@@ -182,9 +185,11 @@ class Building(Calls):
 
     def test_failures(self):
         self.with_rt("exit 1")
-        self.assertEqual(self.made()[:2], (2, "'rt staticlib hogzelt' ended with status 1"))
+        self.assertEqual(self.made()[:2], (2, "tools/build.sh ended with status 1"))
         self.with_rt("exit 0")
-        self.assertIn("made no target/staticlib", self.made()[1])
+        status, last, said = self.made()
+        self.assertEqual((status, last), (2, "tools/build.sh ended with status 1"))
+        self.assertIn("rt made no crates/hogzelt_c/out/libhogzelt_c.a", said)
         os.environ["PATH"] = self.path("nowhere")
         self.assertIn("and so is rt, the Rattle toolchain", self.made()[1])
         os.makedirs(os.path.join(self.top, "target", "staticlib"))

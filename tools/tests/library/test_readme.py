@@ -32,10 +32,10 @@ class Readme(Calls):
 
     def test_walkthrough(self):
         need(self, "cc")
-        for name in ("bindings", "examples", "include", "target", "tools"):
+        for name in ("bindings", "crates", "examples", "include", "target", "tools"):
             os.symlink(os.path.join(ROOT, name), self.path(name))
         os.mkdir(self.path("bin"))  # the library is built: rt has nothing to do
-        os.chmod(self.path("bin/rt", b'#!/bin/sh\n[ "$*" = "staticlib hogzelt" ]\n'), 0o755)
+        os.chmod(self.path("bin/rt", b'#!/bin/sh\n[ "$*" = lib ]\n'), 0o755)
         path = os.pathsep.join((self.path("bin"), os.path.dirname(sys.executable),
                                 os.environ["PATH"]))
         env = {**os.environ, "PATH": path, "PYTHONDONTWRITEBYTECODE": "1"}

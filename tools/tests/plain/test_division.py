@@ -100,8 +100,13 @@ def lines(text):
 def function(body):
     return f"""{CONSTS}
 fn f(n: usize) -> usize
-    requires {{ ⌜ n % 16 ≡ 0 ⌝ }}
-    ensures {{ λ r. ⌜ r ≡ n / 16 × (r ≡ record {{ a = n / 16 }} .a) ⌝ }}
+    ghost k: {{ T (n / 16) }}
+    requires {{ n % 16 ≡ 0 }}
+    requires small {{ n / 16 < 4 }}
+    requires* {{ ⌜ n / 16 < 4 ⌝ }}
+    ensures {{ result ≡ n / 16 × (result ≡ (record {{ a = n / 16 }}).a) }}
+    ensures other
+        {{ result % 16 ≡ n / 16 }}
 {{
     {body}
 }}

@@ -39,7 +39,7 @@ Exit status: 0 done; 1 a text is bad or something is refused; 2 wrong usage, or 
 library is missing. For judge it is as for cmp: 0 equal, 1 different, 2 anything else.
 
 HOGZELT_SO names the shared object of the library. In a checkout it is made where it is missing:
-'rt staticlib hogzelt' proves and builds the archive, cc makes a shared object of it.
+tools/build.sh proves and builds the archive, cc makes a shared object of it.
 """
 
 COMMON = """\
@@ -194,7 +194,7 @@ the file; a note says which are cut at this width.
 
 Examples:
   tools/hogzelt write -w 8 -o xor.tangle 'a ^ 15'
-  tools/hogzelt write -w 8 'a ^ 15' | target/bin/par
+  tools/hogzelt write -w 8 'a ^ 15' | crates/par/out/par
 """,
     "show": """\
 usage: hogzelt show [-w WIDTH] [--text] [FILE]        FILE may be - for standard input
