@@ -21,7 +21,7 @@ loop-j-init c =
 
 pub same_key-requires : goal.same_key-requires
 same_key-requires c =
-    (c.same_key-arg-1.given.0, omega (arith, c.requires))
+    (omega arith, omega (arith, c.requires))
 
 pub returns-then-same_key : goal.returns-then-same_key
 returns-then-same_key c =
