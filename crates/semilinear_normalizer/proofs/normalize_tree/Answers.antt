@@ -34,7 +34,7 @@ collect_terms-found-requires c =
 pub returns-then-not-found : goal.returns-then-not-found
 returns-then-not-found c =
     gives_eight _ _ (λ i. (c.shared_slice_known-1.given i).fits) c.requires.accepted _
-    c.start.ensures c.collect_terms-found.ensures c.if-not-found.true
+    c.start.ensures c.collect_terms-found.ensures (not-true _ c.if-not-found.true)
     c.requires.written c.refuse.result c.refuse.ensures
 
 pub write_form-requires : goal.write_form-requires
@@ -60,5 +60,5 @@ write_form-requires c =
 pub returns : goal.returns
 returns c =
     gives_collected _ _ (λ i. (c.shared_slice_known-1.given i).fits) c.requires.accepted _
-    c.start.ensures c.collect_terms-found.ensures c.if-not-found.false
+    c.start.ensures c.collect_terms-found.ensures (not-false _ c.if-not-found.false)
     c.write_form.result c.write_form.ensures
