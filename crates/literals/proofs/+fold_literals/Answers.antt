@@ -119,23 +119,23 @@ last_child_lem t c =
     let arity = c.root_arity-children.ensures in
     let number_is = c.number_of-number-2.ensures ∙ c.cut-2.ensures.0 in
     elim c.if-children-eq2.branch [
-      then-children-eq2 w ↦ last_met w.out-is w.middle-is
-        (last_two
-        (record {
-          kept = kept t (goal.at.After-right t c).After-either-deeper;
-          two = sym arity ∙ w.if-children-eq2.true;
-          number_is = number_is;
-          child = w.left.ensures;
-        })
-        w.fold_literals-middle.ensures c.right.ensures)
-    | else-children-eq2 w ↦ last_met w.out-is w.middle-is
-        (last_one
-        (record {
-          kept = kept t (goal.at.After-right t c).After-either-deeper;
-          one = arity_one _ (λ e. c.if-children-eq0.false (arity ∙ e)) (λ e. w.if-children-eq2.false (arity ∙ e));
-          number_is = number_is;
-          child = c.right.ensures;
-        }))
+      | then-children-eq2 w ↦ last_met w.out-is w.middle-is
+          (last_two
+          (record {
+            kept = kept t (goal.at.After-right t c).After-either-deeper;
+            two = sym arity ∙ w.if-children-eq2.true;
+            number_is = number_is;
+            child = w.left.ensures;
+          })
+          w.fold_literals-middle.ensures c.right.ensures)
+      | else-children-eq2 w ↦ last_met w.out-is w.middle-is
+          (last_one
+          (record {
+            kept = kept t (goal.at.After-right t c).After-either-deeper;
+            one = arity_one _ (λ e. c.if-children-eq0.false (arity ∙ e)) (λ e. w.if-children-eq2.false (arity ∙ e));
+            number_is = number_is;
+            child = c.right.ensures;
+          }))
     ]
 
 pub slice_bounds-fold_literals-count : goal.slice_bounds-fold_literals-count

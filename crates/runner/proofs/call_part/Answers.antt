@@ -10,7 +10,6 @@ use Rattle.runner.proofs.TurnLaws.{parted}
 use borrow.Author.Rules.{rules}
 use Rattle.runner.proofs.call_part.Goals as goal
 
-
 pub slice_bounds-make_call-end : goal.slice_bounds-make_call-end
 slice_bounds-make_call-end c = let at = c.before.before.before in sym (length-take-le at.args.used at.args.from.now at.requires.0)
 

@@ -5,7 +5,6 @@ use Rattle.runner.proofs.RunLaws.{lies_placed, lies_given, placed_again, placed_
 use borrow.Author.Rules.{rules}
 use Rattle.runner.proofs.run_from.Goals as goal
 
-
 pub run_list-last-requires : goal.run_list-last-requires
 run_list-last-requires c = let at = c.before.before.before.before.before in (at.requires.0, lies_placed at.args.spare.now at.requires.1)
 

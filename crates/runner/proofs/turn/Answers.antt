@@ -5,7 +5,6 @@ use Rattle.runner.proofs.TurnLaws.{first_asks, second_asks}
 use borrow.Author.Rules.{rules}
 use Rattle.runner.proofs.turn.Goals as goal
 
-
 pub call_part-made-requires : goal.call_part-made-requires
 call_part-made-requires c = let at = c.before.before.before.before.before in (first_asks c.if1.true at.requires.2, at.requires.1)
 
