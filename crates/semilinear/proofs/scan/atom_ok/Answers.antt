@@ -2,7 +2,6 @@
 use Rattle.semilinear.specs.Valid.{atom_ok}
 use Rattle.semilinear.proofs.ItemsLaws.{atom_room}
 use borrow.Author.Tests.{eq-eqb, ne_eqb, le-leb, lt-leb}
-use borrow.Author.Rules.{rules}
 use Rattle.semilinear.proofs.scan.atom_ok.Goals as goal
 
 pub provenance-requires : goal.provenance-requires
