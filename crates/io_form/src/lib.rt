@@ -2,8 +2,10 @@
 // is printed.
 #![tactic(auto)]
 
-ghost use Rattle.std.specs.Prelude.{IfOk, OnErr};
+ghost use Rattle.std.specs.Prelude.{◌<◌, length, take, IfOk, OnErr};
 ghost use Rattle.std.specs.Io.{ReadsAtMost};
+ghost use Rattle.std.specs.Io.KnownBytes.{Consumes, IsAtEnd};
+ghost use Rattle.io_form.specs.Reads.{HoldsRead};
 ghost use Rattle.io_form.specs.Used.{IsUsed, IsCleared, HoldsNoForm};
 
 use base::limits;
@@ -14,15 +16,18 @@ use std::io::Read;
 pub const INPUT_BYTES: usize = limits::EXPR_BYTES + 1;
 
 // Reads until buf is full or the input ends, and gives how many bytes it put at the start of buf.
-// After an error buf holds what was read before it, which no clause says.
 pub fn read_full<R: Read>(reader: &mut R, buf: &mut [u8]) -> io::Result<usize>
-    ensures { ReadsAtMost result buf.new }
+    ensures in_bounds { ReadsAtMost result buf.new }
+    ensures bytes { IfOk result (λ n. Consumes (R.remaining reader.old) (R.remaining reader.new)
+        (take n buf.new)) }
+    ensures end { IfOk result (λ n. n < length buf.new → IsAtEnd (R.remaining reader.new)) }
+    ensures err { OnErr result (HoldsRead (R.remaining reader.old) (R.remaining reader.new) buf.new) }
 {
     let mut done = 0;
     while done < buf.len() {
         let n = reader.read(&mut buf[done..])?;
         if n == 0 {
-            break;
+            return Ok(done);
         }
         done += n;
     }
