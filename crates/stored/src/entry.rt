@@ -1,5 +1,6 @@
 // One entry: read, counted and compared.
 ghost use Rattle.std.specs.Prelude.{◌≡◌, ◌+◌, ◌-◌, ◌*◌, ◌%◌, ◌^◌, ◌<◌, ◌≤◌, length, OnErr};
+ghost use Rattle.io_form.specs.Reads.{HoldsRead};
 
 use crate::answer::Answer;
 use crate::report;
@@ -49,10 +50,10 @@ pub fn padded(n: usize) -> usize
     up - record::odd_bytes(up)
 }
 
-// Reads size bytes to the front of bytes; false where the file ends before. After an error bytes
-// holds what was read before it, which no clause says.
+// Reads size bytes to the front of bytes; false where the file ends before.
 pub fn read_payload<R: Read>(reader: &mut R, bytes: &mut [u8], size: usize) -> io::Result<bool>
     requires { size ≤ length bytes.old }
+    ensures err { OnErr result (HoldsRead (R.remaining reader.old) (R.remaining reader.new) bytes.new) }
 {
     Ok(io_form::read_full(reader, &mut bytes[..size])? == size)
 }
