@@ -65,9 +65,10 @@ fn put_call(k: usize, pass: u64, calls: &mut [u64])
     calls[2 * k + 1] = limits::FORM_BYTES_U64;
 }
 
-// The calls that the first arguments name, n of them.
+// The calls that the first arguments name, n of them. An error leaves those that were put before it.
 fn put_named(rt: &(impl Env + Eprint), n: usize, calls: &mut [u64]) -> io::Result<()>
     requires { 2 * n ≤ length calls.old }
+    ensures { OnErr result (length calls.new ≡ length calls.old) }
 {
     let mut k = 0;
     while k < n {
@@ -89,10 +90,11 @@ fn put_usual(calls: &mut [u64])
 }
 
 // Puts the list in calls and gives its length in words. With too many arguments it is a call of
-// pass 0, which there is not.
+// pass 0, which there is not. An error leaves some of it put.
 fn read_list(rt: &(impl Env + Eprint), calls: &mut [u64]) -> io::Result<usize>
     requires { 512 ≡ length calls.old }
-    ensures { IfOk result (λ n. IsPrefixLen n calls.new) }
+    ensures ok { IfOk result (λ n. IsPrefixLen n calls.new) }
+    ensures err { OnErr result (length calls.new ≡ length calls.old) }
 {
     let count = arg_count(rt);
     if count < 2 {

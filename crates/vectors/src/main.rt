@@ -17,7 +17,8 @@ use stored::report;
 // A file of more entries is malformed. The bound makes the loop end on any input.
 const MOST_ENTRIES: u64 = 1_000_000;
 
-// Replays entries up to the end entry, or to the first thing that is no entry.
+// Replays entries up to the end entry, or to the first thing that is no entry. An error leaves what
+// was read and counted before it in what is lent.
 fn replay<R: Read>(
     rt: &impl Print,
     reader: &mut R,

@@ -28,7 +28,8 @@ fn run(head: Head, bytes: &[u8], out: &mut [u8], classes: &mut [u64]) -> Answer
     )
 }
 
-// Reads the rest of an entry, runs and compares it; false where it is not whole.
+// Reads the rest of an entry, runs and compares it; false where it is not whole. An error leaves what
+// was read and counted before it in what is lent; so in `step`.
 fn body<R: Read>(
     rt: &impl Print,
     reader: &mut R,
