@@ -3,7 +3,6 @@ use Rattle.std.proofs.Common.{sym, rules}
 use Rattle.arith.proofs.BitLaws.{bit_past, shr_and_one}
 use Rattle.arith.proofs.bit.Goals as goal
 
-
 pub returns-then-i-ge64 : goal.returns-then-i-ge64
 returns-then-i-ge64 c = sym (bit_past c.args.m 64 c.args.i (search rules) (search rules))
 

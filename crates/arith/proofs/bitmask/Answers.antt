@@ -3,7 +3,6 @@ use Rattle.std.proofs.Common.{arith, pow_pos, rules}
 use Rattle.arith.proofs.WordLaws.{one_shl, bitmask_wide, bitmask_narrow}
 use Rattle.arith.proofs.bitmask.Goals as goal
 
-
 pub returns-then-bitwidth-ge64 : goal.returns-then-bitwidth-ge64
 returns-then-bitwidth-ge64 c = bitmask_wide c.args.bitwidth (search rules)
 

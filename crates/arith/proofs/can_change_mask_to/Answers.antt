@@ -1,5 +1,4 @@
 -- `arith::can_change_mask_to` meets its contract.
-use Rattle.std.proofs.Common.{rules}
 use Rattle.arith.proofs.EffectiveLaws.{mask_test}
 use Rattle.arith.proofs.can_change_mask_to.Goals as goal
 

@@ -3,7 +3,6 @@ use Rattle.std.proofs.Common.{sym, ◌∙◌, rules}
 use Rattle.arith.proofs.EffectiveLaws.{effective_none, effective_ones}
 use Rattle.arith.proofs.effective_mask.Goals as goal
 
-
 pub returns-then-tz-bitwidth : goal.returns-then-tz-bitwidth
 returns-then-tz-bitwidth c = sym (effective_none c.args.coeff c.args.bitwidth (search rules))
 

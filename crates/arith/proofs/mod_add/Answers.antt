@@ -1,5 +1,4 @@
 -- `arith::mod_add` meets its contract.
-use Rattle.std.proofs.Common.{rules}
 use Rattle.arith.proofs.WordLaws.{and_mod_add}
 use Rattle.arith.proofs.mod_add.Goals as goal
 

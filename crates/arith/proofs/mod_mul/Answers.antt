@@ -1,5 +1,4 @@
 -- `arith::mod_mul` meets its contract.
-use Rattle.std.proofs.Common.{rules}
 use Rattle.arith.proofs.WordLaws.{and_mod_mul}
 use Rattle.arith.proofs.mod_mul.Goals as goal
 

@@ -1,5 +1,5 @@
 -- `arith::mod_neg` meets its contract.
-use Rattle.std.proofs.Common.{◌∙◌, rules}
+use Rattle.std.proofs.Common.{◌∙◌}
 use Rattle.arith.proofs.WidthLaws.{mod_sub_zero}
 use Rattle.arith.proofs.mod_neg.Goals as goal
 

@@ -3,7 +3,6 @@ use Rattle.std.proofs.Common.{sym, rules}
 use Rattle.arith.proofs.WordLaws.{and_mod_shr, mod_shr_past}
 use Rattle.arith.proofs.mod_shr.Goals as goal
 
-
 pub returns-then-k-ge64 : goal.returns-then-k-ge64
 returns-then-k-ge64 c =
     let start = c.args in

@@ -1,5 +1,4 @@
 -- `arith::reduce_mask` meets its contract.
-use Rattle.std.proofs.Common.{rules}
 use Rattle.arith.proofs.EffectiveLaws.{reduce_and}
 use Rattle.arith.proofs.reduce_mask.Goals as goal
 

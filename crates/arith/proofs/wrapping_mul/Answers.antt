@@ -4,7 +4,6 @@ use lib.Bits.{mask_lt}
 use Rattle.arith.proofs.WordLaws.{product_lt, mul_wraps}
 use Rattle.arith.proofs.wrapping_mul.Goals as goal
 
-
 pub overflow_mul-a1 : goal.overflow_mul-a1
 overflow_mul-a1 c = record { fits = product_lt 32 (shr_lt 32 32 (search rules)) (mask_lt c.args.b 32) }
 

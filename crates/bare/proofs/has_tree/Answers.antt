@@ -4,7 +4,6 @@ use Rattle.bare.proofs.SearchLaws.{tree_other, tree_same}
 use borrow.Author.Rules.{rules}
 use Rattle.bare.proofs.has_tree.Goals as goal
 
-
 pub front_word-requires : goal.front_word-requires
 front_word-requires c = (atom_room _ c.requires).big
 

@@ -9,7 +9,6 @@ use Rattle.bare.proofs.SearchLaws.{Searched, passed_none, passed_end, passed_fou
 use Rattle.bare.proofs.SearchLaws.{passed_next, atom_inside}
 use Rattle.bare.proofs.row_with.Given as goal
 
-
 abbrev pub invariant-loop-r : goal.invariant-loop-r
 invariant-loop-r l = Searched l.hash l.t l.f l.at l.i
 

@@ -10,7 +10,6 @@ use Rattle.best_week.proofs.WalkLaws.{streak_new, streak_fits, week_here, no_wee
 use Rattle.best_week.proofs.BestLaws.{best_start, best_kept, best_taken, best_all}
 use Rattle.best_week.proofs.best_of.Given as goal
 
-
 abbrev pub invariant-loop-i : goal.invariant-loop-i
 invariant-loop-i l = StreakAt l.run l.i l.streak × BestUpTo l.run l.i l.best × (1 ≤ l.i) × (l.i ≤ l.n)
 

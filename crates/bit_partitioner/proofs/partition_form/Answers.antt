@@ -7,7 +7,6 @@ use Rattle.bit_partitioner.proofs.EntryLaws.{slice_long, slice_zeros, form_none,
 use borrow.Author.Rules.{rules}
 use Rattle.bit_partitioner.proofs.partition_form.Goals as goal
 
-
 pub width-w-requires : goal.width-w-requires
 width-w-requires c =
     form_big c.args.s.now c.requires.0

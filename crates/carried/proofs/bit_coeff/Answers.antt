@@ -32,9 +32,12 @@ loop-i-preserved c =
     let h = c.loop-i in
     let hw = c.requires.2 in (
       omega arith,
-      elim c.if-masks-i-eq1.branch [ then-masks-i-eq1 w ↦ bit_one a.w hw a.coeffs.now a.masks.now a.n a.p h.i h.sum h.invariant.1
-          w.if-masks-i-eq1.true _ (w.sum-is ∙ c.wrapping_add_u64-more.ensures.value) | else-masks-i-eq1 w ↦ bit_none a.w hw a.coeffs.now a.masks.now a.n a.p h.i h.sum h.invariant.1
-          w.if-masks-i-eq1.false _ w.sum-is ],
+      elim c.if-masks-i-eq1.branch [
+        | then-masks-i-eq1 w ↦ bit_one a.w hw a.coeffs.now a.masks.now a.n a.p h.i h.sum h.invariant.1
+            w.if-masks-i-eq1.true _ (w.sum-is ∙ c.wrapping_add_u64-more.ensures.value)
+        | else-masks-i-eq1 w ↦ bit_none a.w hw a.coeffs.now a.masks.now a.n a.p h.i h.sum h.invariant.1
+            w.if-masks-i-eq1.false _ w.sum-is
+      ],
     )
 
 pub returns : goal.returns

@@ -5,7 +5,6 @@ use Rattle.structure_laws.specs.Carried.{bit_coeff_at}
 use Rattle.carried.proofs.CarriedToLaws.{bit_start, bit_one, bit_none, bit_end}
 use Rattle.carried.proofs.bit_coeff.Given as goal
 
-
 abbrev pub invariant-loop-i : goal.invariant-loop-i
 invariant-loop-i l =
     (l.i ≤ l.n) × (l.sum % 2 ^ l.w ≡ for_in (bit_coeff_at l.w l.coeffs l.masks l.p) 0 l.i 0)

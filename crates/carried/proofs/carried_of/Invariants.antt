@@ -5,7 +5,6 @@ use Rattle.carried.proofs.CarriedToLaws.{carried_to, carried_start, to_few, to_b
 use Rattle.carried.proofs.CarriedToLaws.{carried_done}
 use Rattle.carried.proofs.carried_of.Given as goal
 
-
 abbrev pub invariant-loop-p : goal.invariant-loop-p
 invariant-loop-p l =
     (l.p ≤ l.w) × IsCarried (carried_to l.w l.coeffs l.masks l.n l.p) l.initial.carried l.initial.bits l.carried l.bits l.count

@@ -3,7 +3,6 @@ use Rattle.std.proofs.Common.{arith, rules}
 use Rattle.carried.proofs.CarriedToLaws.{at_none, at_some}
 use Rattle.carried.proofs.carry_at.Goals as goal
 
-
 pub bit_coeff-c-requires : goal.bit_coeff-c-requires
 bit_coeff-c-requires c = let pre = c.requires in (pre.0, pre.2.place, pre.1)
 

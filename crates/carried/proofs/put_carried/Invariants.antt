@@ -7,7 +7,6 @@ use Rattle.carried.specs.Coalescing.{carried_in, Coalesced}
 use Rattle.carried.proofs.NewTermsLaws.{terms_none, terms_next, terms_done}
 use Rattle.carried.proofs.put_carried.Given as goal
 
-
 abbrev pub invariant-loop-k : goal.invariant-loop-k
 invariant-loop-k l =
     (l.k ≤ l.count)

@@ -9,7 +9,6 @@ use Rattle.partition_laws.specs.Classes.{has_profile}
 use Rattle.classes.proofs.ClassWordsLaws.{class_inside, profile_read}
 use Rattle.classes.proofs.find_class.Given as goal
 
-
 abbrev pub invariant-loop-j : goal.invariant-loop-j
 invariant-loop-j l =
     (l.j ≤ l.k) × (l.from ≡ l.j * (length l.profile + 1) + 1)

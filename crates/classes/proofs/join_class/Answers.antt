@@ -9,7 +9,6 @@ use mathlib.Core.Path.{refl, ap, ◌∙◌}
 use Rattle.classes.proofs.JoinLaws.{found_room, joins_old, joins_new}
 use Rattle.classes.proofs.join_class.Goals as goal
 
-
 pub find_class-class-requires : goal.find_class-class-requires
 find_class-class-requires c =
     omega (arith, c.requires.0)

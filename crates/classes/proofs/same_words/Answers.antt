@@ -25,13 +25,12 @@ returns-then-a-i c =
     (omega (arith, c.if-a-b.false)) c.if-a-i.true)
 
 pub loop-i-preserved : goal.loop-i-preserved
-loop-i-preserved c =
-    (
-      omega arith,
-      c.loop-i.invariant.1
-          ∙ eq_list_next c.args.a.now c.args.b.now c.loop-i.i (omega arith)
-          (omega (arith, c.if-a-b.false)) c.if-a-i.false,
-    )
+loop-i-preserved c = (
+  omega arith,
+  c.loop-i.invariant.1
+      ∙ eq_list_next c.args.a.now c.args.b.now c.loop-i.i (omega arith)
+      (omega (arith, c.if-a-b.false)) c.if-a-i.false,
+)
 
 pub returns : goal.returns
 returns c =

@@ -10,7 +10,6 @@ use Rattle.group.proofs.PassLaws.{count_few, count_room, next_at, end_at, group_
 use Rattle.coalesce.proofs.CoalesceTurnLaws.{Going, all_none, all_next, all_done}
 use Rattle.coalesce.proofs.coalesce_all.Given as goal
 
-
 abbrev pub invariant-loop-k : goal.invariant-loop-k
 invariant-loop-k l =
     (l.k ≤ l.count)

@@ -7,7 +7,6 @@ use Rattle.coalesce.proofs.CoalescedLaws.{coalesce_room, coalesce_end}
 use borrow.Author.Rules.{rules}
 use Rattle.coalesce.proofs.coalesce_form.Goals as goal
 
-
 pub width-w-requires : goal.width-w-requires
 width-w-requires c = (semilinear_parts _ c.requires.0).0.big
 

@@ -7,7 +7,7 @@ use Rattle.group.proofs.PassLaws.{few_entries}
 use Rattle.carried.proofs.NewTermsLaws.{coalesced_full}
 use Rattle.made.proofs.WordsLaws.{is_full, makes_fewer}
 use Rattle.coalesce.proofs.CoalesceTurnLaws.{group_past, short_turn, many_turn, rewritten_turn}
-use Rattle.coalesce.proofs.CoalesceTurnLaws.{carried_count_lem, atoms_below, coalesced_of}
+use Rattle.coalesce.proofs.CoalesceTurnLaws.{carried_count, atoms_below, coalesced_of}
 use borrow.Author.Rules.{rules}
 use Rattle.coalesce.proofs.coalesce_group.Goals as goal
 
@@ -69,7 +69,7 @@ put_carried-requires c =
     let a = c.args in
     let pre = c.requires in
     let carried = c.carried_of-count.ensures in
-    let few = carried_count_lem a.w (decode a.b.now) c.gather-g.result pre.makes.width carried in
+    let few = carried_count a.w (decode a.b.now) c.gather-g.result pre.makes.width carried in
     record {
       makes = makes_fewer pre.makes (omega (arith, few));
       carried_room = omega (arith, few, carried.long);

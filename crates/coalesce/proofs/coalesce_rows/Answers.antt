@@ -5,7 +5,6 @@ use Rattle.coalesce.proofs.CoalescedLaws.{read_variable, rows_coalesced}
 use borrow.Author.Rules.{rules}
 use Rattle.coalesce.proofs.coalesce_rows.Goals as goal
 
-
 pub read_views-n-requires : goal.read_views-n-requires
 read_views-n-requires c =
     rows_views c.requires

@@ -4,7 +4,6 @@ use Rattle.group.proofs.PassLaws.{form_fewer}
 use borrow.Author.Rules.{rules}
 use Rattle.coalesce.proofs.coalesce_table.Goals as goal
 
-
 pub coalesce_short-requires : goal.coalesce_short-requires
 coalesce_short-requires c =
     let pre = c.requires in

@@ -10,7 +10,6 @@ use Rattle.record.specs.Fields.{width}
 use borrow.Author.Rules.{rules}
 use Rattle.compaction.proofs.compact_form.Goals as goal
 
-
 pub width-w-requires : goal.width-w-requires
 width-w-requires c =
     (semilinear_parts _ c.requires.0).0.big
@@ -20,12 +19,11 @@ literal-constant-requires c =
     (semilinear_parts _ c.requires.0).0.big
 
 pub copy_front-copied-requires : goal.copy_front-copied-requires
-copy_front-copied-requires c =
-    (
-      rw (c.width-w.ensures, c.body.ensures) (semilinear_front _ c.requires.0),
-      omega (arith, ap length c.body.ensures, length_body c.args.s.now, c.requires.1),
-      c.requires.2,
-    )
+copy_front-copied-requires c = (
+  rw (c.width-w.ensures, c.body.ensures) (semilinear_front _ c.requires.0),
+  omega (arith, ap length c.body.ensures, length_body c.args.s.now, c.requires.1),
+  c.requires.2,
+)
 
 pub put_sum-requires : goal.put_sum-requires
 put_sum-requires c =

@@ -12,7 +12,6 @@ use mathlib.Core.List.{[]}
 use Rattle.base.proofs.PutLaws.{length_padded}
 use Rattle.compaction.proofs.copy_front.Given as goal
 
-
 abbrev pub invariant-loop-to : goal.invariant-loop-to
 invariant-loop-to l = Copied l.w l.f l.x l.out
 

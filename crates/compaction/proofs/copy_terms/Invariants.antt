@@ -9,7 +9,6 @@ use Prim.Native.Nat.{◌-◌}
 use lib.ListN.{length}
 use Rattle.compaction.proofs.copy_terms.Given as goal
 
-
 abbrev pub invariant-loop-coeff : goal.invariant-loop-coeff
 invariant-loop-coeff l = Renumbered l.w l.to l.q l.initial.out l.at l.number l.out
 

@@ -7,7 +7,6 @@ use Rattle.decompose.proofs.DecomposeLaws.{splitting_whole}
 use borrow.Author.Rules.{rules}
 use Rattle.decompose.proofs.decompose_atom.Given as goal
 
-
 abbrev pub invariant-loop-next : goal.invariant-loop-next
 invariant-loop-next l = Splitting l.w l.t l.x
 

@@ -9,7 +9,6 @@ use Rattle.decompose.proofs.DecomposeLaws.{sized_sides, left_open, right_open}
 use borrow.Author.Rules.{rules}
 use Rattle.decompose.proofs.free_sides.Goals as goal
 
-
 abbrev is_free : List ℕ → Bool
 is_free s = is_constant_subtree (decode s)
 

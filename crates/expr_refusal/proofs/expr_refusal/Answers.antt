@@ -4,7 +4,6 @@ use borrow.Author.Tests.{eq-eqb, ne_eqb, lt-ltb, le-ltb}
 use borrow.Author.Rules.{rules}
 use Rattle.expr_refusal.proofs.expr_refusal.Goals as goal
 
-
 pub returns-then-n-eq0 : goal.returns-then-n-eq0
 unfolding expr_refusal
 returns-then-n-eq0 c = simp (eq-eqb _ _ c.if-n-eq0.true)

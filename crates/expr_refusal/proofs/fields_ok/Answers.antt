@@ -5,7 +5,6 @@ use mathlib.Core.Path.{sym, ◌∙◌}
 use borrow.Author.Rules.{rules}
 use Rattle.expr_refusal.proofs.fields_ok.Goals as goal
 
-
 pub returns-then-k-eq0 : goal.returns-then-k-eq0
 unfolding fields_ok uses_byte1
 returns-then-k-eq0 c = simp c.if-k-eq0.true

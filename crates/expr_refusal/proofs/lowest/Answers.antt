@@ -5,7 +5,6 @@ use native.Mathlib.Nat.{min-eq_left, min-eq_right, le_of_lt}
 use mathlib.Core.Path.{sym}
 use Rattle.expr_refusal.proofs.lowest.Goals as goal
 
-
 pub returns-then-a-eq0 : goal.returns-then-a-eq0
 unfolding lowest
 returns-then-a-eq0 c = simp (eq-eqb _ _ c.if-a-eq0.true)

@@ -3,7 +3,6 @@ use Rattle.expr_refusal.specs.Refusal.{uses_byte1}
 use borrow.Author.Tests.{ne_eqb, lt-ltb, le-ltb}
 use Rattle.expr_refusal.proofs.uses_byte1.Goals as goal
 
-
 pub returns-then-k-eq1 : goal.returns-then-k-eq1
 unfolding uses_byte1
 returns-then-k-eq1 c = simp c.if-k-eq1.true

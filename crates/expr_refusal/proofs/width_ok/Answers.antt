@@ -3,7 +3,6 @@ use Rattle.expr_refusal.specs.Refusal.{width_ok}
 use borrow.Author.Tests.{eq-eqb, ne_eqb, lt-leb, le-leb}
 use Rattle.expr_refusal.proofs.width_ok.Goals as goal
 
-
 pub returns-then-v-eq0 : goal.returns-then-v-eq0
 unfolding width_ok
 returns-then-v-eq0 c = simp (eq-eqb _ _ c.if-v-eq0.true)

@@ -4,7 +4,6 @@ use Rattle.std.proofs.Common.{arith}
 use Rattle.std.proofs.lemmas.Bool.Decides.{nat_tests}
 use Rattle.expr_utils.proofs.is_arith.Goals as goal
 
-
 pub returns-in-2 : goal.returns-in-2
 unfolding is_arith
 returns-in-2 c = rw c.in-2.is

@@ -5,7 +5,6 @@ use Rattle.flatten.proofs.NewRowLaws.{variable_back, variable_sized, variable_ba
 use borrow.Author.Rules.{rules}
 use Rattle.flatten.proofs.flat_row.Goals as goal
 
-
 pub returns-then-m-eq0 : goal.returns-then-m-eq0
 returns-then-m-eq0 c = extended_none _ _ _ _ _ _ _ c.requires.room c.if-m-eq0.true
 

@@ -5,7 +5,6 @@ use Rattle.flatten.proofs.FlatFormLaws.{flatten_begin, flatten_room, flatten_end
 use borrow.Author.Rules.{rules}
 use Rattle.flatten.proofs.flatten_form.Goals as goal
 
-
 pub width-w-requires : goal.width-w-requires
 width-w-requires c = (semilinear_parts _ c.requires.0).0.big
 

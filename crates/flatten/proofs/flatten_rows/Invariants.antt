@@ -9,7 +9,6 @@ use Rattle.semilinear.proofs.ValidLaws.{front_parts}
 use Rattle.flatten.proofs.FlatWalkLaws.{Walked, walked_start, walked_number, walked_row, walked_end}
 use Rattle.flatten.proofs.flatten_rows.Given as goal
 
-
 abbrev pub invariant-loop-x : goal.invariant-loop-x
 invariant-loop-x l =
     Walked l.w l.f (get_or l.initial.made 5 0) (length l.initial.out) l.x l.made l.out l.coeffs

@@ -13,13 +13,12 @@ use Prim.Native.Nat.{◌-◌, ◌≤◌, ◌^◌}
 use Rattle.judge.proofs.first_unlike.Goals as goal
 
 pub loop-i-init : goal.loop-i-init
-loop-i-init c =
-    (
-      omega arith,
-      shl_exact {a = 1} 1 c.args.place 64 (lit< tt) (omega (arith, c.requires.2))
-          ∙ one-mul _,
-      refl,
-    )
+loop-i-init c = (
+  omega arith,
+  shl_exact {a = 1} 1 c.args.place 64 (lit< tt) (omega (arith, c.requires.2))
+      ∙ one-mul _,
+  refl,
+)
 
 pub returns-then-x-y : goal.returns-then-x-y
 returns-then-x-y c =

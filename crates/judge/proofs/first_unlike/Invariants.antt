@@ -12,7 +12,6 @@ use lib.ListN.{length}
 use Prim.Native.Nat.{◌-◌, ◌≤◌, ◌^◌}
 use Rattle.judge.proofs.first_unlike.Given as goal
 
-
 abbrev pub invariant-loop-i : goal.invariant-loop-i
 invariant-loop-i l =
     (l.i ≤ length l.left) × (l.factor ≡ 2 ^ l.place)

@@ -4,7 +4,6 @@ use Rattle.semilinear_value.proofs.ValueLaws.{form_value_accepted}
 use borrow.Author.Rules.{rules}
 use Rattle.judge.proofs.form_value.Goals as goal
 
-
 pub literal-constant-requires : goal.literal-constant-requires
 literal-constant-requires c = form_big _ _ c.requires
 

@@ -14,7 +14,6 @@ use lib.ListN.{length}
 use borrow.Author.Rules.{rules}
 use Rattle.judge.proofs.judge_pair.Goals as goal
 
-
 pub width-w-requires : goal.width-w-requires
 width-w-requires c = side_big c.args.forms c.args.left.now c.requires.0.taken
 

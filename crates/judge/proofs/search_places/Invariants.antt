@@ -12,7 +12,6 @@ use lib.ListN.{length}
 use Prim.Native.Nat.{ℕ, ◌-◌, ◌≤◌, ◌<◌}
 use Rattle.judge.proofs.search_places.Given as goal
 
-
 abbrev pub invariant-loop-p : goal.invariant-loop-p
 invariant-loop-p l =
     (l.p ≤ l.w) × (length l.x ≡ length l.initial.x) × (length l.y ≡ length l.initial.y)

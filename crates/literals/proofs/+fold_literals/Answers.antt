@@ -5,7 +5,6 @@ use mathlib.Core.Path.{refl, ap, sym, ◌∙◌}
 use Prim.Native.Nat.{ℕ, ◌<◌}
 use native.Mathlib.Omega.{arith}
 use mathlib.Core.Bool.{Bool, ◌||◌}
-use mathlib.Core.Logic.{⊎_elim}
 use lib.Dec.{lit<}
 use lib.Seq.{length-take-le}
 use borrow.Author.Rules.{rules}
@@ -18,7 +17,7 @@ use Rattle.literals.proofs.RootLaws.{folded_literal, folded_leaf, Kept}
 use Rattle.literals.proofs.TwoChildrenLaws.{TwoChildren, number_le, left_falls, left_room}
 use Rattle.literals.proofs.LastChildLaws.{arity_one, last_whole, LastChild, last_one, last_two, last_met}
 use Rattle.literals.proofs.+fold_literals.Goals as goal
-use Rattle.literals.proofs.+fold_literals.Goals.{After-either-deeper, After-left, After-right}
+use Rattle.literals.proofs.+fold_literals.Goals.{After-either-deeper, After-left, After-right, then-children-eq2, else-children-eq2}
 
 pub overflow_sub-last : goal.overflow_sub-last
 overflow_sub-last t c = marks_some c.requires
@@ -67,49 +66,33 @@ pub kind-requires : goal.kind-requires
 kind-requires t c =
     span_big c.requires
 
--- where the function starts, from the state after which `deeper` is known
-abbrev start : (t : ℕ) → fold-literals-lts.After-either (claims t) (fold_literals_at t) fold-literals.Post
-    → fold-literals-lts.Start (claims t) (fold_literals_at t) fold-literals.Post
-start t c = c.before.before.before.before.before.before.before.before.before.before.before
-
 -- a root that is no literal
-kept : (t : ℕ) (c : After-either-deeper)
-    → let args = (start t c).args in
-    Kept args.w args.t.now args.marks.now args.at args.out.now args.below c.either-deeper.result
+kept : (t : ℕ) (c : After-either-deeper t)
+    → Kept c.args.w c.args.t.now c.args.marks.now c.args.at c.args.out.now c.args.below c.either-deeper.result
 kept t c =
-    let at-bitwise = c.before in
-    let at-kind = at-bitwise.before in
-    let at-if1 = at-kind.before.before.before in
-    let room = (start t c).requires in
+    let room = c.requires in
     record {
       room = room;
-      off = mark_folded _ _ room.marked at-if1.before.is_literal.ensures at-if1.if1.false;
+      off = mark_folded _ _ room.marked c.is_literal.ensures c.if-is_literal.false;
       deeper_is =
-          c.either.ensures
-          ∙ ap (λ (x : Bool). (start t c).args.below || x)
-          (at-bitwise.is_bitwise.ensures ∙ ap is_bitwise at-kind.kind.ensures);
+          c.either-deeper.ensures
+          ∙ ap (λ (x : Bool). c.args.below || x) (c.is_bitwise.ensures ∙ ap is_bitwise c.kind.ensures);
     }
 
 pub number_of-number-requires : goal.number_of-number-requires
 number_of-number-requires t c =
-    last_whole _ (whole (start t c).requires) c.root_arity-children.ensures c.if-children-eq0.false
+    last_whole _ (whole c.requires) c.root_arity-children.ensures c.if-children-eq0.false
     c.cut.ensures.0
 
 -- one that has two children
-two_children : (t : ℕ) (c : After-left)
-    → let at-number = c in
-    let at-either = at-number in
-    let args = (start t at-either).args in
-    TwoChildren args.w args.t.now args.marks.now args.at args.out.now args.below
-    at-either.either-deeper.result c.left.result.now at-number.number_of-number.result
+two_children : (t : ℕ) (c : After-left t)
+    → TwoChildren c.args.w c.args.t.now c.args.marks.now c.args.at c.args.out.now c.args.below
+    c.either-deeper.result c.left.result.now c.number_of-number.result
 two_children t c =
-    let at-number = c.before in
-    let at-if3 = at-number.before.before in
-    let at-either = at-if3.before in
     record {
-      kept = kept t.before.before.before.before at-either;
-      two = sym at-either.before.before.before.before.root_arity.ensures ∙ at-if3.if3.true;
-      number_is = at-number.number_of_lem.ensures ∙ at-number.before.cut.ensures.0;
+      kept = kept t (goal.at.After-left t c).After-either-deeper;
+      two = sym c.root_arity-children.ensures ∙ c.if-children-eq2.true;
+      number_is = c.number_of-number.ensures ∙ c.cut.ensures.0;
       child = c.left.ensures;
     }
 
@@ -120,49 +103,40 @@ slice_bounds-fold_literals-end t c =
 pub fold_literals-middle-requires : goal.fold_literals-middle-requires
 fold_literals-middle-requires t c =
     let two = two_children t (goal.at.fold_literals-middle-requires t c).After-left in
-    (omega (arith, left_falls two, (start t c).pre.0), left_room two refl)
+    (omega (arith, left_falls two), left_room two refl)
 
 pub number_of-number-requires-2 : goal.number_of-number-requires-2
 number_of-number-requires-2 t c =
-    last_whole _ (whole (start t c).requires) c.root_arity-children.ensures c.if-children-eq0.false
+    last_whole _ (whole c.requires) c.root_arity-children.ensures c.if-children-eq0.false
     c.cut-2.ensures.0
 
 -- the last child, the left one folded or not there
-last_child_lem : (t : ℕ) (c : After-right)
-    → let at-number = c in
-    let met = at-number in
-    let at-either = met in
-    let args = (start t at-either).args in
-    LastChild args.w args.t.now args.marks.now args.at args.out.now args.below
-    at-either.either-deeper.result c.right.result.now at-number.number_of-number-2.result met.if-children-eq2.out
-    met.if-children-eq2.middle
+last_child_lem : (t : ℕ) (c : After-right t)
+    → LastChild c.args.w c.args.t.now c.args.marks.now c.args.at c.args.out.now c.args.below
+    c.either-deeper.result c.right.result.now c.number_of-number-2.result c.if-children-eq2.out
+    c.if-children-eq2.middle
 last_child_lem t c =
-    let at-number = c.before in
-    let met = at-number.before.before in
-    let at-either = met.before in
-    let at-if2 = at-either.before.before.before in
-    let arity = at-if2.before.root_arity.ensures in
-    let number_is = at-number.number_of2.ensures ∙ at-number.before.cut2.ensures.0 in
-    let right = c.right.ensures in
-    ⊎_elim
-    (λ k. last_met k.9 k.10
-    (last_two
-    (record {
-      kept = kept t.before.before.before.before at-either;
-      two = sym arity ∙ k.0.taken;
-      number_is = number_is;
-      child = k.3.ensures;
-    })
-    k.6.ensures right))
-    (λ k. last_met k.1 k.2
-    (last_one
-    (record {
-      kept = kept t.before.before.before.before at-either;
-      one = arity_one _ (λ e. at-if2.if2.false (arity ∙ e)) (λ e. k.0.left (arity ∙ e));
-      number_is = number_is;
-      child = right;
-    })))
-    met.if3.branch
+    let arity = c.root_arity-children.ensures in
+    let number_is = c.number_of-number-2.ensures ∙ c.cut-2.ensures.0 in
+    elim c.if-children-eq2.branch [
+      | then-children-eq2 w ↦ last_met w.out-is w.middle-is
+          (last_two
+          (record {
+            kept = kept t (goal.at.After-right t c).After-either-deeper;
+            two = sym arity ∙ w.if-children-eq2.true;
+            number_is = number_is;
+            child = w.left.ensures;
+          })
+          w.fold_literals-middle.ensures c.right.ensures)
+      | else-children-eq2 w ↦ last_met w.out-is w.middle-is
+          (last_one
+          (record {
+            kept = kept t (goal.at.After-right t c).After-either-deeper;
+            one = arity_one _ (λ e. c.if-children-eq0.false (arity ∙ e)) (λ e. w.if-children-eq2.false (arity ∙ e));
+            number_is = number_is;
+            child = c.right.ensures;
+          }))
+    ]
 
 pub slice_bounds-fold_literals-count : goal.slice_bounds-fold_literals-count
 slice_bounds-fold_literals-count t c = (last_child_lem t c).count_le
@@ -170,15 +144,15 @@ slice_bounds-fold_literals-count t c = (last_child_lem t c).count_le
 pub fold_literals-end-requires : goal.fold_literals-end-requires
 fold_literals-end-requires t c =
     let last = last_child_lem t (goal.at.fold_literals-end-requires t c).After-right in
-    (omega (arith, last.falls, (start t c).pre.0), last.room _ _ refl refl)
+    (omega (arith, last.falls), last.room _ _ refl refl)
 
 pub kind-requires-2 : goal.kind-requires-2
 kind-requires-2 t c =
-    span_big (start t c).pre.1
+    span_big c.requires
 
 pub byte1-requires : goal.byte1-requires
 byte1-requires t c =
-    span_big (start t c).pre.1
+    span_big c.requires
 
 pub put_root-requires : goal.put_root-requires
 put_root-requires t c =

@@ -4,7 +4,6 @@ use Rattle.std.proofs.Common.{arith}
 use Rattle.std.proofs.lemmas.Bool.Decides.{nat_tests}
 use Rattle.literals.proofs.is_bitwise.Goals as goal
 
-
 pub returns-in-4 : goal.returns-in-4
 unfolding is_bitwise
 returns-in-4 c = rw c.in-4.is

@@ -4,7 +4,6 @@ use borrow.Author.Rules.{rules}
 use Rattle.literals.proofs.FoldingLaws.{literal_off, literal_on}
 use Rattle.literals.proofs.is_literal.Goals as goal
 
-
 pub returns-then-not-below : goal.returns-then-not-below
 returns-then-not-below c = literal_off c.args.below c.args.m c.if-not-below.true
 

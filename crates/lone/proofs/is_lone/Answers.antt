@@ -7,7 +7,6 @@ use Rattle.views.proofs.HasBasisLaws.{readable_fewer}
 use Rattle.lone.proofs.LoneLaws.{gathered_lone}
 use Rattle.lone.proofs.is_lone.Goals as goal
 
-
 pub none_has-requires : goal.none_has-requires
 none_has-requires c =
     let pre = c.requires in

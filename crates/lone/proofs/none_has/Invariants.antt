@@ -9,7 +9,6 @@ use Rattle.views.proofs.HasBasisLaws.{readable_fewer}
 use Rattle.lone.proofs.LoneLaws.{from_more}
 use Rattle.lone.proofs.none_has.Given as goal
 
-
 abbrev pub invariant-loop-i : goal.invariant-loop-i
 invariant-loop-i l = (k : ℕ) → l.a ≤ k → k < l.i → has_basis l.f (view_at l.views k) l.hash l.b ≡ false
 

@@ -7,7 +7,6 @@ use Rattle.made.proofs.WordsLaws.{basis_sized, masked_bytes, masked_size, create
 use borrow.Author.Rules.{rules}
 use Rattle.made.proofs.create_joined.Goals as goal
 
-
 pub returns-then-more : goal.returns-then-more
 returns-then-more c =
     let a = c.args in

@@ -2,7 +2,6 @@ use mathlib.Core.Path.{refl}
 use Rattle.made.specs.Made.{flag_of}
 use Rattle.made.proofs.flag.Goals as goal
 
-
 pub returns-then-full : goal.returns-then-full
 unfolding flag_of
 returns-then-full c = rw c.if-full.true refl

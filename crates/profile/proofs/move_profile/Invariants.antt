@@ -9,7 +9,6 @@ use lib.ListN.{length}
 use Rattle.profile.proofs.MoveLaws.{Moving, moving_none, moving_all, moving_edge, moving_still}
 use Rattle.profile.proofs.move_profile.Given as goal
 
-
 abbrev pub invariant-loop-i : goal.invariant-loop-i
 invariant-loop-i l =
     (l.i ≤ length l.initial.profile) × Moving l.f l.w l.p l.initial.profile l.profile l.i

@@ -3,7 +3,6 @@ use Rattle.record.specs.Fields.{arity}
 use borrow.Author.Tests.{lt-ltb, le-ltb}
 use Rattle.record.proofs.arity.Goals as goal
 
-
 pub returns-then-k-lt2 : goal.returns-then-k-lt2
 unfolding arity
 returns-then-k-lt2 c = simp (lt-ltb _ _ c.if-k-lt2.true)

@@ -5,7 +5,6 @@ use native.Mathlib.Omega.{arith}
 use borrow.Author.Rules.{rules}
 use Rattle.record.proofs.cut.Goals as goal
 
-
 pub returns-then-n-lt32 : goal.returns-then-n-lt32
 unfolding cut
 returns-then-n-lt32 c = (simp (lt-ltb _ _ c.if-n-lt32.true), omega arith)

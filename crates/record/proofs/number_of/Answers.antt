@@ -2,6 +2,5 @@
 use native.Mathlib.Omega.{arith}
 use Rattle.record.proofs.number_of.Goals as goal
 
-
 pub returns : goal.returns
 returns c = omega (arith, c.requires)

@@ -2,6 +2,5 @@
 use lib.Bits.{and_mask}
 use Rattle.record.proofs.odd_bytes.Goals as goal
 
-
 pub returns : goal.returns
 returns c = and_mask c.args.n 4

@@ -7,7 +7,6 @@ use Rattle.base.specs.Lists.{eq_list}
 use Rattle.base.proofs.ListsLaws.{eq_list_lengths, eq_list_differ, eq_list_next, eq_list_end}
 use Rattle.record.proofs.same_bytes.Given as goal
 
-
 abbrev pub invariant-loop-i : goal.invariant-loop-i
 invariant-loop-i l = (l.i ≤ length l.a) × (eq_list l.a l.b ≡ eq_list (drop l.i l.a) (drop l.i l.b))
 

@@ -21,8 +21,11 @@ joined1 : (c : Joined-any_single)
     c.gather-g.result c.args.made.now c.args.out.now c.if-any_single.g c.if-any_single.made
     c.if-any_single.out
 joined1 c =
-    elim c.if-any_single.branch [ then-any_single w ↦ stepped_met w.made-is w.out-is w.g-is w.cut_and_drop-g.ensures | else-any_single w ↦ stepped_met w.made-is w.out-is w.g-is
-    (single_none _ (c.any_single.ensures w.if-any_single.false) c.requires.makes.room) ]
+    elim c.if-any_single.branch [
+      | then-any_single w ↦ stepped_met w.made-is w.out-is w.g-is w.cut_and_drop-g.ensures
+      | else-any_single w ↦ stepped_met w.made-is w.out-is w.g-is
+          (single_none _ (c.any_single.ensures w.if-any_single.false) c.requires.makes.room)
+    ]
 
 joined2 : (c : Joined-any_merge)
     → Stepped c.args.w 196864 (merged c.args.w (decode c.args.b.now))
@@ -31,9 +34,12 @@ joined2 : (c : Joined-any_merge)
 joined2 c =
     let one = joined1 (goal.at.Joined-any_merge c).Joined-any_single in
     stepped_then one
-    (elim c.if-any_merge.branch [ then-any_merge w ↦ stepped_met w.made-is w.out-is w.g-is w.merge_all-g.ensures | else-any_merge w ↦ stepped_met w.made-is w.out-is w.g-is
-    (merge_none _ (no_merge_at c.if-any_single.g (sym one.len) (c.any_merge.ensures w.if-any_merge.false))
-    one.room) ])
+    (elim c.if-any_merge.branch [
+      | then-any_merge w ↦ stepped_met w.made-is w.out-is w.g-is w.merge_all-g.ensures
+      | else-any_merge w ↦ stepped_met w.made-is w.out-is w.g-is
+          (merge_none _ (no_merge_at c.if-any_single.g (sym one.len) (c.any_merge.ensures w.if-any_merge.false))
+          one.room)
+    ])
 
 joined3 : (c : Joined-i-len)
     → Stepped c.args.w 196866 (collapsed c.args.w (decode c.args.b.now))

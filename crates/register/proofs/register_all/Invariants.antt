@@ -9,7 +9,6 @@ use Rattle.register.proofs.ReachedLaws.{Reached, reached_start, emitted_spot, re
 use Rattle.register.proofs.ReachedLaws.{reached_room, registers_full, registers_end}
 use Rattle.register.proofs.register_all.Given as goal
 
-
 abbrev pub invariant-loop-i : goal.invariant-loop-i
 invariant-loop-i l =
     Reached l.w l.file l.spots l.n l.i l.table l.index l.out × (length l.tree ≡ length l.initial.tree) × (length l.index ≡ length l.initial.index)

@@ -7,7 +7,6 @@ use Rattle.register.proofs.StepLaws.{registers_new}
 use borrow.Author.Rules.{rules}
 use Rattle.register.proofs.register_atom.Goals as goal
 
-
 pub structural_hash-hash-requires : goal.structural_hash-hash-requires
 structural_hash-hash-requires c = sized_accepted _ _ c.requires.accepted
 

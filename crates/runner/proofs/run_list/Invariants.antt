@@ -8,7 +8,6 @@ use Rattle.runner.specs.Placed.{bytes_in}
 use Rattle.runner.proofs.RunLaws.{Running, running_next, running_lies, running_turn, running_end}
 use Rattle.runner.proofs.run_list.Given as goal
 
-
 abbrev pub invariant-loop-i : goal.invariant-loop-i
 invariant-loop-i l =
     Running l.calls (bytes_in l.initial.x.first l.initial.x.used l.initial.sheet l.initial.spare) (length l.initial.sheet) (length l.initial.spare) l.sheet l.spare

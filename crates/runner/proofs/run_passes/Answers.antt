@@ -37,8 +37,7 @@ returns-then-found-ne0 c =
 
 pub run_from-requires : goal.run_from-requires
 run_from-requires c =
-    let normal = c.normalize_to_semilinear-found in
-    (
+    let normal = c.normalize_to_semilinear-found in (
       sym c.is_list.ensures ∙ c.if-not-is_list.false,
       run_start c.args.expr.now c.args.calls.now (length c.args.sheet.now) (length c.args.spare.now)
           normal.result normal.new.out normal.ensures

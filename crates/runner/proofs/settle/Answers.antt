@@ -8,7 +8,6 @@ use Rattle.runner.proofs.TurnLaws.{second_room, settled_first, settled_second}
 use borrow.Author.Rules.{rules}
 use Rattle.runner.proofs.settle.Goals as goal
 
-
 pub returns-then-first : goal.returns-then-first
 returns-then-first c = settled_first c.if-first.true c.requires.0 c.requires.1
 

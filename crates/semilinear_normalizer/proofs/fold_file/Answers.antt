@@ -7,7 +7,6 @@ use Rattle.semilinear_normalizer.proofs.RulesLaws.{whole_marks, copied}
 use borrow.Author.Rules.{rules}
 use Rattle.semilinear_normalizer.proofs.fold_file.Goals as goal
 
-
 pub mark_traits-requires : goal.mark_traits-requires
 mark_traits-requires c =
     let room = c.requires in

@@ -9,7 +9,6 @@ use Rattle.semilinear_normalizer.proofs.WholeTreeLaws.{spots_whole, count_whole,
 use borrow.Author.Rules.{rules}
 use Rattle.semilinear_normalizer.proofs.normalize_tree.Goals as goal
 
-
 pub mark_traits-requires : goal.mark_traits-requires
 mark_traits-requires c =
     record { whole = sized_accepted _ _ c.requires.accepted; room = omega (arith, c.requires.marked) }
@@ -23,18 +22,17 @@ slice_bounds-collect_terms-end-2 c =
     sym (length-take-le _ _ (omega (arith, c.size-n.ensures.0, c.requires.marked, c.marks-1.given)))
 
 pub collect_terms-found-requires : goal.collect_terms-found-requires
-collect_terms-found-requires c =
-    (
-      whole_at _ _ (λ i. (c.shared_slice_known-1.given i).fits) c.requires.accepted
-          c.mark_traits.ensures c.requires.marked c.size-n.ensures.0 refl,
-      whole_ready _ _ (λ i. (c.shared_slice_known-1.given i).fits) c.requires.accepted
-          c.requires.collected c.start.ensures,
-    )
+collect_terms-found-requires c = (
+  whole_at _ _ (λ i. (c.shared_slice_known-1.given i).fits) c.requires.accepted
+      c.mark_traits.ensures c.requires.marked c.size-n.ensures.0 refl,
+  whole_ready _ _ (λ i. (c.shared_slice_known-1.given i).fits) c.requires.accepted
+      c.requires.collected c.start.ensures,
+)
 
 pub returns-then-not-found : goal.returns-then-not-found
 returns-then-not-found c =
     gives_eight _ _ (λ i. (c.shared_slice_known-1.given i).fits) c.requires.accepted _
-    c.start.ensures c.collect_terms-found.ensures c.if-not-found.true
+    c.start.ensures c.collect_terms-found.ensures (not-true _ c.if-not-found.true)
     c.requires.written c.refuse.result c.refuse.ensures
 
 pub write_form-requires : goal.write_form-requires
@@ -60,5 +58,5 @@ write_form-requires c =
 pub returns : goal.returns
 returns c =
     gives_collected _ _ (λ i. (c.shared_slice_known-1.given i).fits) c.requires.accepted _
-    c.start.ensures c.collect_terms-found.ensures c.if-not-found.false
+    c.start.ensures c.collect_terms-found.ensures (not-false _ c.if-not-found.false)
     c.write_form.result c.write_form.ensures

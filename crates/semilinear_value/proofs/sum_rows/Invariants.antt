@@ -10,7 +10,6 @@ use Prim.Native.Nat.{◌+◌, ◌-◌, ◌%◌, ◌^◌}
 use lib.ListN.{length}
 use Rattle.semilinear_value.proofs.sum_rows.Given as goal
 
-
 abbrev pub invariant-loop-x : goal.invariant-loop-x
 invariant-loop-x l =
     Summed l.w l.vars l.f ((l.constant + sum_rows l.w l.vars (rows_of 0 l.f (after_atoms l.f))) % 2 ^ l.w) l.x

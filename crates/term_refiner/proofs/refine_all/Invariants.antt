@@ -10,7 +10,6 @@ use Rattle.term_refiner.proofs.AllRefinedLaws.{Going, going_start, going_next, g
 use Rattle.group.proofs.PassLaws.{count_few, count_room, next_at, end_at, group_at, all_at}
 use Rattle.term_refiner.proofs.refine_all.Given as goal
 
-
 abbrev pub invariant-loop-k : goal.invariant-loop-k
 invariant-loop-k l =
     (l.k ≤ l.count)

@@ -7,7 +7,6 @@ use Rattle.term_refiner.proofs.RefinedLaws.{refine_room, refine_end}
 use borrow.Author.Rules.{rules}
 use Rattle.term_refiner.proofs.refine_form.Goals as goal
 
-
 pub width-w-requires : goal.width-w-requires
 width-w-requires c = (semilinear_parts _ c.requires.0).0.big
 

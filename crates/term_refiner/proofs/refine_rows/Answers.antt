@@ -5,7 +5,6 @@ use Rattle.term_refiner.proofs.RowsRefinedLaws.{read_any, rows_refined}
 use borrow.Author.Rules.{rules}
 use Rattle.term_refiner.proofs.refine_rows.Goals as goal
 
-
 pub read_views-n-requires : goal.read_views-n-requires
 read_views-n-requires c =
     rows_views c.requires

@@ -4,7 +4,6 @@ use Rattle.group.proofs.PassLaws.{form_fewer}
 use borrow.Author.Rules.{rules}
 use Rattle.term_refiner.proofs.refine_table.Goals as goal
 
-
 pub refine_short-requires : goal.refine_short-requires
 refine_short-requires c =
     let pre = c.requires in

@@ -66,10 +66,10 @@ right_rows : (t : ℕ) (c : Joined-root_arity-eq0 t)
     → c.if-root_arity-eq0.y ≡ rows_of c.args.vars.now c.right-r.result.now c.loop-s.here
 right_rows t c =
     elim c.if-root_arity-eq0.branch [
-      then-root_arity-eq0 w ↦ w.y-is
-      ∙ rows_leaf _ _ _ (right_child t (goal.at.Joined-root_arity-eq0 t c).After-right-r).1 c.root_arity.ensures w.if-root_arity-eq0.true
-      w.leaf_rows-y.ensures
-    | else-root_arity-eq0 w ↦ w.y-is ∙ w.rows_in-y.ensures
+      | then-root_arity-eq0 w ↦ w.y-is
+          ∙ rows_leaf _ _ _ (right_child t (goal.at.Joined-root_arity-eq0 t c).After-right-r).1 c.root_arity.ensures w.if-root_arity-eq0.true
+          w.leaf_rows-y.ensures
+      | else-root_arity-eq0 w ↦ w.y-is ∙ w.rows_in-y.ensures
     ]
 
 pub root_arity-requires-then-children-ne1 : goal.root_arity-requires-then-children-ne1
@@ -85,10 +85,10 @@ left_rows : (t : ℕ) (c : Joined-root_arity-eq0-2 t)
     → c.if-root_arity-eq0-2.x ≡ rows_of c.args.vars.now c.left-l.result.now c.loop-s.here
 left_rows t c =
     elim c.if-root_arity-eq0-2.branch [
-      then-root_arity-eq0-2 w ↦ w.x-is
-      ∙ rows_leaf _ _ _ (left_child t (goal.at.Joined-root_arity-eq0-2 t c).After-right-r).1 c.root_arity-then-children-ne1.ensures
-      w.if-root_arity-eq0-2.true w.leaf_rows-x.ensures
-    | else-root_arity-eq0-2 w ↦ w.x-is ∙ w.rows_in-x.ensures
+      | then-root_arity-eq0-2 w ↦ w.x-is
+          ∙ rows_leaf _ _ _ (left_child t (goal.at.Joined-root_arity-eq0-2 t c).After-right-r).1 c.root_arity-then-children-ne1.ensures
+          w.if-root_arity-eq0-2.true w.leaf_rows-x.ensures
+      | else-root_arity-eq0-2 w ↦ w.x-is ∙ w.rows_in-x.ensures
     ]
 
 pub returns-then-children-ne1 : goal.returns-then-children-ne1
@@ -138,8 +138,8 @@ loop-s-preserved t c =
     let arity_is = c.root_arity-children.ensures in
     let one = c.if-children-ne1.false in
     elim c.if-k-eq7.branch [
-      then-k-eq7 w ↦ rw (w.here-is, w.flip-is) (passed_not passed arity_is one (sym c.kind-k.ensures ∙ w.if-k-eq7.true) refl)
-    | else-k-eq7+else-here-source w ↦ rw (w.here-is, w.flip-is)
-      (passed_shift passed arity_is one (λ e. w.if-k-eq7.false (c.kind-k.ensures ∙ e)) _ w.amount-a.ensures.0
-      (omega (arith, w.if-here-source.false)) refl)
+      | then-k-eq7 w ↦ rw (w.here-is, w.flip-is) (passed_not passed arity_is one (sym c.kind-k.ensures ∙ w.if-k-eq7.true) refl)
+      | else-k-eq7+else-here-source w ↦ rw (w.here-is, w.flip-is)
+          (passed_shift passed arity_is one (λ e. w.if-k-eq7.false (c.kind-k.ensures ∙ e)) _ w.amount-a.ensures.0
+          (omega (arith, w.if-here-source.false)) refl)
     ]

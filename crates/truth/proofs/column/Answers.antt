@@ -4,7 +4,6 @@ use mathlib.Core.Path.{refl}
 use native.Mathlib.Omega.{arith}
 use Rattle.truth.proofs.column.Goals as goal
 
-
 pub returns-in-0 : goal.returns-in-0
 returns-in-0 c = column_bits 64 _ 0 refl c.in-0.is
 

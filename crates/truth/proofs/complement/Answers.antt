@@ -2,6 +2,5 @@
 use borrow.Author.Rules.{rules}
 use Rattle.truth.proofs.complement.Goals as goal
 
-
 pub returns-then-flip : goal.returns-then-flip
 returns-then-flip c = simp c.if-flip.true

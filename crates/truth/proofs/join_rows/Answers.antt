@@ -3,7 +3,6 @@ use Rattle.truth.proofs.RowsLaws.{join_and, join_or, join_xor}
 use native.Mathlib.Omega.{arith}
 use Rattle.truth.proofs.join_rows.Goals as goal
 
-
 pub returns-in-4 : goal.returns-in-4
 returns-in-4 c i = join_and _ _ _ i c.in-4.is
 

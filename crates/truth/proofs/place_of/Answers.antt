@@ -17,12 +17,11 @@ returns-then-vars-j c =
     ∙ place_found c.args.v c.args.vars.now c.loop-j.j (omega arith) c.if-vars-j.true)
 
 pub loop-j-preserved : goal.loop-j-preserved
-loop-j-preserved c =
-    (
-      omega arith,
-      c.loop-j.invariant.1
-          ∙ place_next c.args.v c.args.vars.now c.loop-j.j (omega arith) c.if-vars-j.false,
-    )
+loop-j-preserved c = (
+  omega arith,
+  c.loop-j.invariant.1
+      ∙ place_next c.args.v c.args.vars.now c.loop-j.j (omega arith) c.if-vars-j.false,
+)
 
 pub returns : goal.returns
 returns c =

@@ -7,7 +7,6 @@ use Rattle.truth.specs.Truth.{place_of}
 use Rattle.truth.proofs.RowsLaws.{place_start, place_found, place_next, place_end}
 use Rattle.truth.proofs.place_of.Given as goal
 
-
 abbrev pub invariant-loop-j : goal.invariant-loop-j
 invariant-loop-j l = (l.j ≤ length l.vars) × (place_of l.v l.vars ≡ l.j + place_of l.v (drop l.j l.vars))
 

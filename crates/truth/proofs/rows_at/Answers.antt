@@ -7,7 +7,6 @@ use Rattle.truth.proofs.HalvesLaws.{halves}
 use borrow.Author.Rules.{rules}
 use Rattle.truth.proofs.rows_at.Goals as goal
 
-
 pub root_arity-requires : goal.root_arity-requires
 root_arity-requires c = sized_big _ c.requires
 

@@ -10,7 +10,6 @@ use Rattle.views.specs.Views.{only_of}
 use Rattle.views.proofs.ReadLaws.{Reads, reads_start, reads_row, reads_end, number_lt, coeffs_long}
 use Rattle.views.proofs.read_views.Given as goal
 
-
 abbrev pub invariant-loop-x : goal.invariant-loop-x
 invariant-loop-x l =
     Reads (only_of l.only) l.w l.f (read_rows 0 l.f (after_atoms l.f)) l.initial.views l.initial.coeffs l.x l.views l.coeffs

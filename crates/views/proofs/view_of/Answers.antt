@@ -61,11 +61,11 @@ returns c =
     (not-false _ c.if-not-found.false) refl
     c.args.only x et n c.structural_hash.ensures ec
     (elim c.if-only.branch [
-      then-only+else-kind-ne1 w ↦ counts_variable _ c.args.f.now (λ i. (c.shared_slice_known-1.given i).fits)
-      c.args.from c.args.to c.requires.from_le c.requires.to_le c.requires.accepted c.decompose_atom-found.ensures
-      (not-false _ c.if-not-found.false) refl c.args.only x et n w.if-only.true
-      (sym w.kind.ensures ∙ w.if-kind-ne1.false)
-    | else-only w ↦ counts_any _ c.args.f.now (λ i. (c.shared_slice_known-1.given i).fits)
-      c.args.from c.args.to c.requires.from_le c.requires.to_le c.requires.accepted c.decompose_atom-found.ensures
-      (not-false _ c.if-not-found.false) refl c.args.only x et n w.if-only.false
+      | then-only+else-kind-ne1 w ↦ counts_variable _ c.args.f.now (λ i. (c.shared_slice_known-1.given i).fits)
+          c.args.from c.args.to c.requires.from_le c.requires.to_le c.requires.accepted c.decompose_atom-found.ensures
+          (not-false _ c.if-not-found.false) refl c.args.only x et n w.if-only.true
+          (sym w.kind.ensures ∙ w.if-kind-ne1.false)
+      | else-only w ↦ counts_any _ c.args.f.now (λ i. (c.shared_slice_known-1.given i).fits)
+          c.args.from c.args.to c.requires.from_le c.requires.to_le c.requires.accepted c.decompose_atom-found.ensures
+          (not-false _ c.if-not-found.false) refl c.args.only x et n w.if-only.false
     ])

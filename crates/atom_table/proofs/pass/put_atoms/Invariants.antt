@@ -10,7 +10,6 @@ use Rattle.atom_table.proofs.SpansLaws.{spans_more}
 use borrow.Author.Rules.{rules}
 use Rattle.atom_table.proofs.pass.put_atoms.Given as goal
 
-
 abbrev pub invariant-loop-r : goal.invariant-loop-r
 invariant-loop-r l = SpansPut l.w l.f l.initial.out l.at l.count l.records l.out
 

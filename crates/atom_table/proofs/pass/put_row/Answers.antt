@@ -3,7 +3,6 @@ use Rattle.atom_table.proofs.TermsLaws.{term_put_none, term_put_some}
 use borrow.Author.Rules.{rules}
 use Rattle.atom_table.proofs.pass.put_row.Goals as goal
 
-
 pub returns-then-c-eq0 : goal.returns-then-c-eq0
 returns-then-c-eq0 c = term_put_none _ _ _ _ c.if-c-eq0.true _
 

@@ -9,7 +9,6 @@ use Rattle.atom_table.proofs.TermsLaws.{length_term_put, terms_put_start, terms_
 use Rattle.atom_table.proofs.TermsLaws.{word_inside, word_bound}
 use Rattle.atom_table.proofs.pass.put_terms.Given as goal
 
-
 abbrev pub invariant-loop-i : goal.invariant-loop-i
 invariant-loop-i l =
     TermsPut l.w l.to (coeffs_in l.step l.words l.i) l.initial.out l.out l.x

@@ -4,7 +4,6 @@ use Rattle.record.proofs.SizedLaws.{sized_big}
 use borrow.Author.Rules.{rules}
 use Rattle.atom_table.proofs.table.put_atom.Goals as goal
 
-
 pub size-requires : goal.size-requires
 size-requires c = sized_big _ c.requires.1
 

@@ -9,7 +9,6 @@ use borrow.Author.Rules.{rules}
 use Rattle.base.proofs.PutLaws.{filled}
 use Rattle.base.proofs.write.clear_words.Given as goal
 
-
 abbrev pub invariant-loop-i : goal.invariant-loop-i
 invariant-loop-i l = (l.i ≤ length l.initial.out) × (length l.out ≡ length l.initial.out) × (l.out ≡ replicate l.i 0 ++ drop l.i l.initial.out)
 

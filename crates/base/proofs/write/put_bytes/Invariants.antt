@@ -8,7 +8,6 @@ use lib.Seq.{paste, paste-zero, paste-suc}
 use Rattle.base.proofs.PutLaws.{put_all}
 use Rattle.base.proofs.write.put_bytes.Given as goal
 
-
 abbrev pub invariant-loop-i : goal.invariant-loop-i
 invariant-loop-i l = (l.d ≡ paste l.initial.d l.at l.s l.i) × (l.i ≤ length l.s) × (length l.d ≡ length l.initial.d)
 

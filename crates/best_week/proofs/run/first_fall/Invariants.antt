@@ -8,7 +8,6 @@ use Rattle.best_week.specs.Run.{falls}
 use Rattle.best_week.proofs.RefusalLaws.{falls_yes, falls_no}
 use Rattle.best_week.proofs.run.first_fall.Given as goal
 
-
 abbrev pub invariant-loop-i : goal.invariant-loop-i
 invariant-loop-i l = (1 ≤ l.i) × (first_in (falls l.run) 1 l.n ≡ first_in (falls l.run) l.i l.n)
 

@@ -8,7 +8,6 @@ use Rattle.best_week.specs.Run.{filled}
 use Rattle.best_week.proofs.RefusalLaws.{filled_yes, filled_no}
 use Rattle.best_week.proofs.run.first_filled.Given as goal
 
-
 abbrev pub invariant-loop-i : goal.invariant-loop-i
 invariant-loop-i l = (l.i ≤ l.n) × (first_in (filled l.run) 0 l.n ≡ first_in (filled l.run) l.i l.n)
 

@@ -5,7 +5,6 @@ use native.Mathlib.Omega.{arith}
 use Rattle.best_week.proofs.RefusalLaws.{records_are, run_long, run_odd, run_filled, run_falls, run_accepted}
 use Rattle.best_week.proofs.run.run_refusal.Goals as goal
 
-
 pub returns-then-len-gt-RUN_BYTES : goal.returns-then-len-gt-RUN_BYTES
 returns-then-len-gt-RUN_BYTES c = sym (run_long c.args.run.now c.if-len-gt-RUN_BYTES.true)
 

@@ -7,7 +7,6 @@ use Rattle.bit_partitioner.specs.Places.{PlacesJoined}
 use Rattle.bit_partitioner.proofs.PlacesLaws.{placed_none, placed_all}
 use Rattle.bit_partitioner.proofs.places.join_places.Given as goal
 
-
 abbrev pub invariant-loop-x : goal.invariant-loop-x
 invariant-loop-x l =
     PlacesJoined l.f l.w l.x l.profile l.out × (l.x.place ≤ l.w) × (length l.out ≡ length l.initial.out)

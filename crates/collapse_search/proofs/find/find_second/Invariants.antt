@@ -8,7 +8,6 @@ use Rattle.collapse_search.specs.Links.{lent}
 use Rattle.collapse_search.proofs.FindLaws.{two_dead, two_apart, two_end, two_found, two_next}
 use Rattle.collapse_search.proofs.find.find_second.Given as goal
 
-
 abbrev pub invariant-loop-j : goal.invariant-loop-j
 invariant-loop-j l =
     (l.i + 1 ≤ l.j) × (l.j ≤ l.n)

@@ -7,7 +7,6 @@ use Rattle.collapse_search.specs.Links.{lent}
 use Rattle.collapse_search.proofs.FindLaws.{three_few, three_end, three_found, three_next}
 use Rattle.collapse_search.proofs.find.find_three.Given as goal
 
-
 abbrev pub invariant-loop-i : goal.invariant-loop-i
 invariant-loop-i l =
     (l.i ≤ l.n) × (find_first l.w (lent l.coeffs l.masks l.marks l.n) ≡ first_in (first_fits l.w (lent l.coeffs l.masks l.marks l.n)) l.i l.n)

@@ -1,7 +1,6 @@
 use Rattle.collapse_search.proofs.ThirdLaws.{rest_coeff, rest_shared, rest_first, rest_second}
 use Rattle.collapse_search.proofs.links.third_fits.Goals as goal
 
-
 pub returns-then-d-c : goal.returns-then-d-c
 returns-then-d-c c = rest_coeff _ _ _ _ _ _ _ c.if-d-c.true
 

@@ -8,7 +8,6 @@ use Rattle.collapse_search.proofs.ThirdLaws.{chase_start, chase_le, chase_less, 
 use Rattle.collapse_search.proofs.ThirdLaws.{chase_end}
 use Rattle.collapse_search.proofs.links.third_for.Given as goal
 
-
 abbrev pub invariant-loop-k : goal.invariant-loop-k
 invariant-loop-k l = Chased l.w (lent l.coeffs l.masks l.marks l.n) l.i l.j l.h l.k
 

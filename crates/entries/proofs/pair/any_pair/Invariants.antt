@@ -7,7 +7,6 @@ use Rattle.entries.specs.declared.pair.Joined.{Joined}
 use Rattle.entries.specs.Tests.{pair_in}
 use Rattle.entries.proofs.pair.any_pair.Given as goal
 
-
 abbrev pub invariant-loop-j : goal.invariant-loop-j
 invariant-loop-j l =
     (l.i + 1 ≤ l.j) × (l.j ≤ l.n) × ((k : ℕ) → l.i < k → k < l.j → pair_in l.coeffs l.masks l.marks l.w l.i k ≡ Joined.Apart)

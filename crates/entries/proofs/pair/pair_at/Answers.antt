@@ -3,7 +3,6 @@ use Rattle.entries.proofs.TestsLaws.{pair_1, pair_2, pair_3, pair_4, pair_5, pai
 use borrow.Author.Rules.{rules}
 use Rattle.entries.proofs.pair.pair_at.Goals as goal
 
-
 pub returns-then-u-eq-CONSUMED : goal.returns-then-u-eq-CONSUMED
 returns-then-u-eq-CONSUMED c = pair_1 _ _ _ _ _ _ _ c.if-u-eq-CONSUMED.true
 

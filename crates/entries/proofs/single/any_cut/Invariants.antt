@@ -8,7 +8,6 @@ use Rattle.base.proofs.BoolLaws.{false_true}
 use Rattle.entries.specs.Tests.{cut_of}
 use Rattle.entries.proofs.single.any_cut.Given as goal
 
-
 abbrev pub invariant-loop-i : goal.invariant-loop-i
 invariant-loop-i l =
     (l.i ≤ l.n)

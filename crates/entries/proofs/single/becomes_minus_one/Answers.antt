@@ -4,7 +4,6 @@ use Rattle.entries.proofs.TestsLaws.{minus_one_dead, minus_one_there, minus_one_
 use borrow.Author.Rules.{rules}
 use Rattle.entries.proofs.single.becomes_minus_one.Goals as goal
 
-
 pub returns-then-mark-eq-CONSUMED : goal.returns-then-mark-eq-CONSUMED
 returns-then-mark-eq-CONSUMED c = minus_one_dead _ _ _ _ c.if-mark-eq-CONSUMED.true
 

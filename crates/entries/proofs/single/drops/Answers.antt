@@ -3,7 +3,6 @@ use Rattle.entries.specs.Tests.{drops_of}
 use borrow.Author.Rules.{rules}
 use Rattle.entries.proofs.single.drops.Goals as goal
 
-
 pub returns-then-mark-eq-CONSUMED : goal.returns-then-mark-eq-CONSUMED
 unfolding drops_of
 returns-then-mark-eq-CONSUMED c = simp (eq-eqb _ _ c.if-mark-eq-CONSUMED.true)

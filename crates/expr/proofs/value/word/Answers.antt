@@ -4,7 +4,6 @@ use lib.ListN.{get_or-eq_default}
 use Rattle.expr.proofs.ValueLaws.{zeros_below, zeros_from}
 use Rattle.expr.proofs.value.word.Goals as goal
 
-
 pub returns-then-i-from : goal.returns-then-i-from
 returns-then-i-from c =
     sym (zeros_below c.args.vars.now c.args.from c.args.i c.if-i-from.true)

@@ -29,14 +29,13 @@ tree_span-t-requires c =
     rw c.rest_from-r.ensures c.requires.row.atom
 
 pub is_complex-requires : goal.is_complex-requires
-is_complex-requires c =
-    (
-      rw (c.tree_span-t.ensures, c.rest_from-r.ensures)
-          (first_tree_sized c.args.w _ c.requires.row.atoms_ok_lem c.requires.row.atom),
-      c.requires.row.width,
-      rw (c.tree_span-t.ensures, c.rest_from-r.ensures)
-          (first_tree_variable c.args.w _ c.requires.row.atoms_ok_lem c.requires.row.atom),
-    )
+is_complex-requires c = (
+  rw (c.tree_span-t.ensures, c.rest_from-r.ensures)
+      (first_tree_sized c.args.w _ c.requires.row.atoms_ok_lem c.requires.row.atom),
+  c.requires.row.width,
+  rw (c.tree_span-t.ensures, c.rest_from-r.ensures)
+      (first_tree_variable c.args.w _ c.requires.row.atoms_ok_lem c.requires.row.atom),
+)
 
 pub flatten_atom-requires : goal.flatten_atom-requires
 flatten_atom-requires c =

@@ -12,7 +12,6 @@ use Rattle.group.proofs.SteppedLaws.{loop_none, loop_turn, loop_done}
 use Rattle.group.proofs.CutLaws.{turn_same, turn_cut, cut_loop}
 use Rattle.group.proofs.Group.cut_masks.Given as goal
 
-
 abbrev pub invariant-loop-i : goal.invariant-loop-i
 invariant-loop-i l =
     (l.i ≤ l.n)

@@ -8,7 +8,6 @@ use Rattle.group.specs.Steps.{drop_at, drop_zero}
 use Rattle.group.proofs.DropLaws.{drop_at_same, drop_at_drop}
 use Rattle.group.proofs.Group.drop_zero.Given as goal
 
-
 abbrev pub invariant-loop-i : goal.invariant-loop-i
 invariant-loop-i l = (l.i ≤ l.n) × (l.self ≡ for_in (drop_at l.w) 0 l.i l.initial.self)
 

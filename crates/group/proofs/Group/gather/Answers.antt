@@ -78,9 +78,12 @@ loop-i-preserved c =
     let test = c.has_basis.ensures in (
       omega arith,
       for_turn (gather_at a.f.now a.views.now a.hash a.b.now) h.i _ h.invariant.1
-          (elim c.if-has_basis.branch [ then-has_basis w ↦ w.g-is ∙ sym
-          (gather_push a.f.now a.views.now a.hash a.b.now h.i h.g (sym test ∙ w.if-has_basis.true)) | else-has_basis w ↦ w.g-is ∙ sym
-          (gather_same a.f.now a.views.now a.hash a.b.now h.i h.g (sym test ∙ w.if-has_basis.false)) ]),
+          (elim c.if-has_basis.branch [
+            | then-has_basis w ↦ w.g-is ∙ sym
+                (gather_push a.f.now a.views.now a.hash a.b.now h.i h.g (sym test ∙ w.if-has_basis.true))
+            | else-has_basis w ↦ w.g-is ∙ sym
+                (gather_same a.f.now a.views.now a.hash a.b.now h.i h.g (sym test ∙ w.if-has_basis.false))
+          ]),
     )
 
 pub returns : goal.returns

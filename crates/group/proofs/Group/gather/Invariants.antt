@@ -12,7 +12,6 @@ use Rattle.views.proofs.HasBasisLaws.{readable_fewer}
 use Rattle.group.proofs.GatherLaws.{gather_same, gather_push, few_entries}
 use Rattle.group.proofs.Group.gather.Given as goal
 
-
 abbrev pub invariant-loop-i : goal.invariant-loop-i
 invariant-loop-i l = (l.i ≤ l.n) × (l.g ≡ for_in (gather_at l.f l.views l.hash l.b) 0 l.i empty_group)
 

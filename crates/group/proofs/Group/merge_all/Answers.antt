@@ -6,7 +6,6 @@ use Rattle.group.proofs.StagesLaws.{len_minus_one, merge_all_lem}
 use borrow.Author.Rules.{rules}
 use Rattle.group.proofs.Group.merge_all.Goals as goal
 
-
 pub bucket_merge-self-requires : goal.bucket_merge-self-requires
 bucket_merge-self-requires c =
     let pre = c.requires in

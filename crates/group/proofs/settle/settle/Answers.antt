@@ -19,9 +19,12 @@ loop-i-preserved c =
     let h = c.loop-i in (
       omega arith,
       for_turn (settle_word_at a.w a.from.now a.atoms.now a.marks.now) h.i _ h.invariant.1
-          (elim c.if-marks-i-ne-CONSUMED.branch [ then-marks-i-ne-CONSUMED w ↦ w.coeffs-is ∙ w.add_word.ensures ∙ sym
-          (word_live a.w a.from.now a.atoms.now a.marks.now h.i h.coeffs w.if-marks-i-ne-CONSUMED.true) | else-marks-i-ne-CONSUMED w ↦ w.coeffs-is ∙ sym
-          (word_consumed a.w a.from.now a.atoms.now a.marks.now h.i h.coeffs w.if-marks-i-ne-CONSUMED.false) ]),
+          (elim c.if-marks-i-ne-CONSUMED.branch [
+            | then-marks-i-ne-CONSUMED w ↦ w.coeffs-is ∙ w.add_word.ensures ∙ sym
+                (word_live a.w a.from.now a.atoms.now a.marks.now h.i h.coeffs w.if-marks-i-ne-CONSUMED.true)
+            | else-marks-i-ne-CONSUMED w ↦ w.coeffs-is ∙ sym
+                (word_consumed a.w a.from.now a.atoms.now a.marks.now h.i h.coeffs w.if-marks-i-ne-CONSUMED.false)
+          ]),
     )
 
 pub shape_of-coeffs : goal.shape_of-coeffs

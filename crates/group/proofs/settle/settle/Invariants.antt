@@ -10,7 +10,6 @@ use Rattle.group.specs.Gathered.{settle_word_at, settle_words}
 use Rattle.group.proofs.SettleWordsLaws.{word_consumed, word_live, length_settle}
 use Rattle.group.proofs.settle.settle.Given as goal
 
-
 abbrev pub invariant-loop-i : goal.invariant-loop-i
 invariant-loop-i l =
     (l.i ≤ l.n) × (l.coeffs ≡ for_in (settle_word_at l.w l.from l.atoms l.marks) 0 l.i l.initial.coeffs)

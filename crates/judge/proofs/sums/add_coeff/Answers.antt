@@ -13,11 +13,14 @@ pub loop-i-preserved : goal.loop-i-preserved
 loop-i-preserved c =
     let sums₀ = c.args.sums.now in
     let inside : c.loop-i.i < length sums₀ = omega (arith, c.loop-i.invariant.long) in
-    elim c.if-left-eq1.branch [ then-left-eq1 w ↦ rw w.sums-is
-    (adding_set c.args.w c.args.rows c.args.c sums₀ c.loop-i.sums c.loop-i.left
-    c.loop-i.i c.loop-i.invariant c.requires.0 inside w.if-left-eq1.true w.mod_add.ensures) | else-left-eq1 w ↦ rw w.sums-is
-    (adding_skip c.args.w c.args.rows c.args.c sums₀ c.loop-i.sums c.loop-i.left
-    c.loop-i.i c.loop-i.invariant inside c.requires.1 w.if-left-eq1.false) ]
+    elim c.if-left-eq1.branch [
+      | then-left-eq1 w ↦ rw w.sums-is
+          (adding_set c.args.w c.args.rows c.args.c sums₀ c.loop-i.sums c.loop-i.left
+          c.loop-i.i c.loop-i.invariant c.requires.0 inside w.if-left-eq1.true w.mod_add.ensures)
+      | else-left-eq1 w ↦ rw w.sums-is
+          (adding_skip c.args.w c.args.rows c.args.c sums₀ c.loop-i.sums c.loop-i.left
+          c.loop-i.i c.loop-i.invariant inside c.requires.1 w.if-left-eq1.false)
+    ]
 
 pub shape_of-sums : goal.shape_of-sums
 shape_of-sums c = c.loop-i.invariant.long

@@ -6,7 +6,6 @@ use Prim.Native.Nat.{◌-◌, ◌<◌}
 use native.Mathlib.Omega.{arith}
 use Rattle.judge.proofs.sums.add_coeff.Given as goal
 
-
 abbrev pub invariant-loop-i : goal.invariant-loop-i
 invariant-loop-i l = Adding l.w l.rows l.c l.initial.sums l.sums l.left l.i
 

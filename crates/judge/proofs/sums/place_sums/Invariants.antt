@@ -8,7 +8,6 @@ use Prim.Native.Nat.{ℕ, ◌-◌}
 use lib.ListN.{length, replicate, length-replicate}
 use Rattle.judge.proofs.sums.place_sums.Given as goal
 
-
 abbrev pub invariant-loop-x : goal.invariant-loop-x
 invariant-loop-x l = Summing l.w l.place l.vars l.f (length l.initial.sums) l.sums l.x
 

@@ -9,7 +9,6 @@ use Rattle.pairing.specs.Recovering.{partner_in}
 use Rattle.pairing.proofs.RecoveredLaws.{below_more}
 use Rattle.pairing.proofs.partner.any_partner.Given as goal
 
-
 abbrev pub invariant-loop-i : goal.invariant-loop-i
 invariant-loop-i l =
     (l.i ≤ l.n) × ((k : ℕ) → k < l.i → l.n ≤ partner_in (l.full - get_or l.masks k 0) l.masks l.marks (k + 1) l.n)

@@ -7,7 +7,6 @@ use Rattle.base.proofs.LoopLaws.{first_next, first_here, first_end}
 use Rattle.pairing.specs.Recovering.{partner_fits, partner_in}
 use Rattle.pairing.proofs.partner.partner_of.Given as goal
 
-
 abbrev pub invariant-loop-j : goal.invariant-loop-j
 invariant-loop-j l =
     (l.j ≤ l.n) × (partner_in l.m l.masks l.marks l.from l.n ≡ partner_in l.m l.masks l.marks l.j l.n)

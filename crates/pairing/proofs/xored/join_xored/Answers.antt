@@ -8,7 +8,6 @@ use Rattle.pairing.proofs.XoredLaws.{tree_sized, xor_bytes, xor_size, created_xo
 use borrow.Author.Rules.{rules}
 use Rattle.pairing.proofs.xored.join_xored.Goals as goal
 
-
 pub returns-then-more : goal.returns-then-more
 returns-then-more c =
     let a = c.args in

@@ -2,7 +2,6 @@
 use Rattle.profile.proofs.FactsLaws.{node_other, node_zero, node_shift}
 use Rattle.profile.proofs.facts.node_shift.Goals as goal
 
-
 pub returns-then-k-ne9 : goal.returns-then-k-ne9
 returns-then-k-ne9 c = node_other _ c.args.amount _ c.if-k-ne9.true
 

@@ -16,7 +16,6 @@ use Rattle.profile.proofs.IndexLaws.{trees_count, Indexing, indexing_none, index
 use Rattle.profile.proofs.IndexLaws.{here_sized, here_count, here_inside}
 use Rattle.profile.proofs.index.put_index.Given as goal
 
-
 abbrev pub invariant-loop-r : goal.invariant-loop-r
 invariant-loop-r l =
     Indexing l.f l.index l.edges l.at l.i × (length l.index ≡ length l.initial.index)

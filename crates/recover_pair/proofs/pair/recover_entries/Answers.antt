@@ -14,7 +14,7 @@ pub loop-i-init : goal.loop-i-init
 loop-i-init c = (omega arith, refl, recovered_start _ _ c.requires.makes.room)
 
 pub bounds-made-3 : goal.bounds-made-3
-bounds-made-3 c = let p = c.loop.invariant.2 in omega (arith, p.room.words)
+bounds-made-3 c = let p = c.loop-i.invariant.2 in omega (arith, p.room.words)
 
 pub shape_of-made-then-made-eq1 : goal.shape_of-made-then-made-eq1
 shape_of-made-then-made-eq1 c =

@@ -10,7 +10,6 @@ use Rattle.made.proofs.WordsLaws.{is_full, not_full, makes_later}
 use Rattle.pairing.proofs.RecoveredLaws.{recovered_start, recovered_turn, recovered_stop, recovered_done}
 use Rattle.recover_pair.proofs.pair.recover_entries.Given as goal
 
-
 abbrev pub invariant-loop-i : goal.invariant-loop-i
 invariant-loop-i l =
     (l.i ≤ l.n) × (l.n ≡ l.initial.g.len) × Recovered l.w l.i (for_in (recover_at l.w (decode l.b)) 0 l.i) l.initial.g l.initial.made l.initial.out l.g l.made l.out

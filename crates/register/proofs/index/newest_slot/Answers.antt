@@ -12,12 +12,11 @@ unfolding newest_slot
 loop-j-init c = (omega arith, refl)
 
 pub same_slot-requires : goal.same_slot-requires
-same_slot-requires c =
-    (
-      c.requires.0,
-      searchable_fewer c.args.index.now c.args.out.now (c.loop-j.j - 1 + 1)
-          c.args.n (omega arith) c.requires.1,
-    )
+same_slot-requires c = (
+  c.requires.0,
+  searchable_fewer c.args.index.now c.args.out.now (c.loop-j.j - 1 + 1)
+      c.args.n (omega arith) c.requires.1,
+)
 
 pub returns-then-same_slot : goal.returns-then-same_slot
 returns-then-same_slot c =
@@ -29,15 +28,14 @@ returns-then-same_slot c =
     c.args.n c.loop-j.j (omega arith) (sym c.same_slot.ensures ∙ c.if-same_slot.true))
 
 pub loop-j-preserved : goal.loop-j-preserved
-loop-j-preserved c =
-    (
-      omega arith,
-      c.loop-j.invariant.1
-          ∙ last_below
-          (slot_at c.args.hash (decode c.args.t.now) c.args.index.now
-          c.args.out.now)
-          c.args.n c.loop-j.j (omega arith) (sym c.same_slot.ensures ∙ c.if-same_slot.false),
-    )
+loop-j-preserved c = (
+  omega arith,
+  c.loop-j.invariant.1
+      ∙ last_below
+      (slot_at c.args.hash (decode c.args.t.now) c.args.index.now
+      c.args.out.now)
+      c.args.n c.loop-j.j (omega arith) (sym c.same_slot.ensures ∙ c.if-same_slot.false),
+)
 
 pub returns : goal.returns
 returns c =

@@ -7,7 +7,6 @@ use Rattle.register.specs.Index.{last_f, slot_at, newest_slot}
 use Rattle.register.proofs.SlotLaws.{last_below, last_here, last_end, searchable_fewer}
 use Rattle.register.proofs.index.newest_slot.Given as goal
 
-
 abbrev pub invariant-loop-j : goal.invariant-loop-j
 invariant-loop-j l =
     let slot = slot_at l.hash (decode l.t) l.index l.out in

@@ -13,15 +13,14 @@ returns-then-key-eq-NOT_PURE c =
     sym (row_key_none c.args.n c.args.key.now c.args.index.now c.if-key-eq-NOT_PURE.true)
 
 pub loop-j-init : goal.loop-j-init
-loop-j-init c =
-    (
-      omega arith,
-      row_key_search c.args.n c.args.key.now c.args.index.now c.if-key-eq-NOT_PURE.false,
-    )
+loop-j-init c = (
+  omega arith,
+  row_key_search c.args.n c.args.key.now c.args.index.now c.if-key-eq-NOT_PURE.false,
+)
 
 pub same_key-requires : goal.same_key-requires
 same_key-requires c =
-    (c.same_key-arg-1.given.0, omega (arith, c.requires))
+    (omega arith, omega (arith, c.requires))
 
 pub returns-then-same_key : goal.returns-then-same_key
 returns-then-same_key c =
@@ -31,13 +30,12 @@ returns-then-same_key c =
     c.args.n (omega arith) (sym c.same_key.ensures ∙ c.if-same_key.true))
 
 pub loop-j-preserved : goal.loop-j-preserved
-loop-j-preserved c =
-    (
-      omega arith,
-      c.loop-j.invariant.1
-          ∙ first_next (key_at c.args.key.now c.args.index.now) c.loop-j.j
-          c.args.n (omega arith) (sym c.same_key.ensures ∙ c.if-same_key.false),
-    )
+loop-j-preserved c = (
+  omega arith,
+  c.loop-j.invariant.1
+      ∙ first_next (key_at c.args.key.now c.args.index.now) c.loop-j.j
+      c.args.n (omega arith) (sym c.same_key.ensures ∙ c.if-same_key.false),
+)
 
 pub returns : goal.returns
 returns c =

@@ -8,7 +8,6 @@ use Rattle.register.specs.Index.{row_by_key}
 use Rattle.register.proofs.SlotLaws.{key_at, row_key_none, row_key_search}
 use Rattle.register.proofs.index.row_by_key.Given as goal
 
-
 abbrev pub invariant-loop-j : goal.invariant-loop-j
 invariant-loop-j l = (l.j ≤ l.n) × (row_by_key l.n l.key l.index ≡ first_in (key_at l.key l.index) l.j l.n)
 

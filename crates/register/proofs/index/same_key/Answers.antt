@@ -37,13 +37,12 @@ returns-then-index-at c =
     c.requires.1 c.requires.0 (omega arith) c.if-index-at.true)
 
 pub loop-i-preserved : goal.loop-i-preserved
-loop-i-preserved c =
-    (
-      omega arith,
-      c.loop-i.invariant.1
-          ∙ key_next c.args.j c.args.key.now c.args.index.now c.loop-i.i
-          c.requires.1 c.requires.0 (omega arith) c.if-index-at.false,
-    )
+loop-i-preserved c = (
+  omega arith,
+  c.loop-i.invariant.1
+      ∙ key_next c.args.j c.args.key.now c.args.index.now c.loop-i.i
+      c.requires.1 c.requires.0 (omega arith) c.if-index-at.false,
+)
 
 pub returns : goal.returns
 returns c =

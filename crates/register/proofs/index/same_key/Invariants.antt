@@ -8,7 +8,6 @@ use Rattle.ways.specs.Spans.{span_of}
 use Rattle.register.proofs.SlotLaws.{key_differs, key_next, key_end}
 use Rattle.register.proofs.index.same_key.Given as goal
 
-
 abbrev pub invariant-loop-i : goal.invariant-loop-i
 invariant-loop-i l =
     let words = span_of l.index (11 * l.j + 4) (11 * l.j + 11) in

@@ -5,7 +5,6 @@ use native.Mathlib.Omega.{arith}
 use borrow.Author.Rules.{rules}
 use Rattle.semilinear.proofs.items.atom_length.Goals as goal
 
-
 pub front_number-size-requires : goal.front_number-size-requires
 front_number-size-requires c = (atom_room _ c.requires).big
 

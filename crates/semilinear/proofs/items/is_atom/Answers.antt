@@ -4,7 +4,6 @@ use borrow.Author.Tests.{lt-leb, le-leb, ne_eqb, eq-eqb}
 use borrow.Author.Rules.{rules}
 use Rattle.semilinear.proofs.items.is_atom.Goals as goal
 
-
 pub returns-then-n-lt-RECORD_LENGTH_U64 : goal.returns-then-n-lt-RECORD_LENGTH_U64
 unfolding is_atom
 returns-then-n-lt-RECORD_LENGTH_U64 c = simp (lt-leb _ _ c.if-n-lt-RECORD_LENGTH_U64.true)

@@ -4,7 +4,6 @@ use borrow.Author.Tests.{lt-leb, le-leb}
 use borrow.Author.Rules.{rules}
 use Rattle.semilinear.proofs.items.is_term.Goals as goal
 
-
 pub returns-then-q-lt-RECORD_LENGTH : goal.returns-then-q-lt-RECORD_LENGTH
 unfolding is_term
 returns-then-q-lt-RECORD_LENGTH c = simp (lt-leb _ _ c.if-q-lt-RECORD_LENGTH.true)

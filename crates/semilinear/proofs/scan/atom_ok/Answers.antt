@@ -5,7 +5,6 @@ use borrow.Author.Tests.{eq-eqb, ne_eqb, le-leb, lt-leb}
 use borrow.Author.Rules.{rules}
 use Rattle.semilinear.proofs.scan.atom_ok.Goals as goal
 
-
 pub provenance-requires : goal.provenance-requires
 provenance-requires c = (atom_room _ c.requires).big
 

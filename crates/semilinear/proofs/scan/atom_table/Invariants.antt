@@ -10,7 +10,6 @@ use Rattle.semilinear.proofs.ItemsLaws.{atom_room}
 use Rattle.semilinear.proofs.ScanLaws.{Scanned, passed_none, passed_table, passed_atom, atom_inside}
 use Rattle.semilinear.proofs.scan.atom_table.Given as goal
 
-
 abbrev pub invariant-loop-r : goal.invariant-loop-r
 invariant-loop-r l = Scanned l.f l.at l.count l.records
 

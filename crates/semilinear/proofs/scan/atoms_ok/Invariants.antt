@@ -11,7 +11,6 @@ use Rattle.semilinear.proofs.ItemsLaws.{fold_done}
 use Rattle.semilinear.proofs.ScanLaws.{atom_inside, atoms_ok_next, atoms_ok_stop}
 use Rattle.semilinear.proofs.scan.atoms_ok.Given as goal
 
-
 abbrev pub invariant-loop-r : goal.invariant-loop-r
 invariant-loop-r l = (l.at ≤ length l.f) × (atoms_ok l.w l.f ≡ atoms_ok l.w (drop l.at l.f))
 

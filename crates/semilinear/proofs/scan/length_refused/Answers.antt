@@ -4,7 +4,6 @@ use borrow.Author.Tests.{eq-eqb, ne_eqb, lt-ltb, le-ltb}
 use borrow.Author.Rules.{rules}
 use Rattle.semilinear.proofs.scan.length_refused.Goals as goal
 
-
 pub returns-then-n-eq0 : goal.returns-then-n-eq0
 unfolding length_refused
 returns-then-n-eq0 c = simp (eq-eqb _ _ c.if-n-eq0.true)

@@ -4,7 +4,6 @@ use borrow.Author.Tests.{eq-eqb, ne_eqb, le-leb, lt-leb}
 use borrow.Author.Rules.{rules}
 use Rattle.semilinear.proofs.scan.sum_ok.Goals as goal
 
-
 pub returns-then-s-lt-RECORD_LENGTH : goal.returns-then-s-lt-RECORD_LENGTH
 unfolding sum_ok
 returns-then-s-lt-RECORD_LENGTH c = simp (lt-leb _ _ c.if-s-lt-RECORD_LENGTH.true)

@@ -5,7 +5,6 @@ use borrow.Author.Tests.{eq-eqb, ne_eqb, le-leb, lt-leb, lt-ltb, le-ltb}
 use borrow.Author.Rules.{rules}
 use Rattle.semilinear.proofs.scan.term_ok.Goals as goal
 
-
 pub provenance-requires : goal.provenance-requires
 provenance-requires c = term_big _ c.requires
 

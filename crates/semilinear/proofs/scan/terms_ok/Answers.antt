@@ -66,18 +66,17 @@ loop-at-smaller c =
     )
 
 pub loop-at-preserved : goal.loop-at-preserved
-loop-at-preserved c =
-    (
-      term_inside c.args.w c.args.n c.loop-at.next c.args.q.now
-          c.loop-at.at _ c.rest_from-rest.ensures
-          (sym c.is_term.ensures ∙ c.if-not-is_term.false) c.loop-at.invariant.0,
-      rw c.front_number-next.ensures.0
-          (c.loop-at.invariant.1
-          ∙ terms_ok_next c.args.w c.args.n c.loop-at.next c.args.q.now
-          c.loop-at.at _ c.rest_from-rest.ensures
-          (sym c.is_term.ensures ∙ c.if-not-is_term.false)
-          (sym c.term_ok.ensures ∙ c.if-not-term_ok.false)),
-    )
+loop-at-preserved c = (
+  term_inside c.args.w c.args.n c.loop-at.next c.args.q.now
+      c.loop-at.at _ c.rest_from-rest.ensures
+      (sym c.is_term.ensures ∙ c.if-not-is_term.false) c.loop-at.invariant.0,
+  rw c.front_number-next.ensures.0
+      (c.loop-at.invariant.1
+      ∙ terms_ok_next c.args.w c.args.n c.loop-at.next c.args.q.now
+      c.loop-at.at _ c.rest_from-rest.ensures
+      (sym c.is_term.ensures ∙ c.if-not-is_term.false)
+      (sym c.term_ok.ensures ∙ c.if-not-term_ok.false)),
+)
 
 pub returns : goal.returns
 returns c =

@@ -12,7 +12,6 @@ use Rattle.semilinear.proofs.ValidLaws.{terms_end, terms_other}
 use Rattle.semilinear.proofs.ScanLaws.{term_inside, terms_ok_next, terms_ok_stop}
 use Rattle.semilinear.proofs.scan.terms_ok.Given as goal
 
-
 abbrev pub invariant-loop-at : goal.invariant-loop-at
 invariant-loop-at l = (l.at ≤ length l.q) × (terms_ok l.w l.n 0 l.q ≡ terms_ok l.w l.n l.next (drop l.at l.q))
 

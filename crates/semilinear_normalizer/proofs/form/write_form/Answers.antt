@@ -9,11 +9,10 @@ use borrow.Author.Rules.{rules}
 use Rattle.semilinear_normalizer.proofs.form.write_form.Goals as goal
 
 pub register_all-table-requires : goal.register_all-table-requires
-register_all-table-requires c =
-    (
-      c.requires.0,
-      c.clear.ensures ∙ ap (λ (n : ℕ). replicate n 0) c.requires.1 ∙ padded_nil 57360,
-    )
+register_all-table-requires c = (
+  c.requires.0,
+  c.clear.ensures ∙ ap (λ (n : ℕ). replicate n 0) c.requires.1 ∙ padded_nil 57360,
+)
 
 pub finish-requires : goal.finish-requires
 finish-requires c =

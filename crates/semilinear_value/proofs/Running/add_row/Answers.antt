@@ -36,12 +36,11 @@ tree_span-requires c =
     rw c.rest_from-r.ensures c.requires.row.atom
 
 pub value_at-atom-requires : goal.value_at-atom-requires
-value_at-atom-requires c =
-    (
-      rw (c.tree_span.ensures, c.rest_from-r.ensures)
-          (first_tree_sized c.args.w _ c.requires.row.atoms_ok_lem c.requires.row.atom),
-      c.requires.row.width,
-    )
+value_at-atom-requires c = (
+  rw (c.tree_span.ensures, c.rest_from-r.ensures)
+      (first_tree_sized c.args.w _ c.requires.row.atoms_ok_lem c.requires.row.atom),
+  c.requires.row.width,
+)
 
 pub front_word-requires : goal.front_word-requires
 front_word-requires c =

@@ -15,7 +15,7 @@ pub loop-k-init : goal.loop-k-init
 loop-k-init c = (omega arith, going_start _ _ _ _ _ _ c.requires.room)
 
 pub bounds-made-3 : goal.bounds-made-3
-bounds-made-3 c = let p = c.loop.invariant.1 in omega (arith, p.room.words)
+bounds-made-3 c = let p = c.loop-k.invariant.1 in omega (arith, p.room.words)
 
 pub shape_of-made-then-made-eq1 : goal.shape_of-made-then-made-eq1
 shape_of-made-then-made-eq1 c = c.loop-k.invariant.1.room.words ∙ sym

@@ -11,7 +11,6 @@ use Rattle.made.proofs.WordsLaws.{is_full, not_full}
 use Rattle.structure_recovery.proofs.AllRecoveredLaws.{Going, going_start, going_next, going_stop, going_done}
 use Rattle.structure_recovery.proofs.recover.recover_all.Given as goal
 
-
 abbrev pub invariant-loop-k : goal.invariant-loop-k
 invariant-loop-k l =
     (l.k ≤ l.count)

@@ -8,7 +8,6 @@ use Rattle.structure_recovery.proofs.RecoverEndLaws.{recover_room, recover_end}
 use borrow.Author.Rules.{rules}
 use Rattle.structure_recovery.proofs.recover.recover_form.Goals as goal
 
-
 pub width-w-requires : goal.width-w-requires
 width-w-requires c = (semilinear_parts _ c.requires.0).0.big
 

@@ -19,9 +19,12 @@ joined1 : (c : Joined-any_partner)
     c.gather-g.result c.args.made.now c.args.out.now c.if-any_partner.g c.if-any_partner.made
     c.if-any_partner.out
 joined1 c =
-    elim c.if-any_partner.branch [ then-any_partner w ↦ recovered_met w.made-is w.out-is w.g-is w.recover_entries-g.ensures | else-any_partner w ↦ recovered_met w.made-is w.out-is w.g-is
-    (recovered_none _ (c.bitmask-full.ensures ∙ bitmask_ones c.args.w c.requires.makes.width)
-    (c.any_partner.ensures w.if-any_partner.false) c.requires.makes.room) ]
+    elim c.if-any_partner.branch [
+      | then-any_partner w ↦ recovered_met w.made-is w.out-is w.g-is w.recover_entries-g.ensures
+      | else-any_partner w ↦ recovered_met w.made-is w.out-is w.g-is
+          (recovered_none _ (c.bitmask-full.ensures ∙ bitmask_ones c.args.w c.requires.makes.width)
+          (c.any_partner.ensures w.if-any_partner.false) c.requires.makes.room)
+    ]
 
 pub any_partner-requires : goal.any_partner-requires
 any_partner-requires c = few_entries _ _ _ _ _ c.gather-g.ensures

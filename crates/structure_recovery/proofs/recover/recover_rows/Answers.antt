@@ -5,7 +5,6 @@ use Rattle.structure_recovery.proofs.AllRecoveredLaws.{read_any, rows_recovered_
 use borrow.Author.Rules.{rules}
 use Rattle.structure_recovery.proofs.recover.recover_rows.Goals as goal
 
-
 pub read_views-n-requires : goal.read_views-n-requires
 read_views-n-requires c =
     rows_views c.requires

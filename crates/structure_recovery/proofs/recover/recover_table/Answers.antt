@@ -4,7 +4,6 @@ use Rattle.group.proofs.PassLaws.{form_fewer}
 use borrow.Author.Rules.{rules}
 use Rattle.structure_recovery.proofs.recover.recover_table.Goals as goal
 
-
 pub recover_short-requires : goal.recover_short-requires
 recover_short-requires c =
     let pre = c.requires in

@@ -3,7 +3,6 @@ use mathlib.Core.Path.{refl}
 use Rattle.ways.specs.Marks.{mark_variable}
 use Rattle.ways.proofs.marks.has_variable.Goals as goal
 
-
 pub returns : goal.returns
 unfolding mark_variable
 returns c = refl

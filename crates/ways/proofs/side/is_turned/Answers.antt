@@ -4,7 +4,6 @@ use borrow.Author.Rules.{rules}
 use Rattle.ways.proofs.WayLaws.{turned_off, turned_other, turned_on}
 use Rattle.ways.proofs.side.is_turned.Goals as goal
 
-
 pub returns-then-not-nots : goal.returns-then-not-nots
 returns-then-not-nots c = turned_off _ _ c.if-not-nots.true
 

@@ -7,7 +7,6 @@ use Rattle.atom_table.proofs.TableLaws.{create_full, create_past, fits_more_coun
 use borrow.Author.Rules.{rules}
 use Rattle.atom_table.proofs.table.Table.create_atom.Goals as goal
 
-
 pub returns-then-self : goal.returns-then-self
 returns-then-self c =
     let a = c.args in

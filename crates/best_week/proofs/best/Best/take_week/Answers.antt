@@ -5,7 +5,6 @@ use Rattle.best_week.proofs.SignedLaws.{back, back_lower}
 use Rattle.best_week.proofs.BestLaws.{new, take_first, take_lower, take_none}
 use Rattle.best_week.proofs.best.Best.take_week.Goals as goal
 
-
 pub returns-then-not-found : goal.returns-then-not-found
 returns-then-not-found c =
     let x = c.args.self in

@@ -35,34 +35,34 @@ shape_of-spots-then-not-way t c =
 pub returns-then-not-way : goal.returns-then-not-way
 returns-then-not-way t c =
     let going = c.loop-way.invariant in
-    let ends = down_ends going.at c.way_down-way.ensures c.if-not-way.true in
+    let ends = down_ends going.at c.way_down-way.ensures (not-true _ c.if-not-way.true) in
     going.rest (collects_as (ends_as _ _ _ _ ends) c.collect_end.ensures)
 
 pub slice_bounds-seen-count : goal.slice_bounds-seen-count
 slice_bounds-seen-count t c =
     let going = c.loop-way.invariant in
-    let found = c.if-not-way.false in
+    let found = not-false _ c.if-not-way.false in
     let side = (down_child going.at c.way_down-way.ensures found).side in
     side.from_le
 
 pub loop-way-smaller-then-not-way-2 : goal.loop-way-smaller-then-not-way-2
 loop-way-smaller-then-not-way-2 t c =
     let going = c.loop-way.invariant in
-    let found = c.if-not-way.false in
+    let found = not-false _ c.if-not-way.false in
     down_falls going.at (down_child going.at c.way_down-way.ensures found) c.side_spot-next.ensures
 
 pub loop-way-preserved-then-not-way-2 : goal.loop-way-preserved-then-not-way-2
 unfolding span_of
 loop-way-preserved-then-not-way-2 t c =
     let going = c.loop-way.invariant in
-    let found = c.if-not-way.false in
+    let found = not-false _ c.if-not-way.false in
     going_child going c.way_down-way.ensures found c.side_spot-next.ensures
-    c.if-not-way-2.true c.turn-done.ensures refl
+    (not-true _ c.if-not-way-2.true) c.turn-done.ensures refl
 
 pub slice_bounds-collect_terms-count : goal.slice_bounds-collect_terms-count
 slice_bounds-collect_terms-count t c =
     let going = c.loop-way.invariant in
-    let found = c.if-not-way.false in
+    let found = not-false _ c.if-not-way.false in
     let side = (down_child going.at c.way_down-way.ensures found).side in
     side.from_le
 
@@ -70,7 +70,7 @@ pub collect_terms-done-requires : goal.collect_terms-done-requires
 unfolding span_of
 collect_terms-done-requires t c =
     let going = c.loop-way.invariant in
-    let found = c.if-not-way.false in
+    let found = not-false _ c.if-not-way.false in
     let down = down_child going.at c.way_down-way.ensures found in
     let spot = c.side_spot-next.ensures in (
       omega (arith, down_falls going.at down spot, going.falls),
@@ -86,13 +86,13 @@ shape_of-spots-then-not-done t c =
 pub returns-then-not-done : goal.returns-then-not-done
 returns-then-not-done t c =
     let going = c.loop-way.invariant in
-    let found = c.if-not-way.false in
+    let found = not-false _ c.if-not-way.false in
     let first = c.collect_terms-done.ensures in
     let spot = c.side_spot-next.ensures in
-    let more = c.if-not-way-2.false in
+    let more = not-false _ c.if-not-way-2.false in
     going.rest
     (down_stop going.at c.way_down-way.ensures found going.ready.width spot first more
-    c.if-not-done.true)
+    (not-true _ c.if-not-done.true))
 
 pub span_of-requires : goal.span_of-requires
 span_of-requires t c =
@@ -107,10 +107,10 @@ kind-k-requires t c =
 pub collect_masked-requires : goal.collect_masked-requires
 collect_masked-requires t c =
     let going = c.loop-way.invariant in
-    let found = c.if-not-way.false in
+    let found = not-false _ c.if-not-way.false in
     let first = c.collect_terms-done.ensures in
     let spot = c.side_spot-next.ensures in
-    let more = c.if-not-way-2.false in
+    let more = not-false _ c.if-not-way-2.false in
     let kinds = c.kind-k.ensures ∙ ap kind c.span_of.ensures in
     let way = c.way_down-way.ensures in
     let hw = going.ready.width in
@@ -119,7 +119,7 @@ collect_masked-requires t c =
       span = literal.side;
       ready =
           down_ready_literal going.at way found hw spot first more (λ e. c.if-k-ne2.true (kinds ∙ e))
-          going.ready c.if-not-done.false;
+          going.ready (not-false _ c.if-not-done.false);
       value_lt = literal.value_lt;
       variable = literal.variable;
     }
@@ -133,10 +133,10 @@ shape_of-spots-then-k-ne2 t c =
 pub returns-then-k-ne2 : goal.returns-then-k-ne2
 returns-then-k-ne2 t c =
     let going = c.loop-way.invariant in
-    let found = c.if-not-way.false in
+    let found = not-false _ c.if-not-way.false in
     let first = c.collect_terms-done.ensures in
     let spot = c.side_spot-next.ensures in
-    let more = c.if-not-way-2.false in
+    let more = not-false _ c.if-not-way-2.false in
     let kinds = c.kind-k.ensures ∙ ap kind c.span_of.ensures in
     going.rest
     (down_masked going.at c.way_down-way.ensures found going.ready.width spot first more
@@ -165,38 +165,50 @@ pub loop-way-preserved : goal.loop-way-preserved
 unfolding span_of
 loop-way-preserved t c =
     let going = c.loop-way.invariant in
-    let found = c.if-not-way.false in
+    let found = not-false _ c.if-not-way.false in
     let first = c.collect_terms-done.ensures in
     let spot = c.side_spot-next.ensures in
     let two = kind_read c.span_of.ensures c.kind-k.ensures c.if-k-ne2.false in
-    let more = c.if-not-way-2.false in
-    going_right going c.way_down-way.ensures found spot more two first c.if-not-done.false
+    let more = not-false _ c.if-not-way-2.false in
+    going_right going c.way_down-way.ensures found spot more two first (not-false _ c.if-not-done.false)
     c.right_side-right.ensures.0 c.side_spot-here.ensures refl
 
 pub slice_bounds-seen-start : goal.slice_bounds-seen-start
 slice_bounds-seen-start t c =
     let going = c.loop-way.invariant in
-    let found = c.if-not-way.false in
+    let found = not-false _ c.if-not-way.false in
     let side = (down_child going.at c.way_down-way.ensures found).side in
     side.from_le
 
 pub slice_bounds-seen-end : goal.slice_bounds-seen-end
 slice_bounds-seen-end t c =
     let going = c.loop-way.invariant in
-    let found = c.if-not-way.false in
+    let found = not-false _ c.if-not-way.false in
     let side = (down_child going.at c.way_down-way.ensures found).side in
     side.to_le
 
 pub slice_bounds-collect_terms-start : goal.slice_bounds-collect_terms-start
 slice_bounds-collect_terms-start t c =
     let going = c.loop-way.invariant in
-    let found = c.if-not-way.false in
+    let found = not-false _ c.if-not-way.false in
     let side = (down_child going.at c.way_down-way.ensures found).side in
     side.from_le
 
 pub slice_bounds-collect_terms-end : goal.slice_bounds-collect_terms-end
 slice_bounds-collect_terms-end t c =
     let going = c.loop-way.invariant in
-    let found = c.if-not-way.false in
+    let found = not-false _ c.if-not-way.false in
     let side = (down_child going.at c.way_down-way.ensures found).side in
     side.to_le
+
+pub slice_bounds-seen-start-in-loop-way : goal.slice_bounds-seen-start-in-loop-way
+slice_bounds-seen-start-in-loop-way t c =
+    let going = c.loop-way.invariant in
+    let two = kind_read c.span_of.ensures c.kind-k.ensures c.if-k-ne2.false in
+    (down_right going.at two c.right_side-right.ensures.0).side.from_le
+
+pub slice_bounds-seen-end-in-loop-way : goal.slice_bounds-seen-end-in-loop-way
+slice_bounds-seen-end-in-loop-way t c =
+    let going = c.loop-way.invariant in
+    let two = kind_read c.span_of.ensures c.kind-k.ensures c.if-k-ne2.false in
+    (down_right going.at two c.right_side-right.ensures.0).side.to_le

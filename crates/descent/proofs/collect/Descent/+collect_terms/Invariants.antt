@@ -18,7 +18,7 @@ use Rattle.descent.proofs.CollectsLaws.{collects_as}
 use Rattle.descent.proofs.collect.Descent.+collect_terms.Given as goal
 
 abbrev pub decreases-collect_terms : goal.decreases-collect_terms
-decreases-collect_terms l = size (span_of l.x.1.0.now l.x.0.start l.x.0.end)
+decreases-collect_terms l = size (span_of l.file.now l.x.start l.x.end)
 
 abbrev pub invariant-loop-way : goal.invariant-loop-way
 invariant-loop-way l =

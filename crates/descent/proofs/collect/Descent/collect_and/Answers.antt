@@ -15,7 +15,6 @@ use Rattle.descent.proofs.CollectsLaws.{collects_as}
 use borrow.Author.Rules.{rules}
 use Rattle.descent.proofs.collect.Descent.collect_and.Goals as goal
 
-
 pub side_of-side-requires : goal.side_of-side-requires
 side_of-side-requires c =
     (c.requires.0.spot, c.requires.0.ready.width, and_binary _ c.requires.1)

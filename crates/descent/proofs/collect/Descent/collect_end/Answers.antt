@@ -16,7 +16,6 @@ use Rattle.descent.proofs.WayDownLaws.{end_zero, end_constant, end_whole}
 use borrow.Author.Rules.{rules}
 use Rattle.descent.proofs.collect.Descent.collect_end.Goals as goal
 
-
 pub returns-then-coeff-eq0 : goal.returns-then-coeff-eq0
 returns-then-coeff-eq0 c =
     collects_as (end_zero _ _ _ c.if-coeff-eq0.true) (collects_none _ _ _ _ _ c.requires.1)

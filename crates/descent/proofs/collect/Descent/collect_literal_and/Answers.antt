@@ -9,7 +9,6 @@ use Rattle.descent.proofs.PushLaws.{literal_and_zero, literal_and_plain, literal
 use borrow.Author.Rules.{rules}
 use Rattle.descent.proofs.collect.Descent.collect_literal_and.Goals as goal
 
-
 pub returns-then-coeff-eq0 : goal.returns-then-coeff-eq0
 returns-then-coeff-eq0 c =
     literal_and_zero _ _ _ _ c.requires.ready _ _ _ c.if-coeff-eq0.true

@@ -31,12 +31,11 @@ returns-then-has_arith c =
 
 pub collect_and-requires : goal.collect_and-requires
 unfolding span_of
-collect_and-requires c =
-    (
-      c.requires,
-      is_and _ (accepted_big _ _ c.requires.spot.span.tree)
-          (sym c.kind-k.ensures ∙ c.if-k-eq4.true),
-    )
+collect_and-requires c = (
+  c.requires,
+  is_and _ (accepted_big _ _ c.requires.spot.span.tree)
+      (sym c.kind-k.ensures ∙ c.if-k-eq4.true),
+)
 
 pub returns-then-k-eq4 : goal.returns-then-k-eq4
 unfolding span_of

@@ -4,7 +4,6 @@ use borrow.Author.Rules.{rules}
 use Rattle.descent.proofs.WayDownLaws.{turn_off, turn_on}
 use Rattle.descent.proofs.collect.Descent.turn.Goals as goal
 
-
 pub returns-then-not-turned : goal.returns-then-not-turned
 returns-then-not-turned c = turn_off _ _ _ _ c.if-not-turned.true
 
