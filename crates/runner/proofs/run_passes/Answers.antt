@@ -42,7 +42,7 @@ run_from-requires c =
       run_start c.args.expr.now c.args.calls.now (length c.args.sheet.now) (length c.args.spare.now)
           normal.result normal.new.out normal.ensures
           c.if-found-eq1.false c.if-found-eq2.false (list_is _ _ normal.auto.out c.is_list.ensures c.if-not-is_list.false)
-          (λ i. (c.shared_slice_known-1.given i).fits) c.if-found-ne0.false,
+          (λ i. (c.type_inv.expr i).fits) c.if-found-ne0.false,
     )
 
 pub returns : goal.returns
@@ -52,4 +52,4 @@ returns c =
     run_end c.args.expr.now c.args.calls.now (length c.args.sheet.now) (length c.args.spare.now)
     normal.result normal.new.out normal.ensures
     c.if-found-eq1.false c.if-found-eq2.false (list_is _ _ normal.auto.out c.is_list.ensures c.if-not-is_list.false)
-    (λ i. (c.shared_slice_known-1.given i).fits) c.if-found-ne0.false run.result _ run.ensures
+    (λ i. (c.type_inv.expr i).fits) c.if-found-ne0.false run.result _ run.ensures
