@@ -1,2 +1,2 @@
 -- The laws that the functions of the crate cite.
-mod AnswerLaws
+pub mod AnswerLaws

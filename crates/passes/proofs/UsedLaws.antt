@@ -10,7 +10,7 @@ use lib.Seq.{length-take-le}
 use Rattle.base.specs.Choice.{when}
 use Rattle.base.specs.Put.{padded}
 use Rattle.base.proofs.LoopLaws.{when_both}
-use Rattle.io.specs.Counts.{IsPrefixLen}
+use Rattle.std.specs.Counts.{IsPrefixLen}
 use Rattle.semilinear.specs.declared.outcome.Answer.{Answer}
 use Rattle.base.specs.Outcome.{Outcome, accepted, refused, refusal_of, numbers_of, written_of}
 use Rattle.semilinear.specs.Answers.{GivesForm}

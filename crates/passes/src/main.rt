@@ -7,26 +7,54 @@
 // Without arguments each of the five runs once, in the order in which document 01 names them:
 // refining, recovering, coalescing, flattening, and compacting last, since the others leave atoms
 // that no term uses.
+//
+// It ends with an error where a read or a write fails.
 #![tactic(auto)]
 
 mod names;
 
-ghost use Rattle.std.specs.Prelude.{◌≡◌, ◌+◌, ◌*◌, ◌≤◌, ◌<◌, length};
-ghost use Rattle.io.specs.Counts.{IsPrefixLen};
+ghost use Rattle.std.specs.Prelude.{◌≡◌, ◌+◌, ◌*◌, ◌≤◌, ◌<◌, length, IfOk, OnErr};
+ghost use Rattle.std.specs.Counts.{IsPrefixLen};
+ghost use Rattle.io_form.specs.Used.{IsCleared};
 
 use base::limits;
+use std::env::{Env, FillError};
+use std::io;
+
+// The most arguments that are counted, the program's name and one too many among them.
+const MOST_COUNTED: usize = 258;
+
+// How many arguments there are, and the program's name; no more than MOST_COUNTED are counted.
+fn arg_count(rt: &impl Env) -> usize {
+    let mut name = [0u8; 32];
+    for i in 0..MOST_COUNTED {
+        if let Err(FillError::NotPresent) = rt.arg(i, &mut name) {
+            return i;
+        }
+    }
+    MOST_COUNTED
+}
+
+// Puts argument i at the start of name, and gives its length; 0 where there is none, and where it
+// is longer than name.
+fn arg(rt: &impl Env, i: usize, name: &mut [u8]) -> usize
+    ensures { IsPrefixLen result name.new }
+{
+    match rt.arg(i, name) {
+        Ok(n) => n,
+        Err(_) => 0,
+    }
+}
 
 // The pass that argument i names, or 0.
-fn arg_pass(i: usize) -> u64 {
+fn arg_pass(rt: &(impl Env + Eprint), i: usize) -> io::Result<u64> {
     let mut name = [0u8; 32];
-    let n = os::arg(i, &mut name);
+    let n = arg(rt, i, &mut name);
     let pass = names::pass_number(&name[..n]);
     if pass == 0 {
-        io::write_all(2, b"passes: no pass is named by argument ");
-        io::print_decimal(2, i as u64);
-        io::write_all(2, b"\n");
+        eprint!(rt; "passes: no pass is named by argument {i}\n")?;
     }
-    pass
+    Ok(pass)
 }
 
 // Call k of the list: the pass, and a result slice of the one length that is accepted.
@@ -38,14 +66,15 @@ fn put_call(k: usize, pass: u64, calls: &mut [u64])
 }
 
 // The calls that the first arguments name, n of them.
-fn put_named(n: usize, calls: &mut [u64])
+fn put_named(rt: &(impl Env + Eprint), n: usize, calls: &mut [u64]) -> io::Result<()>
     requires { 2 * n ≤ length calls.old }
 {
     let mut k = 0;
     while k < n {
-        put_call(k, arg_pass(k + 1), calls);
+        put_call(k, arg_pass(rt, k + 1)?, calls);
         k += 1;
     }
+    Ok(())
 }
 
 // The list that is run where there are no arguments.
@@ -61,45 +90,52 @@ fn put_usual(calls: &mut [u64])
 
 // Puts the list in calls and gives its length in words. With too many arguments it is a call of
 // pass 0, which there is not.
-fn read_list(calls: &mut [u64]) -> usize
+fn read_list(rt: &(impl Env + Eprint), calls: &mut [u64]) -> io::Result<usize>
     requires { 512 ≡ length calls.old }
-    ensures { IsPrefixLen result calls.new }
+    ensures { IfOk result (λ n. IsPrefixLen n calls.new) }
 {
-    let count = os::arg_count();
+    let count = arg_count(rt);
     if count < 2 {
         put_usual(calls);
-        return 10;
+        return Ok(10);
     }
     let n = count - 1;
     if n > 256 {
-        io::write_all(2, b"passes: more than 256 arguments\n");
+        eprint!(rt; "passes: more than 256 arguments\n")?;
         put_call(0, 0, calls);
-        return 2;
+        return Ok(2);
     }
-    put_named(n, calls);
-    2 * n
+    put_named(rt, n, calls)?;
+    Ok(2 * n)
 }
 
 // The bytes of sheet that the last form uses; or none, and the refusal is printed.
-fn run_or_print(t: &[u8], calls: &[u64], sheet: &mut [u8], spare: &mut [u8]) -> usize
-    ensures { IsPrefixLen result sheet.new }
+fn run_or_print(
+    rt: &impl Print,
+    t: &[u8],
+    calls: &[u64],
+    sheet: &mut [u8],
+    spare: &mut [u8],
+) -> io::Result<usize>
+    ensures ok { IfOk result (λ n. IsPrefixLen n sheet.new) }
+    ensures err { OnErr result (IsCleared sheet.old sheet.new) }
 {
     let answer = runner::run_passes(t, calls, sheet, spare);
     if answer.refusal != 0 {
-        io_form::print_refusal(answer.refusal);
-        return 0;
+        io_form::print_refusal(rt, answer.refusal)?;
+        return Ok(0);
     }
-    answer.used as usize
+    Ok(answer.used as usize)
 }
 
 // Room for one byte more than the longest expression has, so that input past it is refused.
-fn main() {
+fn main(rt: HostRuntime) -> io::Result<()> {
     let mut bytes = [0u8; io_form::INPUT_BYTES];
     let mut calls = [0u64; 512];
     let mut sheet = [0u8; limits::FORM_BYTES];
     let mut spare = [0u8; limits::FORM_BYTES];
-    let n = io::read_full(0, &mut bytes);
-    let words = read_list(&mut calls);
-    let used = run_or_print(&bytes[..n], &calls[..words], &mut sheet, &mut spare);
-    io::write_all(1, &sheet[..used]);
+    let n = io_form::read_full(&mut rt.reader(), &mut bytes)?;
+    let words = read_list(&rt, &mut calls)?;
+    let used = run_or_print(&rt, &bytes[..n], &calls[..words], &mut sheet, &mut spare)?;
+    rt.write_all(&sheet[..used])
 }

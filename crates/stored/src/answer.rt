@@ -1,5 +1,5 @@
 // What is expected of an entry, or what was found.
-#[derive(Drop)]
+#[derive(Clone, Copy)]
 pub struct Answer {
     pub refusal: u64,
     pub value: u64,

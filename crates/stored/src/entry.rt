@@ -1,11 +1,14 @@
 // One entry: read, counted and compared.
-ghost use Rattle.std.specs.Prelude.{◌≡◌, ◌+◌, ◌-◌, ◌*◌, ◌%◌, ◌^◌, ◌<◌, ◌≤◌, length};
+ghost use Rattle.std.specs.Prelude.{◌≡◌, ◌+◌, ◌-◌, ◌*◌, ◌%◌, ◌^◌, ◌<◌, ◌≤◌, length, OnErr};
+ghost use Rattle.io_form.specs.Reads.{HoldsRead};
 
 use crate::answer::Answer;
 use crate::report;
+use std::io;
+use std::io::Read;
 
 // The head of an entry: its type, how many words and bytes follow, what is expected.
-#[derive(Drop)]
+#[derive(Clone, Copy)]
 pub struct Head {
     pub kind: u8,
     pub words: u16,
@@ -48,10 +51,11 @@ pub fn padded(n: usize) -> usize
 }
 
 // Reads size bytes to the front of bytes; false where the file ends before.
-pub fn read_payload(bytes: &mut [u8], size: usize) -> bool
+pub fn read_payload<R: Read>(reader: &mut R, bytes: &mut [u8], size: usize) -> io::Result<bool>
     requires { size ≤ length bytes.old }
+    ensures err { OnErr result (HoldsRead (R.remaining reader.old) (R.remaining reader.new) bytes.new) }
 {
-    io::read_full(0, &mut bytes[..size]) == size
+    Ok(io_form::read_full(reader, &mut bytes[..size])? == size)
 }
 
 // Copies the first count words of bytes, little-endian.
@@ -74,45 +78,56 @@ fn count(counts: &mut [u64; 18], kind: u8)
 }
 
 // Counts a difference; the first five of a type are printed.
-fn differ(at: u64, head: Head, found: Answer, differences: &mut [u64; 18])
+fn differ(
+    rt: &impl Print,
+    at: u64,
+    head: Head,
+    found: Answer,
+    differences: &mut [u64; 18],
+) -> io::Result<()>
     requires { head.kind < 18 }
+    ensures err { OnErr result (differences.new ≡ differences.old) }
 {
     let k = head.kind as usize;
     if differences[k] < 5 {
-        report::difference(at, head, found);
+        report::difference(rt, at, head, found)?;
     }
     count(differences, head.kind);
+    Ok(())
 }
 
 // Counts an entry, and compares what was found with what is expected.
+// An error leaves the entry counted, and no difference.
 pub fn compare(
+    rt: &impl Print,
     at: u64,
     head: Head,
     found: Answer,
     entries: &mut [u64; 18],
     differences: &mut [u64; 18],
-)
+) -> io::Result<()>
     requires { head.kind < 18 }
+    ensures err { OnErr result (differences.new ≡ differences.old) }
 {
     count(entries, head.kind);
     let expected = head.expected;
     if expected.refusal != found.refusal {
-        differ(at, head, found, differences);
-        return;
+        return differ(rt, at, head, found, differences);
     }
     if expected.value != found.value {
-        differ(at, head, found, differences);
+        return differ(rt, at, head, found, differences);
     }
+    Ok(())
 }
 
 // The end entry: its value is the number of entries before it, and nothing follows.
-pub fn end(at: u64, value: u64) {
+pub fn end<R: Read>(rt: &impl Print, reader: &mut R, at: u64, value: u64) -> io::Result<()> {
     if value != at {
-        report::malformed(at, b"the end entry has another count");
-        return;
+        return report::malformed(rt, at, b"the end entry has another count");
     }
     let mut rest = [0u8; 1];
-    if io::read_full(0, &mut rest) != 0 {
-        report::malformed(at, b"the file goes on after the end entry");
+    if io_form::read_full(reader, &mut rest)? != 0 {
+        return report::malformed(rt, at, b"the file goes on after the end entry");
     }
+    Ok(())
 }

@@ -2,6 +2,8 @@
 ghost use Rattle.std.specs.Prelude.{◌+◌, ◌*◌, ◌<◌, ◌≤◌, length};
 
 use crate::calls;
+use std::io;
+use std::io::Read;
 use stored::answer::Answer;
 use stored::entry::Head;
 use stored::{entry, report};
@@ -27,7 +29,9 @@ fn run(head: Head, bytes: &[u8], out: &mut [u8], classes: &mut [u64]) -> Answer
 }
 
 // Reads the rest of an entry, runs and compares it; false where it is not whole.
-fn body(
+fn body<R: Read>(
+    rt: &impl Print,
+    reader: &mut R,
     at: u64,
     head: Head,
     bytes: &mut [u8; 193056],
@@ -35,55 +39,68 @@ fn body(
     classes: &mut [u64; 16464],
     entries: &mut [u64; 18],
     differences: &mut [u64; 18],
-) -> bool
+) -> io::Result<bool>
     requires { head.kind < 18 }
 {
     if 512 < head.words {
-        report::malformed(at, b"too many words");
-        return false;
+        report::malformed(rt, at, b"too many words")?;
+        return Ok(false);
     }
     if 188960 < head.size {
-        report::malformed(at, b"too many bytes");
-        return false;
+        report::malformed(rt, at, b"too many bytes")?;
+        return Ok(false);
     }
     let payload = 8 * (head.words as usize) + head.size as usize;
-    if !entry::read_payload(bytes, entry::padded(payload)) {
-        report::malformed(at, b"the file ends in an entry");
-        return false;
+    if !entry::read_payload(reader, bytes, entry::padded(payload))? {
+        report::malformed(rt, at, b"the file ends in an entry")?;
+        return Ok(false);
     }
     entry::compare(
+        rt,
         at,
         head,
         run(head, bytes, out, classes),
         entries,
         differences,
-    );
-    true
+    )?;
+    Ok(true)
 }
 
 // Replays the entry with the number at; false after the end entry and on a malformed file.
-pub fn step(
+pub fn step<R: Read>(
+    rt: &impl Print,
+    reader: &mut R,
     at: u64,
     bytes: &mut [u8; 193056],
     out: &mut [u8; 57376],
     classes: &mut [u64; 16464],
     entries: &mut [u64; 18],
     differences: &mut [u64; 18],
-) -> bool {
+) -> io::Result<bool> {
     let mut front = [0u8; 16];
-    if io::read_full(0, &mut front) != 16 {
-        report::malformed(at, b"the file ends without an end entry");
-        return false;
+    if io_form::read_full(reader, &mut front)? != 16 {
+        report::malformed(rt, at, b"the file ends without an end entry")?;
+        return Ok(false);
     }
     let head = entry::read_head(&front);
     if head.kind == 0 {
         let expected = head.expected;
-        entry::end(at, expected.value);
-        return false;
+        entry::end(rt, reader, at, expected.value)?;
+        return Ok(false);
     }
     if 17 < head.kind {
-        report::malformed(at, b"unknown type");
-        return false;
+        report::malformed(rt, at, b"unknown type")?;
+        return Ok(false);
     }
-    body(at, head, bytes, out, classes, entries, differences)
+    body(
+        rt,
+        reader,
+        at,
+        head,
+        bytes,
+        out,
+        classes,
+        entries,
+        differences,
+    )
 }

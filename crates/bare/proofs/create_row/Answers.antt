@@ -3,7 +3,6 @@ use mathlib.Core.Path.{ap, ◌∙◌}
 use Rattle.atom_table.specs.declared.table.Table.{Table}
 use Rattle.atom_table.specs.Table.{store_of, create_atom}
 use Rattle.made.proofs.WordsLaws.{basis_sized, grew_create}
-use borrow.Author.Rules.{rules}
 use Rattle.bare.proofs.create_row.Goals as goal
 
 pub create_atom-more-requires : goal.create_atom-more-requires

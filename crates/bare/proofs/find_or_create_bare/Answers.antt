@@ -1,7 +1,6 @@
 -- `find_or_create_bare` meets its contract: the number that the search finds, or that of a new atom.
 use native.Mathlib.Omega.{arith}
 use Rattle.bare.proofs.BareFoundLaws.{atoms_inside, taken_atoms, bare_found, bare_created}
-use borrow.Author.Rules.{rules}
 use Rattle.bare.proofs.find_or_create_bare.Goals as goal
 
 pub slice_bounds-row_with-end : goal.slice_bounds-row_with-end

@@ -1,7 +1,6 @@
 -- `has_tree` meets its contract: another hash, or the bytes decide.
 use Rattle.semilinear.proofs.ItemsLaws.{atom_room}
 use Rattle.bare.proofs.SearchLaws.{tree_other, tree_same}
-use borrow.Author.Rules.{rules}
 use Rattle.bare.proofs.has_tree.Goals as goal
 
 pub front_word-requires : goal.front_word-requires

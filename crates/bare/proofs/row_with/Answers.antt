@@ -2,10 +2,7 @@
 use mathlib.Core.Path.{sym, ◌∙◌}
 use Prim.Native.Nat.{◌-◌}
 use native.Mathlib.Omega.{arith}
-use borrow.Author.Rules.{rules}
-use lib.ListN.{length}
-use borrow.Author.Tests.{not-true, not-false}
-use Rattle.bare.proofs.SearchLaws.{Searched, passed_none, passed_end, passed_found}
+use Rattle.bare.proofs.SearchLaws.{passed_none, passed_end, passed_found}
 use Rattle.bare.proofs.SearchLaws.{passed_next, atom_inside}
 use Rattle.bare.proofs.row_with.Goals as goal
 

@@ -1,12 +1,7 @@
 -- `row_with` meets its contract: the loop passes atoms that have another tree.
-use mathlib.Core.Path.{sym, ◌∙◌}
 use Prim.Native.Nat.{◌-◌}
-use native.Mathlib.Omega.{arith}
-use borrow.Author.Rules.{rules}
 use lib.ListN.{length}
-use borrow.Author.Tests.{not-true, not-false}
-use Rattle.bare.proofs.SearchLaws.{Searched, passed_none, passed_end, passed_found}
-use Rattle.bare.proofs.SearchLaws.{passed_next, atom_inside}
+use Rattle.bare.proofs.SearchLaws.{Searched}
 use Rattle.bare.proofs.row_with.Given as goal
 
 abbrev pub invariant-loop-r : goal.invariant-loop-r

@@ -1,9 +1,9 @@
 -- `best_of` meets its contract: the loop keeps the streak that ends before record `i`, and the best week up to there.
-use Prim.Native.Nat.{◌+◌, ◌-◌, ◌≤◌}
+use Prim.Native.Nat.{◌+◌, ◌-◌}
 use mathlib.Core.Path.{refl, sym, subst, ◌∙◌}
 use native.Mathlib.Omega.{arith}
 use Rattle.best_week.specs.BestWeek.{week_days}
-use Rattle.best_week.specs.Walk.{StreakAt, BestUpTo}
+use Rattle.best_week.specs.Walk.{BestUpTo}
 use Rattle.best_week.proofs.SignedLaws.{back, same_fits}
 use Rattle.best_week.proofs.TotalLaws.{over_fits}
 use Rattle.best_week.proofs.WalkLaws.{streak_new, streak_fits, week_here, no_week_here, here_total}

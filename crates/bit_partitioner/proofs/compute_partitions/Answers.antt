@@ -1,6 +1,5 @@
 -- `compute_partitions` meets its contract: the front door, and then the form.
 use Rattle.bit_partitioner.proofs.EntryLaws.{call_shut, call_open, call_zeros, call_given}
-use borrow.Author.Rules.{rules}
 use Rattle.bit_partitioner.proofs.compute_partitions.Goals as goal
 
 pub returns-then-refusal-ne0 : goal.returns-then-refusal-ne0

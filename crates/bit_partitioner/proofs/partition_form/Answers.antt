@@ -4,7 +4,6 @@ use native.Mathlib.Omega.{arith}
 use Rattle.semilinear.specs.Items.{atom_count}
 use Rattle.bit_partitioner.proofs.EntryLaws.{form_big, form_width, form_count, form_atoms}
 use Rattle.bit_partitioner.proofs.EntryLaws.{slice_long, slice_zeros, form_none, form_some}
-use borrow.Author.Rules.{rules}
 use Rattle.bit_partitioner.proofs.partition_form.Goals as goal
 
 pub width-w-requires : goal.width-w-requires

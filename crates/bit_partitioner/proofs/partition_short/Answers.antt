@@ -3,7 +3,6 @@ use mathlib.Core.Path.{sym, ◌∙◌}
 use native.Mathlib.Omega.{arith}
 use lib.ListN.{replicate}
 use lib.Seq.{length-take-le}
-use borrow.Author.Rules.{rules}
 use Rattle.bit_partitioner.proofs.partition_short.Goals as goal
 
 pub slice_bounds-partition_atoms-end-2 : goal.slice_bounds-partition_atoms-end-2

@@ -1,7 +1,6 @@
 -- `last_child` meets its contract: a case for each arity.
 use mathlib.Core.Path.{sym, ◌∙◌}
 use Rattle.bitwise.proofs.BitwiseLaws.{last_one, last_two}
-use borrow.Author.Rules.{rules}
 use Rattle.bitwise.proofs.last_child.Goals as goal
 
 pub returns-then-root_arity-eq1 : goal.returns-then-root_arity-eq1

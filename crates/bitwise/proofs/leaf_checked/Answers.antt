@@ -1,6 +1,5 @@
 -- `leaf_checked` meets its contract.
 use Rattle.bitwise.specs.Bitwise.{leaf_checked}
-use borrow.Author.Rules.{rules}
 use Rattle.bitwise.proofs.leaf_checked.Goals as goal
 
 pub returns : goal.returns

@@ -3,7 +3,6 @@ use mathlib.Core.Path.{sym, ap, ◌∙◌}
 use mathlib.Core.Bool.{not}
 use Rattle.expr_utils.specs.Utils.{is_arith}
 use Rattle.bitwise.proofs.BitwiseLaws.{root_refused, root_passed}
-use borrow.Author.Rules.{rules}
 use Rattle.bitwise.proofs.root_ok.Goals as goal
 
 pub returns-then-root_refusal-ne0 : goal.returns-then-root_refusal-ne0

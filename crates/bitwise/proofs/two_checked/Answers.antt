@@ -2,7 +2,6 @@
 use mathlib.Core.Path.{◌∙◌}
 use borrow.Author.Tests.{not-true, not-false}
 use Rattle.bitwise.proofs.BitwiseLaws.{two_shut_left, two_shut_right, two_open}
-use borrow.Author.Rules.{rules}
 use Rattle.bitwise.proofs.two_checked.Goals as goal
 
 pub returns-then-not-x : goal.returns-then-not-x

@@ -1,7 +1,5 @@
 -- `bit_coeff` meets its contract: the loop keeps the sum, which is cut in the end.
-use Rattle.std.proofs.Common.{◌≡◌, ◌-◌, ◌%◌, ◌^◌, ◌≤◌, [], ◌∙◌, arith, rules}
-use Rattle.base.specs.Loop.{for_in}
-use Rattle.structure_laws.specs.Carried.{bit_coeff_at}
+use Rattle.std.proofs.Common.{◌-◌, ◌∙◌, arith}
 use Rattle.carried.proofs.CarriedToLaws.{bit_start, bit_one, bit_none, bit_end}
 use Rattle.carried.proofs.bit_coeff.Goals as goal
 use Rattle.carried.proofs.bit_coeff.Goals.{else-masks-i-eq1, then-masks-i-eq1}

@@ -1,8 +1,7 @@
 -- `bit_coeff` meets its contract: the loop keeps the sum, which is cut in the end.
-use Rattle.std.proofs.Common.{◌≡◌, ◌-◌, ◌%◌, ◌^◌, ◌≤◌, [], ◌∙◌, ⊎_elim, arith, rules}
+use Rattle.std.proofs.Common.{◌≡◌, ◌-◌, ◌%◌, ◌^◌, ◌≤◌}
 use Rattle.base.specs.Loop.{for_in}
 use Rattle.structure_laws.specs.Carried.{bit_coeff_at}
-use Rattle.carried.proofs.CarriedToLaws.{bit_start, bit_one, bit_none, bit_end}
 use Rattle.carried.proofs.bit_coeff.Given as goal
 
 abbrev pub invariant-loop-i : goal.invariant-loop-i

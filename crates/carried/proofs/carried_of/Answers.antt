@@ -1,7 +1,6 @@
 -- `carried_of` meets its contract: the loop keeps what the bits before p carry.
-use Rattle.std.proofs.Common.{◌-◌, ◌≤◌, ◌∙◌, arith}
-use Rattle.carried.specs.Coalescing.{IsCarried}
-use Rattle.carried.proofs.CarriedToLaws.{carried_to, carried_start, to_few, to_below, carried_turn}
+use Rattle.std.proofs.Common.{◌-◌, arith}
+use Rattle.carried.proofs.CarriedToLaws.{carried_start, to_few, to_below, carried_turn}
 use Rattle.carried.proofs.CarriedToLaws.{carried_done}
 use Rattle.carried.proofs.carried_of.Goals as goal
 

@@ -1,8 +1,7 @@
 -- `carried_of` meets its contract: the loop keeps what the bits before p carry.
-use Rattle.std.proofs.Common.{◌-◌, ◌≤◌, ◌∙◌, arith}
+use Rattle.std.proofs.Common.{◌-◌, ◌≤◌}
 use Rattle.carried.specs.Coalescing.{IsCarried}
-use Rattle.carried.proofs.CarriedToLaws.{carried_to, carried_start, to_few, to_below, carried_turn}
-use Rattle.carried.proofs.CarriedToLaws.{carried_done}
+use Rattle.carried.proofs.CarriedToLaws.{carried_to}
 use Rattle.carried.proofs.carried_of.Given as goal
 
 abbrev pub invariant-loop-p : goal.invariant-loop-p

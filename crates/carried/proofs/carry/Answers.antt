@@ -1,5 +1,5 @@
 -- `carry` meets its contract: the coefficient is there, or both arrays have one more.
-use Rattle.std.proofs.Common.{ℕ, ◌+◌, get_or, refl, ap, arith, rules}
+use Rattle.std.proofs.Common.{ℕ, ◌+◌, get_or, refl, ap, arith}
 use Rattle.carried.proofs.CarriedInLaws.{bit_word, bit_room, carry_there, carry_new}
 use Rattle.carried.proofs.carry.Goals as goal
 

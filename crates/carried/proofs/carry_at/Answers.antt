@@ -1,5 +1,5 @@
 -- `carry_at` meets its contract: a coefficient that is 0 carries nothing, another is carried.
-use Rattle.std.proofs.Common.{arith, rules}
+use Rattle.std.proofs.Common.{arith}
 use Rattle.carried.proofs.CarriedToLaws.{at_none, at_some}
 use Rattle.carried.proofs.carry_at.Goals as goal
 

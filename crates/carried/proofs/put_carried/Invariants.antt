@@ -1,10 +1,8 @@
 -- `put_carried` meets its contract: after k turns the first k terms are there.
-use Rattle.std.proofs.Common.{◌-◌, ◌≤◌, sym, ◌∙◌, arith}
+use Rattle.std.proofs.Common.{◌-◌, ◌≤◌}
 use Rattle.record.specs.Decode.{decode}
-use Rattle.made.proofs.WordsLaws.{makes_later}
 use Rattle.structure_laws.specs.CoalesceTerms.{carried_rows}
 use Rattle.carried.specs.Coalescing.{carried_in, Coalesced}
-use Rattle.carried.proofs.NewTermsLaws.{terms_none, terms_next, terms_done}
 use Rattle.carried.proofs.put_carried.Given as goal
 
 abbrev pub invariant-loop-k : goal.invariant-loop-k

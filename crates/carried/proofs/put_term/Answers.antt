@@ -1,5 +1,5 @@
 -- `put_term` meets its contract: the table is full, the term goes to the basis itself, or to a new masked atom.
-use Rattle.std.proofs.Common.{sym, ◌∙◌, arith, rules}
+use Rattle.std.proofs.Common.{sym, ◌∙◌}
 use Rattle.arith.proofs.WidthLaws.{bitmask_ones}
 use Rattle.record.specs.Decode.{decode}
 use Rattle.carried.proofs.NewTermsLaws.{row_past, coalesced_full, term_bare, term_masked}

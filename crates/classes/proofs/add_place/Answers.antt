@@ -1,5 +1,4 @@
 -- `add_place` meets its contract: the shifted 1 is the place's power of two.
-use borrow.Author.Rules.{rules}
 use Rattle.classes.proofs.ClassWordsLaws.{add_place_set}
 use Rattle.classes.proofs.add_place.Goals as goal
 

@@ -1,9 +1,8 @@
 -- `find_class` meets its contract: the loop keeps that the classes from `j` on decide.
-use Prim.Native.Nat.{◌+◌, ◌-◌, ◌*◌, ◌≤◌}
+use Prim.Native.Nat.{◌-◌}
 use mathlib.Core.Path.{◌≡◌, refl, sym, ◌∙◌}
 use native.Mathlib.Omega.{arith}
 use lib.ListN.{length}
-use Rattle.base.specs.Loop.{first_in}
 use Rattle.base.proofs.LoopLaws.{first_next, first_here, first_end}
 use Rattle.partition_laws.specs.Classes.{has_profile}
 use Rattle.classes.proofs.ClassWordsLaws.{class_inside, profile_read}

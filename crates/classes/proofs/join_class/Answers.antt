@@ -5,7 +5,7 @@ use mathlib.Core.List.{List, [], ◌∷◌}
 use lib.ListN.{length}
 use Rattle.base.specs.Put.{put}
 use Rattle.base.proofs.PutLaws.{length_put}
-use mathlib.Core.Path.{refl, ap, ◌∙◌}
+use mathlib.Core.Path.{ap, ◌∙◌}
 use Rattle.classes.proofs.JoinLaws.{found_room, joins_old, joins_new}
 use Rattle.classes.proofs.join_class.Goals as goal
 

@@ -1,13 +1,10 @@
 -- `coalesce_all` meets its contract: after k turns k groups are coalesced.
-use mathlib.Core.Path.{sym, ◌∙◌}
 use mathlib.Core.List.{[]}
 use Prim.Native.Nat.{◌-◌, ◌≤◌}
-use native.Mathlib.Omega.{arith}
 use Rattle.semilinear.specs.Items.{after_atoms}
 use Rattle.semilinear.specs.DecodeForm.{read_rows}
 use Rattle.views.specs.Grouping.{variable_basis, bases_of}
-use Rattle.group.proofs.PassLaws.{count_few, count_room, next_at, end_at, group_at, all_at}
-use Rattle.coalesce.proofs.CoalesceTurnLaws.{Going, all_none, all_next, all_done}
+use Rattle.coalesce.proofs.CoalesceTurnLaws.{Going}
 use Rattle.coalesce.proofs.coalesce_all.Given as goal
 
 abbrev pub invariant-loop-k : goal.invariant-loop-k

@@ -1,10 +1,8 @@
 -- `coalesce_form` meets its contract: the copied table, its rows coalesced, and the end of a pass.
-use native.Mathlib.Omega.{arith}
 use Rattle.base.proofs.PutLaws.{padded_nil}
 use Rattle.semilinear.proofs.ValidLaws.{semilinear_parts}
 use Rattle.group.proofs.PassLaws.{pass_begin}
 use Rattle.coalesce.proofs.CoalescedLaws.{coalesce_room, coalesce_end}
-use borrow.Author.Rules.{rules}
 use Rattle.coalesce.proofs.coalesce_form.Goals as goal
 
 pub width-w-requires : goal.width-w-requires

@@ -8,7 +8,6 @@ use Rattle.carried.proofs.NewTermsLaws.{coalesced_full}
 use Rattle.made.proofs.WordsLaws.{is_full, makes_fewer}
 use Rattle.coalesce.proofs.CoalesceTurnLaws.{group_past, short_turn, many_turn, rewritten_turn}
 use Rattle.coalesce.proofs.CoalesceTurnLaws.{carried_count, atoms_below, coalesced_of}
-use borrow.Author.Rules.{rules}
 use Rattle.coalesce.proofs.coalesce_group.Goals as goal
 
 pub returns-then-made-eq1 : goal.returns-then-made-eq1

@@ -1,7 +1,6 @@
 -- `coalesce_short` meets its contract: the arrays have room for the views and the bases of few atoms.
 use native.Mathlib.Omega.{arith}
 use Rattle.group.proofs.PassLaws.{form_fewer}
-use borrow.Author.Rules.{rules}
 use Rattle.coalesce.proofs.coalesce_short.Goals as goal
 
 pub coalesce_rows-requires : goal.coalesce_rows-requires

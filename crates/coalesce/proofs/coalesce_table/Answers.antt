@@ -1,7 +1,6 @@
 -- `coalesce_table` meets its contract: few atoms go into short arrays.
 use native.Mathlib.Omega.{arith}
 use Rattle.group.proofs.PassLaws.{form_fewer}
-use borrow.Author.Rules.{rules}
 use Rattle.coalesce.proofs.coalesce_table.Goals as goal
 
 pub coalesce_short-requires : goal.coalesce_short-requires

@@ -1,7 +1,6 @@
 -- `coalesce_terms` meets its contract: the front door, and then the form.
 use Rattle.atom_table.proofs.ReadLaws.{pass_shut, pass_open, pass_zeros, pass_given}
 use Rattle.structure_laws.specs.CoalesceTerms.{coalesce_terms}
-use borrow.Author.Rules.{rules}
 use Rattle.coalesce.proofs.coalesce_terms.Goals as goal
 
 pub returns-then-number-ne0 : goal.returns-then-number-ne0

@@ -1,5 +1,4 @@
 -- `compact_atom_table` meets its contract: the front door, and then the form.
-use borrow.Author.Rules.{rules}
 use Rattle.compaction.specs.Compact.{compact_atom_table}
 use Rattle.atom_table.proofs.ReadLaws.{pass_shut, pass_open, pass_zeros, pass_given}
 use Rattle.compaction.proofs.compact_atom_table.Goals as goal

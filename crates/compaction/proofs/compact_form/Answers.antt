@@ -6,8 +6,6 @@ use mathlib.Core.Path.{ap}
 use native.Mathlib.Omega.{arith}
 use lib.ListN.{length}
 use Rattle.record.proofs.SpanLaws.{length_body}
-use Rattle.record.specs.Fields.{width}
-use borrow.Author.Rules.{rules}
 use Rattle.compaction.proofs.compact_form.Goals as goal
 
 pub width-w-requires : goal.width-w-requires

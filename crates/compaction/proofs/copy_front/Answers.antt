@@ -1,9 +1,8 @@
 -- `copy_front` meets its contract: the loop keeps that the atoms before `at` that have a term are put.
-use Rattle.compaction.proofs.CopyLaws.{Copied, copied_length, copied_start, copied_room, copied_row, terms_room}
+use Rattle.compaction.proofs.CopyLaws.{copied_length, copied_start, copied_room, copied_row, terms_room}
 use Rattle.compaction.proofs.CopyLaws.{copied_front}
 use Rattle.semilinear.proofs.ValidLaws.{front_parts, first_atom_ok}
 use Rattle.semilinear.specs.Items.{is_atom}
-use borrow.Author.Tests.{not-true, not-false}
 use mathlib.Core.Path.{ap, sym, ◌∙◌}
 use native.Mathlib.Omega.{arith}
 use Prim.Native.Nat.{◌-◌}

@@ -1,12 +1,11 @@
 -- `copy_terms` meets its contract: the loop keeps that the terms before `at` are put, numbered from 0.
-use Rattle.compaction.proofs.RenumberLaws.{Renumbered, renumbered_start, renumbered_term, renumbered_end}
+use Rattle.compaction.proofs.RenumberLaws.{renumbered_start, renumbered_term, renumbered_end}
 use Rattle.compaction.proofs.RenumberLaws.{term_room}
 use Rattle.semilinear.proofs.ItemsLaws.{term_big}
 use Rattle.semilinear.specs.Items.{is_term}
 use mathlib.Core.Path.{ap, sym, ◌∙◌}
 use native.Mathlib.Omega.{arith}
 use Prim.Native.Nat.{◌-◌}
-use lib.ListN.{length}
 use Rattle.compaction.proofs.copy_terms.Goals as goal
 
 pub loop-coeff-init : goal.loop-coeff-init

@@ -1,10 +1,5 @@
 -- `copy_terms` meets its contract: the loop keeps that the terms before `at` are put, numbered from 0.
-use Rattle.compaction.proofs.RenumberLaws.{Renumbered, renumbered_start, renumbered_term, renumbered_end}
-use Rattle.compaction.proofs.RenumberLaws.{term_room}
-use Rattle.semilinear.proofs.ItemsLaws.{term_big}
-use Rattle.semilinear.specs.Items.{is_term}
-use mathlib.Core.Path.{ap, sym, ◌∙◌}
-use native.Mathlib.Omega.{arith}
+use Rattle.compaction.proofs.RenumberLaws.{Renumbered}
 use Prim.Native.Nat.{◌-◌}
 use lib.ListN.{length}
 use Rattle.compaction.proofs.copy_terms.Given as goal

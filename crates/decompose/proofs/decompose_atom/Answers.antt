@@ -2,9 +2,7 @@
 use Prim.Native.Nat.{◌-◌}
 use borrow.Author.Tests.{not-true, not-false}
 use Rattle.record.proofs.SizedLaws.{sized_big}
-use Rattle.decompose.specs.Basis.{Splitting}
 use Rattle.decompose.proofs.DecomposeLaws.{splitting_whole}
-use borrow.Author.Rules.{rules}
 use Rattle.decompose.proofs.decompose_atom.Goals as goal
 
 pub kind-k-requires : goal.kind-k-requires

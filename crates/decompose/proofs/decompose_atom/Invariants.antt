@@ -1,10 +1,6 @@
 -- `decompose_atom` meets its contract: the loop keeps a split on its way, whose part falls.
 use Prim.Native.Nat.{◌-◌}
-use borrow.Author.Tests.{not-true, not-false}
-use Rattle.record.proofs.SizedLaws.{sized_big}
 use Rattle.decompose.specs.Basis.{Splitting}
-use Rattle.decompose.proofs.DecomposeLaws.{splitting_whole}
-use borrow.Author.Rules.{rules}
 use Rattle.decompose.proofs.decompose_atom.Given as goal
 
 abbrev pub invariant-loop-next : goal.invariant-loop-next

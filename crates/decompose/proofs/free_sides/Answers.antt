@@ -6,7 +6,6 @@ use mathlib.Core.Bool.{Bool}
 use Rattle.record.specs.Decode.{decode}
 use Rattle.expr_utils.specs.Utils.{is_constant_subtree}
 use Rattle.decompose.proofs.DecomposeLaws.{sized_sides, left_open, right_open}
-use borrow.Author.Rules.{rules}
 use Rattle.decompose.proofs.free_sides.Goals as goal
 
 abbrev is_free : List ℕ → Bool

@@ -8,7 +8,6 @@ use Rattle.expr.specs.Value.{value}
 use Rattle.decompose.specs.Basis.{basis_span}
 use Rattle.decompose.proofs.DecomposeLaws.{basis_big, span_end, split_other, split_sized, split_neither}
 use Rattle.decompose.proofs.DecomposeLaws.{split_left, split_right}
-use borrow.Author.Rules.{rules}
 use Rattle.decompose.proofs.split.Goals as goal
 
 pub kind-requires : goal.kind-requires

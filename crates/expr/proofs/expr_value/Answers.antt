@@ -1,7 +1,7 @@
 -- `expr_value` meets its contract: the value of an accepted tree, and 0 beside a refusal.
 use Rattle.expr.proofs.ExprValueLaws.{accepted_tree, expr_value_accepted, expr_value_refused}
 use Rattle.expr_refusal.proofs.RefusalLaws.{accepted_big, accepted_root, sized_accepted}
-use Rattle.std.proofs.Common.{sym, ◌∙◌, arith, rules}
+use Rattle.std.proofs.Common.{sym, ◌∙◌, arith}
 use Rattle.expr.proofs.expr_value.Goals as goal
 
 pub returns-then-number-ne0 : goal.returns-then-number-ne0

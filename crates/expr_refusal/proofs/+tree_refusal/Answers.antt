@@ -2,9 +2,6 @@
 use Rattle.record.proofs.SpanLaws.{fold_none, fold_leaf, fold_one, fold_two, body_shorter, left_shorter, right_shorter}
 use native.Mathlib.Omega.{arith}
 use mathlib.Core.Path.{sym, ◌∙◌}
-use lib.ListN.{length}
-use borrow.Author.Rules.{rules}
-use Prim.Native.Nat.{ℕ, ◌<◌}
 use Rattle.expr_refusal.proofs.+tree_refusal.Goals as goal
 
 pub returns-then-t-lt-RECORD_LENGTH : goal.returns-then-t-lt-RECORD_LENGTH

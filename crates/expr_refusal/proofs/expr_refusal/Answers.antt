@@ -1,7 +1,6 @@
 -- `expr_refusal` meets its contract: the length first, then the records.
 use Rattle.expr_refusal.specs.Refusal.{expr_refusal}
 use borrow.Author.Tests.{eq-eqb, ne_eqb, lt-ltb, le-ltb}
-use borrow.Author.Rules.{rules}
 use Rattle.expr_refusal.proofs.expr_refusal.Goals as goal
 
 pub returns-then-n-eq0 : goal.returns-then-n-eq0

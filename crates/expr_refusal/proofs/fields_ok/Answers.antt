@@ -2,7 +2,6 @@
 use Rattle.expr_refusal.specs.Refusal.{fields_ok, uses_byte1}
 use borrow.Author.Tests.{eq-eqb, ne_eqb}
 use mathlib.Core.Path.{sym, ◌∙◌}
-use borrow.Author.Rules.{rules}
 use Rattle.expr_refusal.proofs.fields_ok.Goals as goal
 
 pub returns-then-k-eq0 : goal.returns-then-k-eq0

@@ -1,8 +1,7 @@
 -- `form_ok` meets its contract: a case for each test.
 use Rattle.expr_refusal.specs.Refusal.{form_ok}
-use borrow.Author.Tests.{eq-eqb, ne_eqb, lt-leb, le-leb, not-true, not-false}
+use borrow.Author.Tests.{eq-eqb, ne_eqb, lt-leb, le-leb}
 use mathlib.Core.Path.{sym, ◌∙◌}
-use borrow.Author.Rules.{rules}
 use Rattle.expr_refusal.proofs.form_ok.Goals as goal
 
 pub returns-then-k-gt13 : goal.returns-then-k-gt13

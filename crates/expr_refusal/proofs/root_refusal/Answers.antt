@@ -1,8 +1,7 @@
 -- `root_refusal` meets its contract: a case for each refusal, the lowest first.
 use Rattle.expr_refusal.specs.Refusal.{root_refusal}
-use borrow.Author.Tests.{eq-eqb, ne_eqb, lt-ltb, le-ltb, not-true, not-false}
+use borrow.Author.Tests.{eq-eqb, ne_eqb, lt-ltb, le-ltb}
 use mathlib.Core.Path.{sym, ◌∙◌}
-use borrow.Author.Rules.{rules}
 use Rattle.expr_refusal.proofs.root_refusal.Goals as goal
 
 pub returns-then-not-form_ok : goal.returns-then-not-form_ok

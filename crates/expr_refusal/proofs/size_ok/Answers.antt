@@ -1,7 +1,6 @@
 -- `size_ok` meets its contract: a case for each test.
 use Rattle.expr_refusal.specs.Refusal.{size_ok}
 use borrow.Author.Tests.{eq-eqb, ne_eqb, lt-ltb, le-ltb}
-use borrow.Author.Rules.{rules}
 use Rattle.expr_refusal.proofs.size_ok.Goals as goal
 
 pub returns-then-size-n : goal.returns-then-size-n

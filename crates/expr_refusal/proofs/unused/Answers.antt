@@ -2,7 +2,6 @@
 use Rattle.expr_refusal.specs.Refusal.{unused}
 use borrow.Author.Tests.{eq-eqb, ne_eqb}
 use mathlib.Core.Path.{sym, ◌∙◌}
-use borrow.Author.Rules.{rules}
 use Rattle.expr_refusal.proofs.unused.Goals as goal
 
 pub returns-then-kind-eq1 : goal.returns-then-kind-eq1

@@ -2,7 +2,6 @@
 use Rattle.expr_utils.specs.Utils.{traits_of}
 use mathlib.Core.Path.{ap}
 use Rattle.expr_utils.specs.declared.Traits.{Traits}
-use borrow.Author.Rules.{rules}
 use Rattle.expr_utils.proofs.has_var_dep.Goals as goal
 
 pub returns : goal.returns

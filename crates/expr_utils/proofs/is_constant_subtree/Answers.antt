@@ -3,7 +3,6 @@ use Rattle.expr_utils.specs.Utils.{traits_of}
 use mathlib.Core.Path.{ap}
 use mathlib.Core.Bool.{not}
 use Rattle.expr_utils.specs.declared.Traits.{Traits}
-use borrow.Author.Rules.{rules}
 use Rattle.expr_utils.proofs.is_constant_subtree.Goals as goal
 
 pub returns : goal.returns

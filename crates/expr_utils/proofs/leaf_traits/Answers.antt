@@ -2,7 +2,6 @@
 use Rattle.expr_utils.specs.Utils.{traits_of, has_kind}
 use Rattle.record.specs.Decode.{leaf}
 use borrow.Author.Tests.{eq-eqb, ne_eqb}
-use borrow.Author.Rules.{rules}
 use Rattle.expr_utils.proofs.leaf_traits.Goals as goal
 
 pub returns-then-kind-eq0 : goal.returns-then-kind-eq0

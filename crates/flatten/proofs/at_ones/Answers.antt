@@ -7,7 +7,6 @@ use Rattle.arith.proofs.WidthLaws.{bitmask_ones}
 use Rattle.record.specs.Decode.{decode}
 use Rattle.expr.specs.Value.{value}
 use Rattle.structure_laws.specs.FlattenComplexAtoms.{at_ones}
-use borrow.Author.Rules.{rules}
 use Rattle.flatten.proofs.at_ones.Goals as goal
 
 pub value_from-requires : goal.value_from-requires

@@ -2,7 +2,6 @@
 use mathlib.Core.Path.{ap, ◌∙◌}
 use lib.Bits.{bit_and}
 use Rattle.arith.proofs.WidthLaws.{mod_not_exact}
-use borrow.Author.Rules.{rules}
 use Rattle.flatten.proofs.bits_without.Goals as goal
 
 pub returns : goal.returns

@@ -2,7 +2,6 @@
 use mathlib.Core.Path.{refl}
 use Rattle.flatten.proofs.NewRowLaws.{extended_none, extended_past, extended_put}
 use Rattle.flatten.proofs.NewRowLaws.{variable_back, variable_sized, variable_basis_lem}
-use borrow.Author.Rules.{rules}
 use Rattle.flatten.proofs.flat_row.Goals as goal
 
 pub returns-then-m-eq0 : goal.returns-then-m-eq0

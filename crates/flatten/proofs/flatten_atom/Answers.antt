@@ -3,7 +3,6 @@ use native.Mathlib.Omega.{arith}
 use Rattle.expr.proofs.ValueLaws.{value_lt}
 use Rattle.structure_laws.proofs.OneVarLaws.{at_ones_lt}
 use Rattle.flatten.proofs.FlatTurnLaws.{flat_constant_lem, flat_atom}
-use borrow.Author.Rules.{rules}
 use Rattle.flatten.proofs.flatten_atom.Goals as goal
 
 pub bits_without-passed-requires : goal.bits_without-passed-requires

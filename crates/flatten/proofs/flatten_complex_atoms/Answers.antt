@@ -1,7 +1,6 @@
 -- `flatten_complex_atoms` meets its contract: the front door, and then the form.
 use Rattle.atom_table.proofs.ReadLaws.{pass_shut, pass_open, pass_zeros, pass_given}
 use Rattle.structure_laws.specs.FlattenComplexAtoms.{flatten_complex_atoms}
-use borrow.Author.Rules.{rules}
 use Rattle.flatten.proofs.flatten_complex_atoms.Goals as goal
 
 pub returns-then-number-ne0 : goal.returns-then-number-ne0

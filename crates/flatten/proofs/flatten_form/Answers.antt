@@ -1,8 +1,6 @@
 -- `flatten_form` meets its contract: the copied table, its rows flattened, and the end of a pass.
-use native.Mathlib.Omega.{arith}
 use Rattle.semilinear.proofs.ValidLaws.{semilinear_parts}
 use Rattle.flatten.proofs.FlatFormLaws.{flatten_begin, flatten_room, flatten_end}
-use borrow.Author.Rules.{rules}
 use Rattle.flatten.proofs.flatten_form.Goals as goal
 
 pub width-w-requires : goal.width-w-requires

@@ -2,11 +2,10 @@
 use mathlib.Core.Path.{refl, ap, sym, ◌∙◌}
 use Prim.Native.Nat.{ℕ, ◌-◌}
 use native.Mathlib.Omega.{arith}
-use lib.ListN.{length, get_or, length-replicate}
-use borrow.Author.Tests.{not-true, not-false}
+use lib.ListN.{length, length-replicate}
 use Rattle.semilinear.specs.Items.{is_atom}
 use Rattle.semilinear.proofs.ValidLaws.{front_parts}
-use Rattle.flatten.proofs.FlatWalkLaws.{Walked, walked_start, walked_number, walked_row, walked_end}
+use Rattle.flatten.proofs.FlatWalkLaws.{walked_start, walked_number, walked_row, walked_end}
 use Rattle.flatten.proofs.flatten_rows.Goals as goal
 
 pub loop-x-init : goal.loop-x-init

@@ -1,12 +1,7 @@
 -- `flatten_rows` meets its contract: the loop keeps that the rows before `at` are flattened.
-use mathlib.Core.Path.{refl, ap, sym, ◌∙◌}
-use Prim.Native.Nat.{ℕ, ◌-◌}
-use native.Mathlib.Omega.{arith}
-use lib.ListN.{length, get_or, length-replicate}
-use borrow.Author.Tests.{not-true, not-false}
-use Rattle.semilinear.specs.Items.{is_atom}
-use Rattle.semilinear.proofs.ValidLaws.{front_parts}
-use Rattle.flatten.proofs.FlatWalkLaws.{Walked, walked_start, walked_number, walked_row, walked_end}
+use Prim.Native.Nat.{◌-◌}
+use lib.ListN.{length, get_or}
+use Rattle.flatten.proofs.FlatWalkLaws.{Walked}
 use Rattle.flatten.proofs.flatten_rows.Given as goal
 
 abbrev pub invariant-loop-x : goal.invariant-loop-x

@@ -5,7 +5,6 @@ use Rattle.expr_utils.specs.Utils.{traits_of}
 use Rattle.expr_utils.specs.declared.Traits.{Traits}
 use Rattle.flatten.proofs.ComplexLaws.{complex_plain, complex_counted}
 use Rattle.flatten.proofs.ComplexLaws.{count_none, count_one, count_more}
-use borrow.Author.Rules.{rules}
 use Rattle.flatten.proofs.is_complex.Goals as goal
 
 pub returns-then-is_plain : goal.returns-then-is_plain

@@ -1,7 +1,6 @@
 -- `is_plain` meets its contract: the basis that the view has is a variable.
 use borrow.Author.Tests.{not-true, not-false}
 use Rattle.flatten.proofs.ComplexLaws.{plain_none, plain_some, basis_big}
-use borrow.Author.Rules.{rules}
 use Rattle.flatten.proofs.is_plain.Goals as goal
 
 pub returns-then-not-found : goal.returns-then-not-found

@@ -1,5 +1,4 @@
 -- The count of classes is handed over.
-use borrow.Author.Rules.{rules}
 use Rattle.hogzelt.proofs.hogzelt_compute_partitions.Goals as goal
 
 pub returns : goal.returns

@@ -1,5 +1,4 @@
 -- The three numbers of the answer are handed over.
-use borrow.Author.Rules.{rules}
 use Rattle.hogzelt.proofs.hogzelt_flatten_complex_atoms.Goals as goal
 
 pub returns : goal.returns

@@ -1,7 +1,6 @@
 -- The four numbers of the verdict are handed over.
 use mathlib.Core.Path.{ap}
 use Rattle.judge_laws.specs.declared.Verdict.{Verdict}
-use borrow.Author.Rules.{rules}
 use Rattle.hogzelt.proofs.hogzelt_judge.Goals as goal
 
 pub returns : goal.returns

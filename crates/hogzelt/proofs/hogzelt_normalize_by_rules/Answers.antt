@@ -1,6 +1,5 @@
 -- The first two numbers of the answer are handed over.
 use Rattle.semilinear.proofs.OutcomeLaws.{gives_two}
-use borrow.Author.Rules.{rules}
 use Rattle.hogzelt.proofs.hogzelt_normalize_by_rules.Goals as goal
 
 pub returns : goal.returns

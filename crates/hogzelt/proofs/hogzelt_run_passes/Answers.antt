@@ -3,7 +3,6 @@ use mathlib.Core.Path.{ap, ◌∙◌}
 use Prim.Native.Nat.{ℕ}
 use lib.ListN.{replicate}
 use Rattle.semilinear.proofs.OutcomeLaws.{gives_two}
-use borrow.Author.Rules.{rules}
 use Rattle.hogzelt.proofs.hogzelt_run_passes.Goals as goal
 
 pub returns : goal.returns

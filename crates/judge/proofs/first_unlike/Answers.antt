@@ -1,15 +1,14 @@
 -- `first_unlike` meets its contract: the loop keeps that the search goes on from `i`.
 use Rattle.judge.specs.Found.{unlike_sums}
 use Rattle.judge.proofs.FoundLaws.{test_unlike, test_same}
-use Rattle.base.specs.Loop.{first_in}
 use Rattle.base.proofs.LoopLaws.{first_next, first_here, first_end}
-use mathlib.Core.Path.{◌≡◌, refl, sym, ◌∙◌}
+use mathlib.Core.Path.{refl, sym, ◌∙◌}
 use native.Mathlib.Omega.{arith}
 use native.Mathlib.Nat.{one-mul}
 use lib.Pow.{shl_exact}
 use lib.Dec.{lit<}
 use lib.ListN.{length}
-use Prim.Native.Nat.{◌-◌, ◌≤◌, ◌^◌}
+use Prim.Native.Nat.{◌-◌}
 use Rattle.judge.proofs.first_unlike.Goals as goal
 
 pub loop-i-init : goal.loop-i-init

@@ -1,13 +1,7 @@
 -- `first_unlike` meets its contract: the loop keeps that the search goes on from `i`.
 use Rattle.judge.specs.Found.{unlike_sums}
-use Rattle.judge.proofs.FoundLaws.{test_unlike, test_same}
 use Rattle.base.specs.Loop.{first_in}
-use Rattle.base.proofs.LoopLaws.{first_next, first_here, first_end}
-use mathlib.Core.Path.{◌≡◌, refl, sym, ◌∙◌}
-use native.Mathlib.Omega.{arith}
-use native.Mathlib.Nat.{one-mul}
-use lib.Pow.{shl_exact}
-use lib.Dec.{lit<}
+use mathlib.Core.Path.{◌≡◌}
 use lib.ListN.{length}
 use Prim.Native.Nat.{◌-◌, ◌≤◌, ◌^◌}
 use Rattle.judge.proofs.first_unlike.Given as goal

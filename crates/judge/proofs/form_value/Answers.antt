@@ -1,7 +1,6 @@
 -- `form_value` meets its contract: the sum of a form is its value.
 use Rattle.judge.proofs.UnshiftedFormLaws.{accepted_form, form_width, form_wide, form_big, form_fits, form_atoms}
 use Rattle.semilinear_value.proofs.ValueLaws.{form_value_accepted}
-use borrow.Author.Rules.{rules}
 use Rattle.judge.proofs.form_value.Goals as goal
 
 pub literal-constant-requires : goal.literal-constant-requires

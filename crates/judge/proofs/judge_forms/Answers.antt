@@ -3,7 +3,6 @@ use Rattle.judge.proofs.FormForLaws.{own_form}
 use Rattle.judge.proofs.PairLaws.{left_verdict, right_verdict}
 use Rattle.judge_laws.specs.Judge.{form_side}
 use mathlib.Core.Path.{sym, ◌∙◌}
-use borrow.Author.Rules.{rules}
 use Rattle.judge.proofs.judge_forms.Goals as goal
 
 pub returns-then-a-ne0 : goal.returns-then-a-ne0

@@ -4,7 +4,6 @@ use Rattle.judge.proofs.PairLaws.{left_verdict, right_verdict}
 use Rattle.judge.proofs.UnshiftedFormLaws.{room_take}
 use Rattle.judge_laws.specs.Judge.{expr_side}
 use mathlib.Core.Path.{sym, ◌∙◌}
-use borrow.Author.Rules.{rules}
 use Rattle.judge.proofs.judge_in.Goals as goal
 
 pub returns-then-a-ne0 : goal.returns-then-a-ne0

@@ -11,7 +11,6 @@ use Rattle.truth.specs.Truth.{shifts_var}
 use mathlib.Core.Path.{◌≡◌, ap, sym, ◌∙◌}
 use native.Mathlib.Omega.{arith}
 use lib.ListN.{length}
-use borrow.Author.Rules.{rules}
 use Rattle.judge.proofs.judge_pair.Goals as goal
 
 pub width-w-requires : goal.width-w-requires

@@ -5,11 +5,11 @@ use Rattle.judge.proofs.FoundLaws.{turn_found, turn_on}
 use Rattle.base.specs.Loop.{first_in}
 use mathlib.Core.List.{List}
 use Rattle.record.specs.Span.{body}
-use mathlib.Core.Path.{◌≡◌, refl, ap, ap₂, sym, ◌∙◌}
+use mathlib.Core.Path.{refl, ap, ap₂, sym, ◌∙◌}
 use mathlib.Core.Bool.{false}
 use native.Mathlib.Omega.{arith}
 use lib.ListN.{length}
-use Prim.Native.Nat.{ℕ, ◌-◌, ◌≤◌, ◌<◌}
+use Prim.Native.Nat.{ℕ, ◌-◌}
 use Rattle.judge.proofs.search_places.Goals as goal
 
 pub loop-p-init : goal.loop-p-init

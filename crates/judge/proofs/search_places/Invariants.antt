@@ -1,13 +1,9 @@
 -- `search_places` meets its contract: the loop keeps that the test passes at no place before `p`.
 use Rattle.judge.specs.Sums.{form_rows}
-use Rattle.judge.specs.Found.{unlike_rows, nowhere}
-use Rattle.judge.proofs.FoundLaws.{turn_found, turn_on}
-use Rattle.base.specs.Loop.{first_in}
-use mathlib.Core.List.{List}
+use Rattle.judge.specs.Found.{unlike_rows}
 use Rattle.record.specs.Span.{body}
-use mathlib.Core.Path.{◌≡◌, refl, ap, ap₂, sym, ◌∙◌}
+use mathlib.Core.Path.{◌≡◌}
 use mathlib.Core.Bool.{false}
-use native.Mathlib.Omega.{arith}
 use lib.ListN.{length}
 use Prim.Native.Nat.{ℕ, ◌-◌, ◌≤◌, ◌<◌}
 use Rattle.judge.proofs.search_places.Given as goal

@@ -7,8 +7,6 @@ use native.Mathlib.Omega.{arith}
 use mathlib.Core.Bool.{Bool, ◌||◌}
 use lib.Dec.{lit<}
 use lib.Seq.{length-take-le}
-use borrow.Author.Rules.{rules}
-use Rattle.record.specs.Fields.{size}
 use Rattle.expr_refusal.proofs.RefusalLaws.{accepted_root}
 use Rattle.rules_laws.specs.Rules.{is_bitwise}
 use Rattle.literals.proofs.FoldingLaws.{mark_folded}

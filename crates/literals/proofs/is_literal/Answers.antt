@@ -1,6 +1,4 @@
 -- `is_literal` meets its contract: one test after the other.
-use borrow.Author.Tests.{not-true, not-false}
-use borrow.Author.Rules.{rules}
 use Rattle.literals.proofs.FoldingLaws.{literal_off, literal_on}
 use Rattle.literals.proofs.is_literal.Goals as goal
 

@@ -1,5 +1,4 @@
 -- `put_root` meets its contract: the size is one more than the records before.
-use borrow.Author.Rules.{rules}
 use Rattle.literals.proofs.RootLaws.{root_put}
 use Rattle.literals.proofs.put_root.Goals as goal
 

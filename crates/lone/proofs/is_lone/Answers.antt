@@ -1,7 +1,5 @@
 -- `is_lone` meets its contract: no row before it and none behind it has the basis.
 use native.Mathlib.Omega.{arith}
-use borrow.Author.Rules.{rules}
-use borrow.Author.Tests.{not-false}
 use Rattle.base.proofs.BoolLaws.{false_true}
 use Rattle.views.proofs.HasBasisLaws.{readable_fewer}
 use Rattle.lone.proofs.LoneLaws.{gathered_lone}

@@ -1,7 +1,7 @@
 -- `none_has` meets its contract: no row before i has the basis.
 use mathlib.Core.Path.{◌≡◌, sym, ◌∙◌}
 use mathlib.Core.Bool.{false}
-use Prim.Native.Nat.{ℕ, ◌-◌, ◌≤◌, ◌<◌}
+use Prim.Native.Nat.{ℕ, ◌-◌}
 use native.Mathlib.Omega.{arith}
 use Rattle.base.proofs.BoolLaws.{false_true}
 use Rattle.views.specs.Views.{view_at, has_basis}

@@ -1,12 +1,8 @@
 -- `none_has` meets its contract: no row before i has the basis.
-use mathlib.Core.Path.{◌≡◌, sym, ◌∙◌}
+use mathlib.Core.Path.{◌≡◌}
 use mathlib.Core.Bool.{false}
 use Prim.Native.Nat.{ℕ, ◌-◌, ◌≤◌, ◌<◌}
-use native.Mathlib.Omega.{arith}
-use Rattle.base.proofs.BoolLaws.{false_true}
 use Rattle.views.specs.Views.{view_at, has_basis}
-use Rattle.views.proofs.HasBasisLaws.{readable_fewer}
-use Rattle.lone.proofs.LoneLaws.{from_more}
 use Rattle.lone.proofs.none_has.Given as goal
 
 abbrev pub invariant-loop-i : goal.invariant-loop-i

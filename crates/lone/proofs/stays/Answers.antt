@@ -1,6 +1,5 @@
 -- `stays` meets its contract: a case for each test.
 use mathlib.Core.Path.{sym, ◌∙◌}
-use borrow.Author.Rules.{rules}
 use borrow.Author.Tests.{not-true}
 use Rattle.base.proofs.BoolLaws.{false_true}
 use Rattle.lone.proofs.stays.Goals as goal

@@ -1,6 +1,4 @@
 -- `stays_alone` meets its contract: both tests.
-use borrow.Author.Rules.{rules}
-use borrow.Author.Tests.{not-false}
 use Rattle.base.proofs.BoolLaws.{false_true}
 use Rattle.views.specs.Views.{view_at}
 use Rattle.lone.proofs.stays_alone.Goals as goal

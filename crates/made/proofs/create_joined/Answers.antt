@@ -4,7 +4,6 @@ use Rattle.record.proofs.SizedLaws.{sized_big, sized_length}
 use Rattle.atom_table.specs.Table.{full_table}
 use Rattle.atom_table.proofs.TableLaws.{create_full, create_past, fits_more_count, fits_more_records}
 use Rattle.made.proofs.WordsLaws.{basis_sized, masked_bytes, masked_size, created_masked}
-use borrow.Author.Rules.{rules}
 use Rattle.made.proofs.create_joined.Goals as goal
 
 pub returns-then-more : goal.returns-then-more

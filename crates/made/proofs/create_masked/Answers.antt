@@ -5,7 +5,6 @@ use Rattle.record.specs.Decode.{decode}
 use Rattle.atom_table.specs.declared.table.Table.{Table}
 use Rattle.atom_table.specs.Table.{store_of, create_atom}
 use Rattle.made.proofs.WordsLaws.{basis_sized, grew_as, grew_create, grew_masked, masked_full, masked_bytes}
-use borrow.Author.Rules.{rules}
 use Rattle.made.proofs.create_masked.Goals as goal
 
 pub create_atom-more-requires : goal.create_atom-more-requires

@@ -1,6 +1,5 @@
 use mathlib.Core.Path.{refl}
 use Rattle.made.specs.Made.{table_of}
-use borrow.Author.Rules.{rules}
 use Rattle.made.proofs.load.Goals as goal
 
 pub returns : goal.returns

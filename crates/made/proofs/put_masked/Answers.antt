@@ -1,6 +1,5 @@
 use native.Mathlib.Omega.{arith}
 use Rattle.made.proofs.WordsLaws.{wrote_masked}
-use borrow.Author.Rules.{rules}
 use Rattle.made.proofs.put_masked.Goals as goal
 
 pub returns : goal.returns

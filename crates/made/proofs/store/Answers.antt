@@ -1,7 +1,6 @@
 use lib.ListN.{length-set}
 use native.Mathlib.Omega.{arith}
 use Rattle.made.proofs.WordsLaws.{set_words}
-use borrow.Author.Rules.{rules}
 use Rattle.made.proofs.store.Goals as goal
 
 pub bounds-made-4-2 : goal.bounds-made-4-2

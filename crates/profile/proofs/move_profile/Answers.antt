@@ -1,11 +1,11 @@
 -- `move_profile` meets its contract: the loop keeps that the words before i were moved and the others are as they were.
-use Prim.Native.Nat.{ℕ, ◌-◌, ◌≤◌, ◌<◌}
+use Prim.Native.Nat.{ℕ, ◌-◌, ◌<◌}
 use Rattle.arith.specs.Bit.{bit_at}
 use Rattle.profile.proofs.AtomWordsLaws.{index_edges}
 use mathlib.Core.Path.{ap, sym, ◌∙◌}
 use native.Mathlib.Omega.{arith}
 use lib.ListN.{length}
-use Rattle.profile.proofs.MoveLaws.{Moving, moving_none, moving_all, moving_edge, moving_still}
+use Rattle.profile.proofs.MoveLaws.{moving_none, moving_all, moving_edge, moving_still}
 use Rattle.profile.proofs.move_profile.Goals as goal
 use Rattle.profile.proofs.move_profile.Goals.{else-bit-eq1, then-bit-eq1}
 

@@ -1,12 +1,7 @@
 -- `move_profile` meets its contract: the loop keeps that the words before i were moved and the others are as they were.
-use Prim.Native.Nat.{ℕ, ◌-◌, ◌≤◌, ◌<◌}
-use mathlib.Core.Logic.{⊎_elim}
-use Rattle.arith.specs.Bit.{bit_at}
-use Rattle.profile.proofs.AtomWordsLaws.{index_edges}
-use mathlib.Core.Path.{ap, sym, ◌∙◌}
-use native.Mathlib.Omega.{arith}
+use Prim.Native.Nat.{◌-◌, ◌≤◌}
 use lib.ListN.{length}
-use Rattle.profile.proofs.MoveLaws.{Moving, moving_none, moving_all, moving_edge, moving_still}
+use Rattle.profile.proofs.MoveLaws.{Moving}
 use Rattle.profile.proofs.move_profile.Given as goal
 
 abbrev pub invariant-loop-i : goal.invariant-loop-i

@@ -8,7 +8,6 @@ use Rattle.record.specs.Decode.{decode}
 use Rattle.semilinear.specs.Items.{is_atom, tree_span}
 use Rattle.truth.specs.Truth.{table_f}
 use Rattle.profile.proofs.AtomWordsLaws.{word_none, word_some, index_word, index_start, index_vars}
-use borrow.Author.Rules.{rules}
 use Rattle.profile.proofs.profile_word.Goals as goal
 
 pub returns-then-rows-eq0 : goal.returns-then-rows-eq0

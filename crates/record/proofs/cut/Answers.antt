@@ -2,7 +2,6 @@
 use Rattle.record.specs.Span.{cut}
 use borrow.Author.Tests.{lt-ltb, le-ltb}
 use native.Mathlib.Omega.{arith}
-use borrow.Author.Rules.{rules}
 use Rattle.record.proofs.cut.Goals as goal
 
 pub returns-then-n-lt32 : goal.returns-then-n-lt32

@@ -1,10 +1,9 @@
 -- `left` meets its contract: the bytes before the cut.
 use Prim.Native.Nat.{ℕ}
-use Rattle.record.specs.Span.{left, cut}
+use Rattle.record.specs.Span.{left}
 use native.Mathlib.Omega.{arith}
 use mathlib.Core.Path.{ap}
 use lib.ListN.{take, length-take}
-use borrow.Author.Rules.{rules}
 use Rattle.record.proofs.left.Goals as goal
 
 pub slice_bounds-result-end : goal.slice_bounds-result-end

@@ -1,6 +1,5 @@
 -- `literal` meets its contract: the eight bytes at their place in the last record.
 use Rattle.record.specs.Fields.{literal}
-use borrow.Author.Rules.{rules}
 use Rattle.record.proofs.literal.Goals as goal
 
 pub returns : goal.returns

@@ -2,10 +2,9 @@
 use Rattle.record.proofs.SpanLaws.{right_short}
 use Prim.Native.Nat.{ℕ, ◌-◌}
 use lib.ListN.{length, drop}
-use Rattle.record.specs.Span.{right, cut}
+use Rattle.record.specs.Span.{right}
 use mathlib.Core.Path.{ap}
 use lib.ListN.{take}
-use borrow.Author.Rules.{rules}
 use Rattle.record.proofs.right.Goals as goal
 
 pub returns-then-n-lt-RECORD_LENGTH : goal.returns-then-n-lt-RECORD_LENGTH

@@ -1,7 +1,6 @@
 -- `root_arity` meets its contract: the arity of the root's kind.
 use Rattle.record.specs.Fields.{arity}
 use mathlib.Core.Path.{ap, ◌∙◌}
-use borrow.Author.Rules.{rules}
 use Rattle.record.proofs.root_arity.Goals as goal
 
 pub returns : goal.returns

@@ -1,10 +1,8 @@
 -- `same_bytes` meets its contract: the loop keeps that the bytes from `i` on decide.
 use Prim.Native.Nat.{◌-◌, ◌≤◌}
-use mathlib.Core.Path.{◌≡◌, refl, sym, ◌∙◌}
-use native.Mathlib.Omega.{arith}
+use mathlib.Core.Path.{◌≡◌}
 use lib.ListN.{length, drop}
 use Rattle.base.specs.Lists.{eq_list}
-use Rattle.base.proofs.ListsLaws.{eq_list_lengths, eq_list_differ, eq_list_next, eq_list_end}
 use Rattle.record.proofs.same_bytes.Given as goal
 
 abbrev pub invariant-loop-i : goal.invariant-loop-i

@@ -1,6 +1,5 @@
 -- `size` meets its contract: the two bytes at their place in the last record.
 use Rattle.record.specs.Fields.{size}
-use borrow.Author.Rules.{rules}
 use Rattle.record.proofs.size.Goals as goal
 
 pub returns : goal.returns

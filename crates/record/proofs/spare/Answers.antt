@@ -1,7 +1,6 @@
 -- `spare` meets its contract: byte 5, and the sum of the two behind it.
 use Rattle.record.specs.Fields.{spare}
 use native.Mathlib.Omega.{arith}
-use borrow.Author.Rules.{rules}
 use Rattle.record.proofs.spare.Goals as goal
 
 pub returns : goal.returns

@@ -1,6 +1,5 @@
 -- `spare_high` meets its contract: the two bytes at their place in the last record.
 use Rattle.record.specs.Fields.{spare_high}
-use borrow.Author.Rules.{rules}
 use Rattle.record.proofs.spare_high.Goals as goal
 
 pub returns : goal.returns

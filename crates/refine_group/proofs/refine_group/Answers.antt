@@ -1,12 +1,11 @@
 -- `refine_group` meets its contract: after each stage, taken or not, the group, the words and the bytes are those of the
 -- stages so far; the end settles the group.
-use mathlib.Core.Path.{◌≡◌, refl, sym, ◌∙◌}
+use mathlib.Core.Path.{refl, sym, ◌∙◌}
 use native.Mathlib.Omega.{arith}
-use borrow.Author.Rules.{rules}
 use Rattle.record.specs.Decode.{decode}
 use Rattle.made.proofs.WordsLaws.{makes_fewer, makes_later}
 use Rattle.group.specs.Made.{Stepped}
-use Rattle.group.specs.Stages.{cut_and_drop, merge_all}
+use Rattle.group.specs.Stages.{cut_and_drop}
 use Rattle.group.proofs.SteppedLaws.{stepped_then, stepped_met}
 use Rattle.group.proofs.StagesLaws.{single_none, merge_none}
 use Rattle.collapse_search.proofs.CollapseMetLaws.{three_collapsible, collapse_same, collapse_met}

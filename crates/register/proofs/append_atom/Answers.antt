@@ -2,7 +2,6 @@
 use Rattle.register.proofs.EntryLaws.{words_of_entry}
 use Rattle.expr_refusal.proofs.RefusalLaws.{sized_accepted}
 use Rattle.register.proofs.AppendedLaws.{registers_past, room_more, registers_more}
-use borrow.Author.Rules.{rules}
 use Rattle.register.proofs.append_atom.Goals as goal
 
 pub create_atom-more-requires : goal.create_atom-more-requires

@@ -5,7 +5,6 @@ use native.Mathlib.Omega.{arith}
 use Rattle.ways.specs.Spans.{span_of}
 use Rattle.descent.specs.Spots.{spot_at}
 use Rattle.ways.proofs.PartLaws.{length_span}
-use borrow.Author.Rules.{rules}
 use Rattle.register.proofs.build_tree.Goals as goal
 
 pub slice_bounds-put_tree-count : goal.slice_bounds-put_tree-count

@@ -6,7 +6,6 @@ use mathlib.Core.List.{List}
 use lib.ListN.{length}
 use Rattle.base.specs.Put.{put}
 use Rattle.base.proofs.PutLaws.{put_then}
-use borrow.Author.Rules.{rules}
 use Rattle.register.proofs.put_entry.Goals as goal
 
 pub returns : goal.returns

@@ -1,11 +1,9 @@
 -- `register_all` meets its contract: the loop keeps that the table holds the rows of the spots so far.
 use Prim.Native.Nat.{◌-◌}
 use native.Mathlib.Omega.{arith}
-use borrow.Author.Rules.{rules}
-use mathlib.Core.Path.{◌≡◌, refl, sym}
-use lib.ListN.{length}
+use mathlib.Core.Path.{refl, sym}
 use lib.Seq.{length-take-le}
-use Rattle.register.proofs.ReachedLaws.{Reached, reached_start, emitted_spot, reached_next}
+use Rattle.register.proofs.ReachedLaws.{reached_start, emitted_spot, reached_next}
 use Rattle.register.proofs.ReachedLaws.{reached_room, registers_full, registers_end}
 use Rattle.register.proofs.register_all.Goals as goal
 

@@ -4,7 +4,6 @@ use Rattle.expr_refusal.proofs.RefusalLaws.{sized_accepted}
 use Rattle.register.proofs.AppendedLaws.{index_room}
 use Rattle.register.proofs.StepLaws.{searchable_indexed, registers_by_hash, registers_by_key}
 use Rattle.register.proofs.StepLaws.{registers_new}
-use borrow.Author.Rules.{rules}
 use Rattle.register.proofs.register_atom.Goals as goal
 
 pub structural_hash-hash-requires : goal.structural_hash-hash-requires

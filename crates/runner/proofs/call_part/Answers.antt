@@ -1,13 +1,11 @@
 -- What the pass wrote to a part is the start of the whole.
-use mathlib.Core.Path.{◌≡◌, refl, ap, sym, ◌∙◌}
-use Prim.Native.Nat.{ℕ, ◌+◌, ◌-◌, ◌≤◌, ◌<◌, zero-le}
-use native.Mathlib.Omega.{arith}
-use lib.ListN.{length, take}
+use mathlib.Core.Path.{sym}
+use Prim.Native.Nat.{◌-◌}
+use lib.ListN.{take}
 use lib.Seq.{length-take-le}
 use Rattle.claims.specs.Calls.{pass_gives}
 use Rattle.runner.specs.RunPasses.{pass_at}
 use Rattle.runner.proofs.TurnLaws.{parted}
-use borrow.Author.Rules.{rules}
 use Rattle.runner.proofs.call_part.Goals as goal
 
 pub slice_bounds-make_call-end : goal.slice_bounds-make_call-end

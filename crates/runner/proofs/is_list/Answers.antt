@@ -1,11 +1,9 @@
 -- The words are looked at two by two.
-use borrow.Author.Rules.{rules}
-use mathlib.Core.Path.{◌≡◌, refl, sym, ◌∙◌}
-use Prim.Native.Nat.{ℕ, ◌+◌, ◌-◌, ◌≤◌, ◌<◌, zero-le}
+use mathlib.Core.Path.{refl, sym, ◌∙◌}
+use Prim.Native.Nat.{◌+◌, ◌-◌, ◌≤◌, zero-le}
 use native.Mathlib.Omega.{arith}
-use lib.ListN.{length, get_or, drop}
-use borrow.Author.Tests.{not-true, not-false}
-use Rattle.runner.specs.RunPasses.{is_pass, is_list}
+use lib.ListN.{length}
+use Rattle.runner.specs.RunPasses.{is_pass}
 use Rattle.runner.proofs.ListLaws.{list_end, list_odd, list_pass, list_a, list_b, list_turn}
 use Rattle.runner.proofs.is_list.Goals as goal
 

@@ -1,12 +1,8 @@
 -- The words are looked at two by two.
-use borrow.Author.Rules.{rules}
-use mathlib.Core.Path.{◌≡◌, refl, sym, ◌∙◌}
-use Prim.Native.Nat.{ℕ, ◌+◌, ◌-◌, ◌≤◌, ◌<◌, zero-le}
-use native.Mathlib.Omega.{arith}
-use lib.ListN.{length, get_or, drop}
-use borrow.Author.Tests.{not-true, not-false}
-use Rattle.runner.specs.RunPasses.{is_pass, is_list}
-use Rattle.runner.proofs.ListLaws.{list_end, list_odd, list_pass, list_a, list_b, list_turn}
+use mathlib.Core.Path.{◌≡◌}
+use Prim.Native.Nat.{◌-◌, ◌≤◌}
+use lib.ListN.{length, drop}
+use Rattle.runner.specs.RunPasses.{is_list}
 use Rattle.runner.proofs.is_list.Given as goal
 
 abbrev pub invariant-loop-i : goal.invariant-loop-i

@@ -1,7 +1,6 @@
 -- What the pass that is called gives.
 use Rattle.claims.specs.Calls.{pass_gives}
 use Rattle.runner.proofs.ListLaws.{at_one, at_two, at_three, at_four, at_other}
-use borrow.Author.Rules.{rules}
 use Rattle.runner.proofs.make_call.Goals as goal
 
 pub returns-then-pass-eq1 : goal.returns-then-pass-eq1

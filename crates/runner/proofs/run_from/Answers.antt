@@ -2,7 +2,6 @@
 use mathlib.Core.Path.{◌∙◌}
 use Rattle.runner.proofs.TurnLaws.{slice_length}
 use Rattle.runner.proofs.RunLaws.{lies_placed, lies_given, placed_again, placed_bytes}
-use borrow.Author.Rules.{rules}
 use Rattle.runner.proofs.run_from.Goals as goal
 
 pub run_list-last-requires : goal.run_list-last-requires

@@ -1,11 +1,8 @@
 -- Call by call, the rest of the list makes of the bytes in use what the whole list makes of the first.
-use borrow.Author.Rules.{rules}
-use mathlib.Core.Path.{◌≡◌, refl, ap, sym, ◌∙◌}
-use Prim.Native.Nat.{ℕ, ◌+◌, ◌-◌, ◌≤◌, ◌<◌, zero-le}
+use mathlib.Core.Path.{refl}
+use Prim.Native.Nat.{◌-◌, zero-le}
 use native.Mathlib.Omega.{arith}
-use lib.ListN.{length, take}
-use Rattle.runner.specs.Placed.{bytes_in}
-use Rattle.runner.proofs.RunLaws.{Running, running_next, running_lies, running_turn, running_end}
+use Rattle.runner.proofs.RunLaws.{running_next, running_lies, running_turn, running_end}
 use Rattle.runner.proofs.run_list.Goals as goal
 
 pub loop-i-init : goal.loop-i-init

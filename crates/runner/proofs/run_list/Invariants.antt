@@ -1,11 +1,8 @@
 -- Call by call, the rest of the list makes of the bytes in use what the whole list makes of the first.
-use borrow.Author.Rules.{rules}
-use mathlib.Core.Path.{◌≡◌, refl, ap, sym, ◌∙◌}
-use Prim.Native.Nat.{ℕ, ◌+◌, ◌-◌, ◌≤◌, ◌<◌, zero-le}
-use native.Mathlib.Omega.{arith}
-use lib.ListN.{length, take}
+use Prim.Native.Nat.{◌-◌}
+use lib.ListN.{length}
 use Rattle.runner.specs.Placed.{bytes_in}
-use Rattle.runner.proofs.RunLaws.{Running, running_next, running_lies, running_turn, running_end}
+use Rattle.runner.proofs.RunLaws.{Running}
 use Rattle.runner.proofs.run_list.Given as goal
 
 abbrev pub invariant-loop-i : goal.invariant-loop-i

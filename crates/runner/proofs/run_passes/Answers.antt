@@ -1,9 +1,7 @@
 -- A law for each way out.
 use mathlib.Core.Path.{sym, ◌∙◌}
 use lib.ListN.{length}
-use borrow.Author.Tests.{not-true, not-false}
 use Rattle.runner.proofs.EntryLaws.{list_is, run_one, run_two, run_bad, run_refused, run_start, run_end}
-use borrow.Author.Rules.{rules}
 use Rattle.runner.proofs.run_passes.Goals as goal
 
 pub returns-then-found-eq1 : goal.returns-then-found-eq1

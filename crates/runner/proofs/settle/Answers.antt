@@ -1,11 +1,10 @@
 -- What lies in the second slice is copied whole.
-use mathlib.Core.Path.{◌≡◌, refl, ap, sym, ◌∙◌}
-use Prim.Native.Nat.{ℕ, ◌+◌, ◌-◌, ◌≤◌, ◌<◌, zero-le}
+use mathlib.Core.Path.{sym}
+use Prim.Native.Nat.{◌-◌}
 use native.Mathlib.Omega.{arith}
-use lib.ListN.{length, take}
+use lib.ListN.{length}
 use lib.Seq.{length-take-le}
 use Rattle.runner.proofs.TurnLaws.{second_room, settled_first, settled_second}
-use borrow.Author.Rules.{rules}
 use Rattle.runner.proofs.settle.Goals as goal
 
 pub returns-then-first : goal.returns-then-first

@@ -2,7 +2,6 @@
 use Rattle.runner.specs.RunPasses.{call_of}
 use Rattle.runner.proofs.TurnLaws.{first_refused, first_accepted, second_refused, second_accepted}
 use Rattle.runner.proofs.TurnLaws.{first_asks, second_asks}
-use borrow.Author.Rules.{rules}
 use Rattle.runner.proofs.turn.Goals as goal
 
 pub call_part-made-requires : goal.call_part-made-requires

@@ -1,7 +1,6 @@
 -- `file_refusal` meets its contract: 1, then 2, then what the expression itself shows.
 use mathlib.Core.Path.{sym, ◌∙◌}
 use Rattle.semilinear_normalizer.proofs.RulesLaws.{file_first, file_slice, file_own}
-use borrow.Author.Rules.{rules}
 use Rattle.semilinear_normalizer.proofs.file_refusal.Goals as goal
 
 pub returns-then-number-eq1 : goal.returns-then-number-eq1

@@ -4,7 +4,6 @@ use native.Mathlib.Omega.{arith}
 use lib.Seq.{length-take-le}
 use Rattle.expr_refusal.proofs.RefusalLaws.{accepted_big, sized_accepted}
 use Rattle.semilinear_normalizer.proofs.RulesLaws.{whole_marks, copied}
-use borrow.Author.Rules.{rules}
 use Rattle.semilinear_normalizer.proofs.fold_file.Goals as goal
 
 pub mark_traits-requires : goal.mark_traits-requires

@@ -4,7 +4,6 @@ use native.Mathlib.Omega.{arith}
 use Rattle.expr_refusal.proofs.RefusalLaws.{accepted_root}
 use Rattle.semilinear_normalizer.proofs.WholeTreeLaws.{size_room}
 use Rattle.semilinear_normalizer.proofs.RulesLaws.{gives_folded}
-use borrow.Author.Rules.{rules}
 use Rattle.semilinear_normalizer.proofs.folded_short.Goals as goal
 
 pub fold_file-end-requires : goal.fold_file-end-requires

@@ -2,7 +2,6 @@
 use mathlib.Core.Path.{◌∙◌}
 use Rattle.atom_table.proofs.PassLaws.{gives_same}
 use Rattle.rules_laws.proofs.RulesLaws.{ruled_one, rules_first, rules_second, rules_other}
-use borrow.Author.Rules.{rules}
 use Rattle.semilinear_normalizer.proofs.normalize_by_rules.Goals as goal
 
 pub returns-then-rules-eq1 : goal.returns-then-rules-eq1

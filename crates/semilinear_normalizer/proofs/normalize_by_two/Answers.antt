@@ -4,7 +4,6 @@ use Rattle.expr_refusal.proofs.RefusalLaws.{accepted_big}
 use Rattle.expr.proofs.ExprValueLaws.{accepted_tree, accepted_length}
 use Rattle.rules_laws.proofs.RulesLaws.{ruled_file}
 use Rattle.semilinear_normalizer.proofs.RulesLaws.{file_reached, gives_refusal, gives_ruled}
-use borrow.Author.Rules.{rules}
 use Rattle.semilinear_normalizer.proofs.normalize_by_two.Goals as goal
 
 pub returns-then-number-ne0 : goal.returns-then-number-ne0

@@ -1,7 +1,6 @@
 -- `normalize_short` meets its contract: its arrays have room for 64 records.
 use native.Mathlib.Omega.{arith}
 use Rattle.semilinear_normalizer.proofs.WholeTreeLaws.{size_room}
-use borrow.Author.Rules.{rules}
 use Rattle.semilinear_normalizer.proofs.normalize_short.Goals as goal
 
 pub normalize_tree-requires : goal.normalize_tree-requires

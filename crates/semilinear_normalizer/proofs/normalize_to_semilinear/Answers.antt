@@ -4,7 +4,6 @@ use Rattle.expr_refusal.proofs.RefusalLaws.{accepted_big}
 use Rattle.expr.proofs.ExprValueLaws.{accepted_tree, accepted_length}
 use Rattle.normalizer_laws.proofs.NormalizeLaws.{normalize_file}
 use Rattle.semilinear_normalizer.proofs.RulesLaws.{file_reached, gives_refusal, gives_plain}
-use borrow.Author.Rules.{rules}
 use Rattle.semilinear_normalizer.proofs.normalize_to_semilinear.Goals as goal
 
 pub returns-then-number-ne0 : goal.returns-then-number-ne0

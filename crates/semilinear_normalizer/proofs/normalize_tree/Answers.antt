@@ -6,7 +6,6 @@ use lib.Seq.{length-take-le}
 use Rattle.expr_refusal.proofs.RefusalLaws.{accepted_big, sized_accepted}
 use Rattle.semilinear_normalizer.proofs.WholeTreeLaws.{whole_at, whole_ready, gives_eight, gives_collected}
 use Rattle.semilinear_normalizer.proofs.WholeTreeLaws.{spots_whole, count_whole, index_whole}
-use borrow.Author.Rules.{rules}
 use Rattle.semilinear_normalizer.proofs.normalize_tree.Goals as goal
 
 pub mark_traits-requires : goal.mark_traits-requires

@@ -1,10 +1,9 @@
 -- `semilinear_value` meets its contract: the value of an accepted form, and 0 beside a refusal.
-use Rattle.record.specs.Fields.{width, literal}
+use Rattle.record.specs.Fields.{width}
 use Rattle.semilinear_value.proofs.ValueLaws.{form_value_accepted, form_value_refused}
 use Rattle.semilinear.proofs.AcceptLaws.{accepted_semilinear}
 use Rattle.semilinear.proofs.ValidLaws.{semilinear_parts}
 use mathlib.Core.Path.{sym, ◌∙◌}
-use borrow.Author.Rules.{rules}
 use Rattle.semilinear_value.proofs.semilinear_value.Goals as goal
 
 pub returns-then-number-ne0 : goal.returns-then-number-ne0

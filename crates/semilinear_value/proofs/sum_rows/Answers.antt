@@ -1,13 +1,9 @@
 -- `sum_rows` meets its contract: the loop keeps that the sum so far and the rows left give the whole.
-use Rattle.semilinear_value.proofs.SumLaws.{Summed, summed_start, summed_row, summed_end}
-use Rattle.semilinear.specs.Form.{sum_rows}
-use Rattle.semilinear.specs.Items.{is_atom, after_atoms}
-use Rattle.semilinear.specs.DecodeForm.{rows_of}
-use borrow.Author.Tests.{not-true, not-false}
+use Rattle.semilinear_value.proofs.SumLaws.{summed_start, summed_row, summed_end}
+use Rattle.semilinear.specs.Items.{is_atom}
 use mathlib.Core.Path.{ap, sym, ◌∙◌}
 use native.Mathlib.Omega.{arith}
-use Prim.Native.Nat.{◌+◌, ◌-◌, ◌%◌, ◌^◌}
-use lib.ListN.{length}
+use Prim.Native.Nat.{◌-◌}
 use Rattle.semilinear_value.proofs.sum_rows.Goals as goal
 
 pub loop-x-init : goal.loop-x-init

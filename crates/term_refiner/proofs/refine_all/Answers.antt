@@ -1,12 +1,8 @@
 -- `refine_all` meets its contract: after k turns k groups are refined.
-use mathlib.Core.Path.{◌≡◌, sym, ◌∙◌}
-use mathlib.Core.List.{[]}
-use Prim.Native.Nat.{◌-◌, ◌≤◌}
+use mathlib.Core.Path.{sym, ◌∙◌}
+use Prim.Native.Nat.{◌-◌}
 use native.Mathlib.Omega.{arith}
-use Rattle.semilinear.specs.Items.{after_atoms}
-use Rattle.semilinear.specs.DecodeForm.{read_rows}
-use Rattle.views.specs.Grouping.{any_basis, bases_of}
-use Rattle.term_refiner.proofs.AllRefinedLaws.{Going, going_start, going_next, going_done}
+use Rattle.term_refiner.proofs.AllRefinedLaws.{going_start, going_next, going_done}
 use Rattle.group.proofs.PassLaws.{count_few, count_room, next_at, end_at, group_at, all_at}
 use Rattle.term_refiner.proofs.refine_all.Goals as goal
 

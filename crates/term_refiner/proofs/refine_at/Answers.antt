@@ -1,5 +1,4 @@
 -- `refine_at` meets its contract: the words of the row name the basis.
-use borrow.Author.Rules.{rules}
 use Rattle.views.specs.Views.{view_at, basis_bytes}
 use Rattle.lone.proofs.LoneLaws.{at_lone}
 use Rattle.group.proofs.PassLaws.{at_group}

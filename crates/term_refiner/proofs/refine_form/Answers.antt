@@ -1,10 +1,8 @@
 -- `refine_form` meets its contract: the copied table, its rows refined, and the end of a pass.
-use native.Mathlib.Omega.{arith}
 use Rattle.base.proofs.PutLaws.{padded_nil}
 use Rattle.semilinear.proofs.ValidLaws.{semilinear_parts}
 use Rattle.group.proofs.PassLaws.{pass_begin}
 use Rattle.term_refiner.proofs.RefinedLaws.{refine_room, refine_end}
-use borrow.Author.Rules.{rules}
 use Rattle.term_refiner.proofs.refine_form.Goals as goal
 
 pub width-w-requires : goal.width-w-requires

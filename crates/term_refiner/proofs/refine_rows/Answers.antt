@@ -2,7 +2,6 @@
 use native.Mathlib.Omega.{arith}
 use Rattle.group.proofs.PassLaws.{read_count, read_readable, first_same, rows_views}
 use Rattle.term_refiner.proofs.RowsRefinedLaws.{read_any, rows_refined}
-use borrow.Author.Rules.{rules}
 use Rattle.term_refiner.proofs.refine_rows.Goals as goal
 
 pub read_views-n-requires : goal.read_views-n-requires

@@ -1,7 +1,6 @@
 -- `refine_short` meets its contract: the arrays have room for the views and the bases of few atoms.
 use native.Mathlib.Omega.{arith}
 use Rattle.group.proofs.PassLaws.{form_fewer}
-use borrow.Author.Rules.{rules}
 use Rattle.term_refiner.proofs.refine_short.Goals as goal
 
 pub refine_rows-requires : goal.refine_rows-requires

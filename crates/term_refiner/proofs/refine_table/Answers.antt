@@ -1,7 +1,6 @@
 -- `refine_table` meets its contract: few atoms go into short arrays.
 use native.Mathlib.Omega.{arith}
 use Rattle.group.proofs.PassLaws.{form_fewer}
-use borrow.Author.Rules.{rules}
 use Rattle.term_refiner.proofs.refine_table.Goals as goal
 
 pub refine_short-requires : goal.refine_short-requires

@@ -1,7 +1,6 @@
 -- `refine_terms` meets its contract: the front door, and then the form.
 use Rattle.atom_table.proofs.ReadLaws.{pass_shut, pass_open, pass_zeros, pass_given}
 use Rattle.refiner_laws.specs.RefineTerms.{refine_terms}
-use borrow.Author.Rules.{rules}
 use Rattle.term_refiner.proofs.refine_terms.Goals as goal
 
 pub returns-then-number-ne0 : goal.returns-then-number-ne0

@@ -5,7 +5,7 @@ use Rattle.record.proofs.DecodeLaws.{decode_two, child_body, child_left, child_r
 use Rattle.record.specs.Fields.{size}
 use Rattle.record.specs.Span.{body, sized}
 use Rattle.truth.proofs.RowsLaws.{rows_join}
-use Rattle.truth.proofs.PassedLaws.{rows_of, rows_leaf, ChainPassed}
+use Rattle.truth.proofs.PassedLaws.{rows_of, rows_leaf}
 use Rattle.truth.proofs.PassedLaws.{passed_none, passed_not, passed_shift, passed_past}
 use mathlib.Core.Path.{◌≡◌, refl, sym, ◌∙◌}
 use mathlib.Core.Bool.{true}

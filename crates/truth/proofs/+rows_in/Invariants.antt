@@ -1,19 +1,8 @@
 -- `rows_in` meets its contract: the loop keeps that the rows of t are those of s, complemented or as they are; at a
 -- root without children and at one with two the law of the rows there. A child's rows are those of a leaf or of a call.
-use Rattle.record.proofs.SizedLaws.{sized_big}
-use Rattle.record.proofs.DecodeLaws.{decode_two, child_body, child_left, child_right}
 use Rattle.record.specs.Fields.{size}
-use Rattle.record.specs.Span.{body, sized}
-use Rattle.truth.proofs.RowsLaws.{rows_join}
-use Rattle.truth.proofs.PassedLaws.{rows_of, rows_leaf, ChainPassed}
-use Rattle.truth.proofs.PassedLaws.{passed_none, passed_not, passed_shift, passed_past}
-use mathlib.Core.Path.{◌≡◌, refl, sym, ◌∙◌}
-use mathlib.Core.Logic.{⊎_elim}
-use mathlib.Core.Bool.{true}
-use lib.ListN.{length, length-take}
-use native.Mathlib.Omega.{arith}
-use borrow.Author.Rules.{rules}
-use Prim.Native.Nat.{ℕ, ◌-◌, ◌<◌}
+use Rattle.truth.proofs.PassedLaws.{ChainPassed}
+use Prim.Native.Nat.{◌-◌}
 use Rattle.truth.proofs.+rows_in.Given as goal
 
 abbrev pub decreases-rows_in : goal.decreases-rows_in

@@ -1,5 +1,4 @@
 -- `complement` meets its contract: by the test.
-use borrow.Author.Rules.{rules}
 use Rattle.truth.proofs.complement.Goals as goal
 
 pub returns-then-flip : goal.returns-then-flip

@@ -4,7 +4,6 @@ use Rattle.record.proofs.LeafLaws.{leaf_constant, leaf_variable}
 use Rattle.arith.specs.Bit.{bit_at}
 use Prim.Native.Nat.{ℕ}
 use mathlib.Core.Path.{ap, sym, ◌∙◌}
-use borrow.Author.Rules.{rules}
 use Rattle.truth.proofs.leaf_rows.Goals as goal
 
 pub returns-then-bit-eq0 : goal.returns-then-bit-eq0

@@ -1,9 +1,7 @@
 -- `place_of` meets its contract: the loop keeps that the words before `j` are others.
-use Prim.Native.Nat.{◌+◌, ◌-◌, ◌≤◌}
-use mathlib.Core.Path.{◌≡◌, sym, ◌∙◌}
+use Prim.Native.Nat.{◌-◌}
+use mathlib.Core.Path.{sym, ◌∙◌}
 use native.Mathlib.Omega.{arith}
-use lib.ListN.{length, drop}
-use Rattle.truth.specs.Truth.{place_of}
 use Rattle.truth.proofs.RowsLaws.{place_start, place_found, place_next, place_end}
 use Rattle.truth.proofs.place_of.Goals as goal
 

@@ -1,10 +1,8 @@
 -- `place_of` meets its contract: the loop keeps that the words before `j` are others.
 use Prim.Native.Nat.{◌+◌, ◌-◌, ◌≤◌}
-use mathlib.Core.Path.{◌≡◌, sym, ◌∙◌}
-use native.Mathlib.Omega.{arith}
+use mathlib.Core.Path.{◌≡◌}
 use lib.ListN.{length, drop}
 use Rattle.truth.specs.Truth.{place_of}
-use Rattle.truth.proofs.RowsLaws.{place_start, place_found, place_next, place_end}
 use Rattle.truth.proofs.place_of.Given as goal
 
 abbrev pub invariant-loop-j : goal.invariant-loop-j

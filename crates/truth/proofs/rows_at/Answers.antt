@@ -4,7 +4,6 @@ use Rattle.record.proofs.SizedLaws.{sized_big}
 use Rattle.record.proofs.DecodeLaws.{decode_leaf}
 use native.Mathlib.Omega.{arith}
 use Rattle.truth.proofs.HalvesLaws.{halves}
-use borrow.Author.Rules.{rules}
 use Rattle.truth.proofs.rows_at.Goals as goal
 
 pub root_arity-requires : goal.root_arity-requires

@@ -3,7 +3,6 @@ use mathlib.Core.Path.{sym, ◌∙◌}
 use native.Mathlib.Omega.{arith}
 use Rattle.views.specs.Views.{view_at, basis_bytes}
 use Rattle.views.proofs.HasBasisLaws.{basis_other, basis_none, basis_same}
-use borrow.Author.Rules.{rules}
 use Rattle.views.proofs.has_basis.Goals as goal
 
 pub returns-then-views-v : goal.returns-then-views-v

@@ -1,6 +1,5 @@
 -- `put_view` meets its contract: five words are put.
 use Rattle.views.specs.Views.{view_words}
-use borrow.Author.Rules.{rules}
 use Rattle.views.proofs.put_view.Goals as goal
 
 pub returns : goal.returns

@@ -2,12 +2,8 @@
 use mathlib.Core.Path.{ap, sym, ◌∙◌}
 use Prim.Native.Nat.{◌-◌}
 use native.Mathlib.Omega.{arith}
-use borrow.Author.Tests.{not-true, not-false}
-use lib.ListN.{length}
-use Rattle.semilinear.specs.Items.{is_atom, after_atoms}
-use Rattle.semilinear.specs.DecodeForm.{read_rows}
-use Rattle.views.specs.Views.{only_of}
-use Rattle.views.proofs.ReadLaws.{Reads, reads_start, reads_row, reads_end, number_lt, coeffs_long}
+use Rattle.semilinear.specs.Items.{is_atom}
+use Rattle.views.proofs.ReadLaws.{reads_start, reads_row, reads_end, number_lt, coeffs_long}
 use Rattle.views.proofs.read_views.Goals as goal
 
 pub loop-x-init : goal.loop-x-init

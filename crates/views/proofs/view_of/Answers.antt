@@ -6,7 +6,6 @@ use Rattle.views.proofs.ViewLaws.{view_none}
 use Rattle.views.proofs.ViewsLaws.{viewed_none}
 use Rattle.views.proofs.SplitLaws.{viewed_no_basis, viewed_other, viewed_basis}
 use Rattle.views.proofs.SplitLaws.{basis_sized, basis_big, counts_variable, counts_any}
-use borrow.Author.Rules.{rules}
 use Rattle.views.proofs.view_of.Goals as goal
 use Rattle.views.proofs.view_of.Goals.{then-only+else-kind-ne1, else-only}
 

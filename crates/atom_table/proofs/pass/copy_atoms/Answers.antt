@@ -9,7 +9,6 @@ use Rattle.semilinear.proofs.AcceptLaws.{length_accepted}
 use Rattle.semilinear.proofs.ValidLaws.{semilinear_parts}
 use Rattle.atom_table.proofs.FinishLaws.{copied}
 use Rattle.atom_table.proofs.PassLaws.{length_le}
-use borrow.Author.Rules.{rules}
 use Rattle.atom_table.proofs.pass.copy_atoms.Goals as goal
 
 pub width-requires : goal.width-requires

@@ -3,7 +3,6 @@ use mathlib.Core.List.{[]}
 use mathlib.Core.Bool.{false}
 use native.Mathlib.Omega.{arith}
 use Rattle.atom_table.proofs.FinishLaws.{finished_full, terms_fit, sum_fits, sum_end, finished_form}
-use borrow.Author.Rules.{rules}
 use Rattle.atom_table.proofs.pass.finish.Goals as goal
 
 pub returns-then-tab : goal.returns-then-tab

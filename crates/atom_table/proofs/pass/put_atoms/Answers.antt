@@ -2,12 +2,10 @@
 use mathlib.Core.Path.{ap, sym, ◌∙◌}
 use Prim.Native.Nat.{◌-◌}
 use native.Mathlib.Omega.{arith}
-use borrow.Author.Tests.{not-true, not-false}
 use lib.ListN.{length}
 use Rattle.semilinear.proofs.ItemsLaws.{atom_room}
-use Rattle.atom_table.proofs.SpansLaws.{SpansPut, spans_none, spans_all, span_ready, span_inside, span_room}
+use Rattle.atom_table.proofs.SpansLaws.{spans_none, spans_all, span_ready, span_inside, span_room}
 use Rattle.atom_table.proofs.SpansLaws.{spans_more}
-use borrow.Author.Rules.{rules}
 use Rattle.atom_table.proofs.pass.put_atoms.Goals as goal
 
 pub loop-r-init : goal.loop-r-init

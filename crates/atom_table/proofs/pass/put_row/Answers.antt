@@ -1,6 +1,5 @@
 -- `put_row` meets its contract: no term for the coefficient 0, else one record.
 use Rattle.atom_table.proofs.TermsLaws.{term_put_none, term_put_some}
-use borrow.Author.Rules.{rules}
 use Rattle.atom_table.proofs.pass.put_row.Goals as goal
 
 pub returns-then-c-eq0 : goal.returns-then-c-eq0

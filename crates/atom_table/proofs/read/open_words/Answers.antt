@@ -1,5 +1,4 @@
 -- `open_words` meets its contract: the words are cleared, and the refusal is that of the front door.
-use borrow.Author.Rules.{rules}
 use Rattle.atom_table.proofs.ReadLaws.{gives_open}
 use Rattle.atom_table.proofs.read.open_words.Goals as goal
 

@@ -1,7 +1,5 @@
 -- `read_refusal` meets its contract: refusals 1, 2 and 10 in this order.
 use mathlib.Core.Path.{sym, ◌∙◌}
-use borrow.Author.Tests.{not-true, not-false}
-use borrow.Author.Rules.{rules}
 use Rattle.atom_table.proofs.ReadLaws.{open_length, open_slice, open_form, open_none}
 use Rattle.atom_table.proofs.read.read_refusal.Goals as goal
 

@@ -1,7 +1,6 @@
 -- `put_atom` meets its contract.
 use Rattle.atom_table.proofs.TableLaws.{put_atom_span}
 use Rattle.record.proofs.SizedLaws.{sized_big}
-use borrow.Author.Rules.{rules}
 use Rattle.atom_table.proofs.table.put_atom.Goals as goal
 
 pub size-requires : goal.size-requires

@@ -1,11 +1,8 @@
 -- `clear_words` meets its contract: after i turns the first i words are zero and the rest is as it was.
-use mathlib.Core.Path.{◌≡◌}
-use mathlib.Core.List.{◌++◌}
-use Prim.Native.Nat.{◌≤◌, ◌-◌}
+use Prim.Native.Nat.{◌-◌}
 use native.Mathlib.Omega.{arith}
-use lib.ListN.{length, drop, replicate, length-set}
+use lib.ListN.{length-set}
 use borrow.Author.Fill.{fill_more}
-use borrow.Author.Rules.{rules}
 use Rattle.base.proofs.PutLaws.{filled}
 use Rattle.base.proofs.write.clear_words.Goals as goal
 

@@ -2,11 +2,7 @@
 use mathlib.Core.Path.{◌≡◌}
 use mathlib.Core.List.{◌++◌}
 use Prim.Native.Nat.{◌≤◌, ◌-◌}
-use native.Mathlib.Omega.{arith}
-use lib.ListN.{length, drop, replicate, length-set}
-use borrow.Author.Fill.{fill_more}
-use borrow.Author.Rules.{rules}
-use Rattle.base.proofs.PutLaws.{filled}
+use lib.ListN.{length, drop, replicate}
 use Rattle.base.proofs.write.clear_words.Given as goal
 
 abbrev pub invariant-loop-i : goal.invariant-loop-i

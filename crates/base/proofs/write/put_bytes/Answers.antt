@@ -1,10 +1,10 @@
 -- `put_bytes` meets its contract: after i turns the first i bytes of s stand in d.
 use mathlib.Core.Path.{◌≡◌, refl, ◌∙◌}
-use Prim.Native.Nat.{◌+◌, ◌-◌, ◌<◌, ◌≤◌}
+use Prim.Native.Nat.{◌+◌, ◌-◌, ◌<◌}
 use native.Mathlib.Omega.{arith}
 use native.Mathlib.Numerals.{add-one}
 use lib.ListN.{length, length-set}
-use lib.Seq.{paste, paste-zero, paste-suc}
+use lib.Seq.{paste-zero, paste-suc}
 use Rattle.base.proofs.PutLaws.{put_all}
 use Rattle.base.proofs.write.put_bytes.Goals as goal
 

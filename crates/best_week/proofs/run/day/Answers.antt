@@ -1,5 +1,4 @@
 -- `day` meets its contract: it reads the four bytes of its day.
-use borrow.Author.Rules.{rules}
 use Rattle.best_week.specs.Run.{day}
 use Rattle.best_week.proofs.run.day.Goals as goal
 

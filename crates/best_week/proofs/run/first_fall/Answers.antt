@@ -1,8 +1,7 @@
 -- `first_fall` meets its contract: the loop keeps that the records from `i` on decide.
-use Prim.Native.Nat.{◌-◌, ◌≤◌}
-use mathlib.Core.Path.{◌≡◌, refl, sym, ◌∙◌}
+use Prim.Native.Nat.{◌-◌}
+use mathlib.Core.Path.{refl, sym, ◌∙◌}
 use native.Mathlib.Omega.{arith}
-use Rattle.base.specs.Loop.{first_in}
 use Rattle.base.proofs.LoopLaws.{first_next, first_here, first_end}
 use Rattle.best_week.specs.Run.{falls}
 use Rattle.best_week.proofs.RefusalLaws.{falls_yes, falls_no}

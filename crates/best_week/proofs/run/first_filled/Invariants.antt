@@ -1,11 +1,8 @@
 -- `first_filled` meets its contract: the loop keeps that the records from `i` on decide.
 use Prim.Native.Nat.{◌-◌, ◌≤◌}
-use mathlib.Core.Path.{◌≡◌, refl, sym, ◌∙◌}
-use native.Mathlib.Omega.{arith}
+use mathlib.Core.Path.{◌≡◌}
 use Rattle.base.specs.Loop.{first_in}
-use Rattle.base.proofs.LoopLaws.{first_next, first_here, first_end}
 use Rattle.best_week.specs.Run.{filled}
-use Rattle.best_week.proofs.RefusalLaws.{filled_yes, filled_no}
 use Rattle.best_week.proofs.run.first_filled.Given as goal
 
 abbrev pub invariant-loop-i : goal.invariant-loop-i

@@ -1,5 +1,4 @@
 -- `moves` meets its contract: it reads the two bytes of its moves.
-use borrow.Author.Rules.{rules}
 use Rattle.best_week.specs.Run.{moves}
 use Rattle.best_week.proofs.run.moves.Goals as goal
 

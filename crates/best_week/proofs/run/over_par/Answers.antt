@@ -1,5 +1,4 @@
 -- `over_par` meets its contract: both numbers fit, so that their difference does.
-use borrow.Author.Rules.{rules}
 use mathlib.Core.Path.{ap, ◌∙◌}
 use Prim.Native.Nat.{ℕ}
 use lib.IntN.{pos, ◌-ℤ◌}

@@ -1,5 +1,4 @@
 -- `par` meets its contract: it reads the two bytes of its par.
-use borrow.Author.Rules.{rules}
 use Rattle.best_week.specs.Run.{par}
 use Rattle.best_week.proofs.run.par.Goals as goal
 

@@ -1,5 +1,4 @@
 -- `rest` meets its contract: it reads the eight bytes that must be 0.
-use borrow.Author.Rules.{rules}
 use Rattle.best_week.specs.Run.{rest}
 use Rattle.best_week.proofs.run.rest.Goals as goal
 

@@ -1,5 +1,4 @@
 -- `run_refusal` meets its contract: one law for each way.
-use borrow.Author.Rules.{rules}
 use mathlib.Core.Path.{sym, ◌∙◌}
 use native.Mathlib.Omega.{arith}
 use Rattle.best_week.proofs.RefusalLaws.{records_are, run_long, run_odd, run_filled, run_falls, run_accepted}

@@ -1,5 +1,4 @@
 -- `follows` meets its contract: it compares the days of two records.
-use borrow.Author.Rules.{rules}
 use mathlib.Core.Path.{ap, ◌∙◌}
 use Prim.Native.Nat.{ℕ, ◌+◌}
 use lib.Dec.{eqb}

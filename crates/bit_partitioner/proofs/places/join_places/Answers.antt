@@ -1,9 +1,7 @@
 -- `join_places` meets its contract: the loop keeps that the places below the next one are in their classes.
-use Prim.Native.Nat.{◌-◌, ◌≤◌}
-use mathlib.Core.Path.{◌≡◌, refl, sym, ◌∙◌}
+use Prim.Native.Nat.{◌-◌}
+use mathlib.Core.Path.{refl, sym, ◌∙◌}
 use native.Mathlib.Omega.{arith}
-use lib.ListN.{length}
-use Rattle.bit_partitioner.specs.Places.{PlacesJoined}
 use Rattle.bit_partitioner.proofs.PlacesLaws.{placed_none, placed_all}
 use Rattle.bit_partitioner.proofs.places.join_places.Goals as goal
 

@@ -1,10 +1,8 @@
 -- `join_places` meets its contract: the loop keeps that the places below the next one are in their classes.
 use Prim.Native.Nat.{◌-◌, ◌≤◌}
-use mathlib.Core.Path.{◌≡◌, refl, sym, ◌∙◌}
-use native.Mathlib.Omega.{arith}
+use mathlib.Core.Path.{◌≡◌}
 use lib.ListN.{length}
 use Rattle.bit_partitioner.specs.Places.{PlacesJoined}
-use Rattle.bit_partitioner.proofs.PlacesLaws.{placed_none, placed_all}
 use Rattle.bit_partitioner.proofs.places.join_places.Given as goal
 
 abbrev pub invariant-loop-x : goal.invariant-loop-x

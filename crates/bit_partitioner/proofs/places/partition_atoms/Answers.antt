@@ -2,7 +2,6 @@
 use mathlib.Core.Path.{sym, ◌∙◌}
 use native.Mathlib.Omega.{arith}
 use Rattle.profile.proofs.IndexLaws.{trees_count}
-use borrow.Author.Rules.{rules}
 use Rattle.bit_partitioner.proofs.places.partition_atoms.Goals as goal
 
 pub join_places-requires : goal.join_places-requires

@@ -1,9 +1,7 @@
-use mathlib.Core.Path.{◌≡◌, refl}
-use Prim.Native.Nat.{◌+◌, ◌-◌, ◌≤◌}
+use mathlib.Core.Path.{refl}
+use Prim.Native.Nat.{◌-◌}
 use native.Mathlib.Omega.{arith}
-use borrow.Author.Tests.{not-true}
-use Rattle.base.specs.Loop.{first_in}
-use Rattle.group.specs.Collapse.{second_fits, find_second}
+use Rattle.group.specs.Collapse.{find_second}
 use Rattle.collapse_search.specs.Links.{lent}
 use Rattle.collapse_search.proofs.FindLaws.{two_dead, two_apart, two_end, two_found, two_next}
 use Rattle.collapse_search.proofs.find.find_second.Goals as goal

@@ -1,11 +1,8 @@
-use mathlib.Core.Path.{◌≡◌, refl}
+use mathlib.Core.Path.{◌≡◌}
 use Prim.Native.Nat.{◌+◌, ◌-◌, ◌≤◌}
-use native.Mathlib.Omega.{arith}
-use borrow.Author.Tests.{not-true}
 use Rattle.base.specs.Loop.{first_in}
 use Rattle.group.specs.Collapse.{second_fits, find_second}
 use Rattle.collapse_search.specs.Links.{lent}
-use Rattle.collapse_search.proofs.FindLaws.{two_dead, two_apart, two_end, two_found, two_next}
 use Rattle.collapse_search.proofs.find.find_second.Given as goal
 
 abbrev pub invariant-loop-j : goal.invariant-loop-j

@@ -1,8 +1,7 @@
-use mathlib.Core.Path.{◌≡◌, refl}
-use Prim.Native.Nat.{◌-◌, ◌≤◌}
+use mathlib.Core.Path.{refl}
+use Prim.Native.Nat.{◌-◌}
 use native.Mathlib.Omega.{arith}
-use Rattle.base.specs.Loop.{first_in}
-use Rattle.group.specs.Collapse.{first_fits, find_first}
+use Rattle.group.specs.Collapse.{find_first}
 use Rattle.collapse_search.specs.Links.{lent}
 use Rattle.collapse_search.proofs.FindLaws.{three_few, three_end, three_found, three_next}
 use Rattle.collapse_search.proofs.find.find_three.Goals as goal

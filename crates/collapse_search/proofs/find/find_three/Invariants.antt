@@ -1,10 +1,8 @@
-use mathlib.Core.Path.{◌≡◌, refl}
+use mathlib.Core.Path.{◌≡◌}
 use Prim.Native.Nat.{◌-◌, ◌≤◌}
-use native.Mathlib.Omega.{arith}
 use Rattle.base.specs.Loop.{first_in}
 use Rattle.group.specs.Collapse.{first_fits, find_first}
 use Rattle.collapse_search.specs.Links.{lent}
-use Rattle.collapse_search.proofs.FindLaws.{three_few, three_end, three_found, three_next}
 use Rattle.collapse_search.proofs.find.find_three.Given as goal
 
 abbrev pub invariant-loop-i : goal.invariant-loop-i

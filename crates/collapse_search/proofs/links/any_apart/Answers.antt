@@ -1,11 +1,9 @@
-use mathlib.Core.Path.{◌≡◌, sym, ◌∙◌}
+use mathlib.Core.Path.{sym, ◌∙◌}
 use mathlib.Core.Bool.{false}
-use Prim.Native.Nat.{ℕ, ◌-◌, ◌≤◌, ◌<◌}
+use Prim.Native.Nat.{◌-◌}
 use native.Mathlib.Omega.{arith}
 use borrow.Author.Count.{below_more}
-use lib.ListN.{get_or}
 use Rattle.base.proofs.BoolLaws.{false_true}
-use Rattle.collapse_search.specs.Links.{apart_of}
 use Rattle.collapse_search.proofs.links.any_apart.Goals as goal
 
 pub loop-k-init : goal.loop-k-init

@@ -1,9 +1,7 @@
-use mathlib.Core.Path.{◌≡◌, ap, sym, subst, ◌∙◌}
-use Prim.Native.Nat.{ℕ, ◌+◌, ◌-◌, ◌≤◌}
-use native.Mathlib.Omega.{arith}
-use lib.ListN.{length, length-set, length-replicate}
+use mathlib.Core.Path.{◌≡◌}
+use Prim.Native.Nat.{◌-◌, ◌≤◌}
+use lib.ListN.{length}
 use Rattle.collapse_search.specs.Links.{lent, Linked}
-use Rattle.collapse_search.proofs.LinksLaws.{fold_below, linked_none, linked_skip, linked_put}
 use Rattle.collapse_search.proofs.links.put_links.Given as goal
 
 abbrev pub invariant-loop-t : goal.invariant-loop-t

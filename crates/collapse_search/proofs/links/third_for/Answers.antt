@@ -3,7 +3,7 @@ use Prim.Native.Nat.{◌-◌}
 use native.Mathlib.Omega.{arith}
 use Rattle.collapse_search.specs.Links.{lent}
 use Rattle.collapse_search.proofs.LinksLaws.{fold_below, head_le}
-use Rattle.collapse_search.proofs.ThirdLaws.{third_dead, Chased}
+use Rattle.collapse_search.proofs.ThirdLaws.{third_dead}
 use Rattle.collapse_search.proofs.ThirdLaws.{chase_start, chase_le, chase_less, chase_here, chase_next}
 use Rattle.collapse_search.proofs.ThirdLaws.{chase_end}
 use Rattle.collapse_search.proofs.links.third_for.Goals as goal

@@ -1,11 +1,9 @@
 -- `Copying::copy_row` meets its contract: the atom is put where it has a term, and left where it has none.
 use Rattle.atom_table.proofs.SpansLaws.{atom_ready}
 use Rattle.compaction.proofs.CompactLaws.{room_with, copied_without, copied_with}
-use borrow.Author.Tests.{not-true, not-false}
 use mathlib.Core.Path.{ap, sym, ◌∙◌}
 use native.Mathlib.Omega.{arith}
 use lib.ListN.{length}
-use borrow.Author.Rules.{rules}
 use Rattle.compaction.proofs.Copying.copy_row.Goals as goal
 
 pub atom_length-n-requires : goal.atom_length-n-requires

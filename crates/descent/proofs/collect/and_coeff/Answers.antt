@@ -3,7 +3,6 @@ use mathlib.Core.Path.{ap, sym, ◌∙◌}
 use Prim.Native.Nat.{ℕ}
 use Rattle.arith.specs.Width.{mod_neg}
 use Rattle.normalizer_laws.proofs.AndLaws.{and_coeff_xor, and_coeff_or}
-use borrow.Author.Rules.{rules}
 use Rattle.descent.proofs.collect.and_coeff.Goals as goal
 
 pub returns-then-k-eq6 : goal.returns-then-k-eq6

@@ -1,8 +1,5 @@
-use mathlib.Core.Path.{◌≡◌, sym, ◌∙◌}
+use mathlib.Core.Path.{◌≡◌}
 use Prim.Native.Nat.{ℕ, ◌+◌, ◌-◌, ◌≤◌, ◌<◌}
-use native.Mathlib.Omega.{arith}
-use Rattle.base.proofs.BoolLaws.{false_true}
-use Rattle.base.proofs.LoopLaws.{upto_more, rows_more}
 use Rattle.entries.specs.declared.pair.Joined.{Joined}
 use Rattle.entries.specs.Tests.{pair_in}
 use Rattle.entries.proofs.pair.any_pair.Given as goal

@@ -1,5 +1,4 @@
 use mathlib.Core.Path.{sym, ◌∙◌}
-use borrow.Author.Rules.{rules}
 use Rattle.base.proofs.BoolLaws.{false_true}
 use Rattle.entries.proofs.pair.joins.Goals as goal
 

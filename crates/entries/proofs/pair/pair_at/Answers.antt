@@ -1,6 +1,5 @@
 use mathlib.Core.Path.{sym, ◌∙◌}
 use Rattle.entries.proofs.TestsLaws.{pair_1, pair_2, pair_3, pair_4, pair_5, pair_6, pair_7}
-use borrow.Author.Rules.{rules}
 use Rattle.entries.proofs.pair.pair_at.Goals as goal
 
 pub returns-then-u-eq-CONSUMED : goal.returns-then-u-eq-CONSUMED

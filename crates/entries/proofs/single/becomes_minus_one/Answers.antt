@@ -1,7 +1,6 @@
 use mathlib.Core.Path.{◌∙◌}
 use native.Mathlib.Omega.{arith}
 use Rattle.entries.proofs.TestsLaws.{minus_one_dead, minus_one_there, minus_one_may}
-use borrow.Author.Rules.{rules}
 use Rattle.entries.proofs.single.becomes_minus_one.Goals as goal
 
 pub returns-then-mark-eq-CONSUMED : goal.returns-then-mark-eq-CONSUMED

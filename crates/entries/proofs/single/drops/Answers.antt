@@ -1,6 +1,5 @@
 use borrow.Author.Tests.{eq-eqb, ne_eqb}
 use Rattle.entries.specs.Tests.{drops_of}
-use borrow.Author.Rules.{rules}
 use Rattle.entries.proofs.single.drops.Goals as goal
 
 pub returns-then-mark-eq-CONSUMED : goal.returns-then-mark-eq-CONSUMED

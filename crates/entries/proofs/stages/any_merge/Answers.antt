@@ -1,7 +1,6 @@
 -- `any_merge` meets its contract: false where both tests are.
-use mathlib.Core.Path.{sym, ◌∙◌}
+use mathlib.Core.Path.{sym}
 use Rattle.base.proofs.BoolLaws.{false_true}
-use borrow.Author.Rules.{rules}
 use Rattle.entries.proofs.stages.any_merge.Goals as goal
 
 pub returns-then-any_minus_one : goal.returns-then-any_minus_one

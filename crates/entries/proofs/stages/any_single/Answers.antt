@@ -1,7 +1,6 @@
 -- `any_single` meets its contract: false where both tests are.
-use mathlib.Core.Path.{sym, ◌∙◌}
+use mathlib.Core.Path.{sym}
 use Rattle.base.proofs.BoolLaws.{false_true}
-use borrow.Author.Rules.{rules}
 use Rattle.entries.proofs.stages.any_single.Goals as goal
 
 pub returns-then-any_cut : goal.returns-then-any_cut

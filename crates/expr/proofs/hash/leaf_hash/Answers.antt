@@ -1,7 +1,7 @@
 -- `leaf_hash` meets its contract: a literal or a variable.
 use Rattle.expr.specs.Hash.{structural_hash, tag_hash, var_hash}
 use Rattle.record.specs.Decode.{leaf}
-use Rattle.std.proofs.Common.{ap, ◌∙◌, rules, eq-eqb, ne_eqb}
+use Rattle.std.proofs.Common.{ap, ◌∙◌, eq-eqb, ne_eqb}
 use Rattle.expr.proofs.hash.leaf_hash.Goals as goal
 
 pub returns-then-kind-eq0 : goal.returns-then-kind-eq0

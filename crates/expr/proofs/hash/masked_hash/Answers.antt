@@ -1,4 +1,3 @@
-use Rattle.std.proofs.Common.{rules}
 use Rattle.expr.proofs.hash.masked_hash.Goals as goal
 
 pub returns : goal.returns

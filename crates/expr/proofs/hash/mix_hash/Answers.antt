@@ -1,6 +1,5 @@
 -- `mix_hash` meets its contract: its sums wrap.
 use Rattle.expr.proofs.HashLaws.{mix_hash_sum}
-use Rattle.std.proofs.Common.{rules}
 use Rattle.expr.proofs.hash.mix_hash.Goals as goal
 
 pub returns : goal.returns

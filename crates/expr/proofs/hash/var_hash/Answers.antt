@@ -1,7 +1,6 @@
 -- `var_hash` meets its contract: its product wraps.
 use Rattle.expr.specs.Hash.{var_hash}
 use Rattle.arith.specs.Width.{wrapping_mul}
-use Rattle.std.proofs.Common.{rules}
 use Rattle.expr.proofs.hash.var_hash.Goals as goal
 
 pub returns : goal.returns

@@ -1,6 +1,6 @@
 -- `binary` meets its contract: a case for each kind.
 use Rattle.expr.specs.Value.{binary}
-use Rattle.std.proofs.Common.{◌∙◌, rules}
+use Rattle.std.proofs.Common.{◌∙◌}
 use Rattle.arith.proofs.WidthLaws.{mod_add_lem, mod_mul_lem}
 use Rattle.std.proofs.Common.{arith}
 use Rattle.std.proofs.lemmas.Bool.Decides.{nat_tests}

@@ -1,7 +1,7 @@
 -- `leaf_value` meets its contract: a literal or a variable, cut to w bits.
 use Rattle.expr.specs.Value.{value}
 use Rattle.record.specs.Decode.{leaf}
-use Rattle.std.proofs.Common.{◌∙◌, ap₂, rules, eq-eqb, ne_eqb}
+use Rattle.std.proofs.Common.{◌∙◌, ap₂, eq-eqb, ne_eqb}
 use Rattle.arith.proofs.WidthLaws.{and_bitmask}
 use lib.Bits.{bit_and}
 use Rattle.expr.proofs.value.leaf_value.Goals as goal

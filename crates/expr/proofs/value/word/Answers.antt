@@ -1,5 +1,5 @@
 -- `word` meets its contract: 0 below `from` and beyond the end, and the word at its place between.
-use Rattle.std.proofs.Common.{sym, ◌∙◌, arith, rules}
+use Rattle.std.proofs.Common.{sym, ◌∙◌, arith}
 use lib.ListN.{get_or-eq_default}
 use Rattle.expr.proofs.ValueLaws.{zeros_below, zeros_from}
 use Rattle.expr.proofs.value.word.Goals as goal

@@ -1,13 +1,11 @@
 -- `Flattening::flatten_row` meets its contract: no term, an atom to flatten, or a coefficient that is kept.
 use mathlib.Core.Path.{refl, ap, sym, ◌∙◌}
 use native.Mathlib.Omega.{arith}
-use borrow.Author.Tests.{not-true, not-false}
 use Rattle.record.proofs.BytesLaws.{bytes_drop}
 use Rattle.semilinear.specs.Items.{tree_span}
 use Rattle.semilinear.proofs.ItemsLaws.{term_big, has_term_is}
 use Rattle.semilinear.proofs.ValidLaws.{first_atom_ok, first_tree_sized, first_tree_variable}
 use Rattle.flatten.proofs.FlatTurnLaws.{complex_index, turn_none, turn_put, turn_flat}
-use borrow.Author.Rules.{rules}
 use Rattle.flatten.proofs.Flattening.flatten_row.Goals as goal
 
 pub atom_length-requires : goal.atom_length-requires

@@ -3,7 +3,6 @@ use native.Mathlib.Omega.{arith}
 use Rattle.record.specs.Decode.{decode}
 use Rattle.made.proofs.WordsLaws.{makes_fewer, makes_later}
 use Rattle.group.proofs.CollapseLaws.{collapsed_stepped}
-use borrow.Author.Rules.{rules}
 use Rattle.group.proofs.Group.collapse.Goals as goal
 
 pub create_masked-requires : goal.create_masked-requires

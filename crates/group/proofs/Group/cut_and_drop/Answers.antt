@@ -1,6 +1,5 @@
 -- `cut_and_drop` meets its contract: the two steps in turn.
 use Rattle.group.proofs.StagesLaws.{cut_and_drop_lem}
-use borrow.Author.Rules.{rules}
 use Rattle.group.proofs.Group.cut_and_drop.Goals as goal
 
 pub returns : goal.returns

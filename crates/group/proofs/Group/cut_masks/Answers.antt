@@ -1,12 +1,9 @@
-use mathlib.Core.Path.{◌≡◌, refl, sym, ap, ◌∙◌}
-use Prim.Native.Nat.{ℕ, ◌+◌, ◌-◌, ◌≤◌}
+use mathlib.Core.Path.{sym, ◌∙◌}
+use Prim.Native.Nat.{◌-◌}
 use native.Mathlib.Omega.{arith}
-use lib.ListN.{length}
 use Rattle.record.specs.Decode.{decode}
 use Rattle.made.proofs.WordsLaws.{makes_later}
-use Rattle.base.specs.Loop.{for_in}
 use Rattle.group.specs.Steps.{cut_at}
-use Rattle.group.specs.Made.{Stepped}
 use Rattle.group.proofs.SteppedLaws.{loop_none, loop_turn, loop_done}
 use Rattle.group.proofs.CutLaws.{turn_same, turn_cut, cut_loop}
 use Rattle.group.proofs.Group.cut_masks.Goals as goal

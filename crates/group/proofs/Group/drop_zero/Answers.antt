@@ -1,7 +1,6 @@
-use mathlib.Core.Path.{◌≡◌, sym, ◌∙◌}
-use Prim.Native.Nat.{ℕ, ◌+◌, ◌-◌, ◌≤◌, ◌<◌}
+use mathlib.Core.Path.{sym, ◌∙◌}
+use Prim.Native.Nat.{◌-◌}
 use native.Mathlib.Omega.{arith}
-use Rattle.base.specs.Loop.{for_in}
 use Rattle.base.proofs.LoopLaws.{for_none, for_turn, for_done}
 use Rattle.group.specs.Steps.{drop_at, drop_zero}
 use Rattle.group.proofs.DropLaws.{drop_at_same, drop_at_drop}

@@ -1,10 +1,9 @@
 -- `Group::gather` meets its contract: the loop keeps the entries of the rows before i.
-use mathlib.Core.Path.{◌≡◌, sym, ◌∙◌}
-use Prim.Native.Nat.{◌-◌, ◌≤◌}
+use mathlib.Core.Path.{sym, ◌∙◌}
+use Prim.Native.Nat.{◌-◌}
 use native.Mathlib.Omega.{arith}
-use Rattle.base.specs.Loop.{for_in}
 use Rattle.base.proofs.LoopLaws.{for_none, for_turn, for_done}
-use Rattle.group.specs.Group.{empty_group, push_entry}
+use Rattle.group.specs.Group.{push_entry}
 use Rattle.views.specs.Views.{view_at}
 use Rattle.group.specs.Gathered.{gather_at, gathered}
 use Rattle.views.proofs.HasBasisLaws.{readable_fewer}

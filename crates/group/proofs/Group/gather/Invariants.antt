@@ -1,15 +1,9 @@
 -- `Group::gather` meets its contract: the loop keeps the entries of the rows before i.
-use mathlib.Core.Path.{◌≡◌, sym, ◌∙◌}
-use mathlib.Core.Logic.{⊎_elim}
+use mathlib.Core.Path.{◌≡◌}
 use Prim.Native.Nat.{◌-◌, ◌≤◌}
-use native.Mathlib.Omega.{arith}
 use Rattle.base.specs.Loop.{for_in}
-use Rattle.base.proofs.LoopLaws.{for_none, for_turn, for_done}
-use Rattle.group.specs.Group.{empty_group, push_entry}
-use Rattle.views.specs.Views.{view_at}
-use Rattle.group.specs.Gathered.{gather_at, gathered}
-use Rattle.views.proofs.HasBasisLaws.{readable_fewer}
-use Rattle.group.proofs.GatherLaws.{gather_same, gather_push, few_entries}
+use Rattle.group.specs.Group.{empty_group}
+use Rattle.group.specs.Gathered.{gather_at}
 use Rattle.group.proofs.Group.gather.Given as goal
 
 abbrev pub invariant-loop-i : goal.invariant-loop-i

@@ -3,7 +3,6 @@ use mathlib.Core.Path.{sym, ◌∙◌}
 use native.Mathlib.Omega.{arith}
 use Rattle.made.proofs.WordsLaws.{makes_fewer, makes_later}
 use Rattle.group.proofs.StagesLaws.{len_minus_one, merge_all_lem}
-use borrow.Author.Rules.{rules}
 use Rattle.group.proofs.Group.merge_all.Goals as goal
 
 pub bucket_merge-self-requires : goal.bucket_merge-self-requires

@@ -1,7 +1,6 @@
-use mathlib.Core.Path.{◌≡◌, sym, ◌∙◌}
-use Prim.Native.Nat.{◌-◌, ◌≤◌}
+use mathlib.Core.Path.{sym, ◌∙◌}
+use Prim.Native.Nat.{◌-◌}
 use native.Mathlib.Omega.{arith}
-use Rattle.base.specs.Loop.{for_in}
 use Rattle.base.proofs.LoopLaws.{for_none, for_turn, for_done}
 use Rattle.group.specs.Steps.{minus_one_at, to_minus_one}
 use Rattle.group.proofs.MinusOneLaws.{minus_one_at_same, minus_one_at_set}

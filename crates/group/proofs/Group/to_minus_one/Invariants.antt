@@ -1,11 +1,7 @@
-use mathlib.Core.Path.{◌≡◌, sym, ◌∙◌}
-use mathlib.Core.Logic.{⊎_elim}
+use mathlib.Core.Path.{◌≡◌}
 use Prim.Native.Nat.{◌-◌, ◌≤◌}
-use native.Mathlib.Omega.{arith}
 use Rattle.base.specs.Loop.{for_in}
-use Rattle.base.proofs.LoopLaws.{for_none, for_turn, for_done}
-use Rattle.group.specs.Steps.{minus_one_at, to_minus_one}
-use Rattle.group.proofs.MinusOneLaws.{minus_one_at_same, minus_one_at_set}
+use Rattle.group.specs.Steps.{minus_one_at}
 use Rattle.group.proofs.Group.to_minus_one.Given as goal
 
 abbrev pub invariant-loop-i : goal.invariant-loop-i

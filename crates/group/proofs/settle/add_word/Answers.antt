@@ -4,7 +4,6 @@ use Prim.Native.Nat.{ℕ}
 use lib.ListN.{set}
 use lib.Seq.{set_out}
 use Rattle.group.specs.Gathered.{add_word}
-use borrow.Author.Rules.{rules}
 use Rattle.group.proofs.settle.add_word.Goals as goal
 
 pub returns-then-j-coeffs : goal.returns-then-j-coeffs

@@ -1,9 +1,8 @@
 -- `settle` meets its contract: the loop keeps what the entries before i add.
-use mathlib.Core.Path.{◌≡◌, ap, sym, ◌∙◌}
-use Prim.Native.Nat.{◌-◌, ◌≤◌}
+use mathlib.Core.Path.{ap, sym, ◌∙◌}
+use Prim.Native.Nat.{◌-◌}
 use native.Mathlib.Omega.{arith}
 use lib.ListN.{length}
-use Rattle.base.specs.Loop.{for_in}
 use Rattle.base.proofs.LoopLaws.{for_none, for_turn, for_done}
 use Rattle.group.specs.Gathered.{settle_word_at, settle_words}
 use Rattle.group.proofs.SettleWordsLaws.{word_consumed, word_live, length_settle}

@@ -1,5 +1,5 @@
 -- `add_coeff` meets its contract: the loop keeps that the sums before `i` have the coefficient.
-use Rattle.judge.proofs.SumsLaws.{Adding, adding_start, adding_skip, adding_set, adding_done}
+use Rattle.judge.proofs.SumsLaws.{adding_start, adding_skip, adding_set, adding_done}
 use lib.ListN.{length}
 use Prim.Native.Nat.{◌-◌, ◌<◌}
 use native.Mathlib.Omega.{arith}

@@ -1,9 +1,7 @@
 -- `add_coeff` meets its contract: the loop keeps that the sums before `i` have the coefficient.
-use Rattle.judge.proofs.SumsLaws.{Adding, adding_start, adding_skip, adding_set, adding_done}
+use Rattle.judge.proofs.SumsLaws.{Adding}
 use lib.ListN.{length}
-use mathlib.Core.Logic.{⊎_elim}
-use Prim.Native.Nat.{◌-◌, ◌<◌}
-use native.Mathlib.Omega.{arith}
+use Prim.Native.Nat.{◌-◌}
 use Rattle.judge.proofs.sums.add_coeff.Given as goal
 
 abbrev pub invariant-loop-i : goal.invariant-loop-i

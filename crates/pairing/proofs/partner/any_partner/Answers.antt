@@ -1,9 +1,8 @@
 -- `any_partner` meets its contract: no entry before the one at hand has a partner.
 use mathlib.Core.Path.{ap, sym, ◌∙◌}
-use Prim.Native.Nat.{ℕ, ◌+◌, ◌-◌, ◌<◌, ◌≤◌}
+use Prim.Native.Nat.{ℕ, ◌+◌, ◌-◌, ◌≤◌}
 use native.Mathlib.Omega.{arith}
 use lib.ListN.{get_or}
-use borrow.Author.Rules.{rules}
 use Rattle.base.proofs.BoolLaws.{false_true}
 use Rattle.pairing.specs.Recovering.{partner_in}
 use Rattle.pairing.proofs.RecoveredLaws.{below_more}

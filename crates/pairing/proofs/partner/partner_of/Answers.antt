@@ -1,10 +1,9 @@
 -- `partner_of` meets its contract: the search goes on from where the code stands.
-use mathlib.Core.Path.{◌≡◌, refl, sym, ◌∙◌}
-use Prim.Native.Nat.{◌-◌, ◌≤◌}
+use mathlib.Core.Path.{refl, sym, ◌∙◌}
+use Prim.Native.Nat.{◌-◌}
 use native.Mathlib.Omega.{arith}
-use borrow.Author.Rules.{rules}
 use Rattle.base.proofs.LoopLaws.{first_next, first_here, first_end}
-use Rattle.pairing.specs.Recovering.{partner_fits, partner_in}
+use Rattle.pairing.specs.Recovering.{partner_fits}
 use Rattle.pairing.proofs.partner.partner_of.Goals as goal
 
 pub loop-j-init : goal.loop-j-init

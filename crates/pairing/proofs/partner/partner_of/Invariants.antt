@@ -1,10 +1,7 @@
 -- `partner_of` meets its contract: the search goes on from where the code stands.
-use mathlib.Core.Path.{◌≡◌, refl, sym, ◌∙◌}
+use mathlib.Core.Path.{◌≡◌}
 use Prim.Native.Nat.{◌-◌, ◌≤◌}
-use native.Mathlib.Omega.{arith}
-use borrow.Author.Rules.{rules}
-use Rattle.base.proofs.LoopLaws.{first_next, first_here, first_end}
-use Rattle.pairing.specs.Recovering.{partner_fits, partner_in}
+use Rattle.pairing.specs.Recovering.{partner_in}
 use Rattle.pairing.proofs.partner.partner_of.Given as goal
 
 abbrev pub invariant-loop-j : goal.invariant-loop-j

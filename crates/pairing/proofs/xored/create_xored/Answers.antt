@@ -4,7 +4,6 @@ use native.Mathlib.Omega.{arith}
 use Rattle.atom_table.specs.declared.table.Table.{Table}
 use Rattle.atom_table.specs.Table.{store_of, create_atom}
 use Rattle.pairing.proofs.XoredLaws.{xor_bytes, grew_xored}
-use borrow.Author.Rules.{rules}
 use Rattle.pairing.proofs.xored.create_xored.Goals as goal
 
 pub join_xored-more-requires : goal.join_xored-more-requires

@@ -5,7 +5,6 @@ use Rattle.record.proofs.SizedLaws.{sized_big, sized_length}
 use Rattle.atom_table.specs.Table.{full_table}
 use Rattle.atom_table.proofs.TableLaws.{create_full, create_past, fits_more_count, fits_more_records}
 use Rattle.pairing.proofs.XoredLaws.{tree_sized, xor_bytes, xor_size, created_xor}
-use borrow.Author.Rules.{rules}
 use Rattle.pairing.proofs.xored.join_xored.Goals as goal
 
 pub returns-then-more : goal.returns-then-more

@@ -1,6 +1,5 @@
 -- `put_tree` meets its contract: the literal, the basis and the root.
 use Rattle.pairing.proofs.XoredLaws.{wrote_tree}
-use borrow.Author.Rules.{rules}
 use Rattle.pairing.proofs.xored.put_tree.Goals as goal
 
 pub returns : goal.returns

@@ -1,7 +1,6 @@
 -- `put_xored` meets its contract: the tree, and its head with the hash of what was put.
 use native.Mathlib.Omega.{arith}
 use Rattle.pairing.proofs.XoredLaws.{span_xored, span_sized, wrote_xored}
-use borrow.Author.Rules.{rules}
 use Rattle.pairing.proofs.xored.put_xored.Goals as goal
 
 pub structural_hash-hash-requires : goal.structural_hash-hash-requires

@@ -1,5 +1,4 @@
 -- `leaf_edges` meets its contract: the edges of a literal, and none.
-use borrow.Author.Rules.{rules}
 use Rattle.profile.proofs.FactsLaws.{edges_constant, edges_variable}
 use Rattle.profile.proofs.facts.leaf_edges.Goals as goal
 

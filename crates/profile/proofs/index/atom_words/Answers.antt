@@ -1,6 +1,5 @@
 -- `atom_words` meets its contract: an atom with a shift, one with too many variables, one with a table.
 use Rattle.profile.proofs.AtomWordsLaws.{words_shift, words_many, words_few}
-use borrow.Author.Rules.{rules}
 use Rattle.profile.proofs.index.atom_words.Goals as goal
 
 pub returns-then-has_shift : goal.returns-then-has_shift

@@ -3,7 +3,6 @@ use mathlib.Core.Path.{◌≡◌}
 use Prim.Native.Nat.{◌/◌, ◌%◌}
 use native.Mathlib.Omega.{arith}
 use Rattle.record.specs.Tree.{record_bytes}
-use borrow.Author.Rules.{rules}
 use Rattle.record.proofs.write.put_record.Goals as goal
 
 pub returns : goal.returns

@@ -3,7 +3,6 @@ use mathlib.Core.Path.{refl, ◌∙◌}
 use Rattle.arith.proofs.WidthLaws.{bitmask_ones}
 use Rattle.record.specs.Decode.{decode}
 use Rattle.recover_pair.proofs.TurnedLaws.{eliminate_turned}
-use borrow.Author.Rules.{rules}
 use Rattle.recover_pair.proofs.pair.eliminate_mask.Goals as goal
 
 pub returns : goal.returns

@@ -1,13 +1,10 @@
 -- `recover_entries` meets its contract: after i turns i entries have looked; a full table ends the loop.
-use mathlib.Core.Path.{◌≡◌, refl, sym, ◌∙◌}
+use mathlib.Core.Path.{◌≡◌}
 use Prim.Native.Nat.{◌-◌, ◌≤◌}
-use native.Mathlib.Omega.{arith}
 use Rattle.record.specs.Decode.{decode}
 use Rattle.base.specs.Loop.{for_in}
 use Rattle.structure_laws.specs.RecoverStructure.{recover_at}
 use Rattle.pairing.specs.Recovering.{Recovered}
-use Rattle.made.proofs.WordsLaws.{is_full, not_full, makes_later}
-use Rattle.pairing.proofs.RecoveredLaws.{recovered_start, recovered_turn, recovered_stop, recovered_done}
 use Rattle.recover_pair.proofs.pair.recover_entries.Given as goal
 
 abbrev pub invariant-loop-i : goal.invariant-loop-i

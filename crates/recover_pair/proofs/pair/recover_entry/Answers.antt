@@ -5,7 +5,6 @@ use Rattle.arith.proofs.WidthLaws.{bitmask_ones}
 use Rattle.record.specs.Decode.{decode}
 use Rattle.recover_pair.proofs.PairingLaws.{at_one, at_three, at_alone, at_pair, partner_other}
 use Rattle.recover_pair.proofs.TurnedLaws.{turned_as, turned_none}
-use borrow.Author.Rules.{rules}
 use Rattle.recover_pair.proofs.pair.recover_entry.Goals as goal
 
 pub returns-then-mark-eq-CONSUMED : goal.returns-then-mark-eq-CONSUMED

@@ -1,10 +1,8 @@
 -- `recover_pair` meets its contract: each way is one step, or none.
 use mathlib.Core.Path.{sym}
-use native.Mathlib.Omega.{arith}
 use Rattle.record.specs.Decode.{decode}
 use Rattle.recover_pair.proofs.PairingLaws.{pair_xor, pair_xor_back, pair_none, pair_eliminate}
 use Rattle.recover_pair.proofs.TurnedLaws.{xor_makes, turned_as, turned_none}
-use borrow.Author.Rules.{rules}
 use Rattle.recover_pair.proofs.pair.recover_pair.Goals as goal
 
 pub recover_xor-requires : goal.recover_xor-requires

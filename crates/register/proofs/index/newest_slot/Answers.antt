@@ -1,9 +1,9 @@
 -- `newest_slot` meets its contract: the loop keeps that the atoms below `j` decide.
-use Prim.Native.Nat.{◌+◌, ◌-◌, ◌≤◌}
-use mathlib.Core.Path.{◌≡◌, refl, sym, ◌∙◌}
+use Prim.Native.Nat.{◌+◌, ◌-◌}
+use mathlib.Core.Path.{refl, sym, ◌∙◌}
 use native.Mathlib.Omega.{arith}
 use Rattle.record.specs.Decode.{decode}
-use Rattle.register.specs.Index.{last_f, slot_at, newest_slot}
+use Rattle.register.specs.Index.{slot_at, newest_slot}
 use Rattle.register.proofs.SlotLaws.{last_below, last_here, last_end, searchable_fewer}
 use Rattle.register.proofs.index.newest_slot.Goals as goal
 

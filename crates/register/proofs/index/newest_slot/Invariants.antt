@@ -1,10 +1,8 @@
 -- `newest_slot` meets its contract: the loop keeps that the atoms below `j` decide.
-use Prim.Native.Nat.{◌+◌, ◌-◌, ◌≤◌}
-use mathlib.Core.Path.{◌≡◌, refl, sym, ◌∙◌}
-use native.Mathlib.Omega.{arith}
+use Prim.Native.Nat.{◌-◌, ◌≤◌}
+use mathlib.Core.Path.{◌≡◌}
 use Rattle.record.specs.Decode.{decode}
 use Rattle.register.specs.Index.{last_f, slot_at, newest_slot}
-use Rattle.register.proofs.SlotLaws.{last_below, last_here, last_end, searchable_fewer}
 use Rattle.register.proofs.index.newest_slot.Given as goal
 
 abbrev pub invariant-loop-j : goal.invariant-loop-j

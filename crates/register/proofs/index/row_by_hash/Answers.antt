@@ -1,7 +1,6 @@
 -- `row_by_hash` meets its contract: the newest slot, where it has the bytes of the tree.
 use mathlib.Core.Path.{sym, ◌∙◌}
 use native.Mathlib.Omega.{arith}
-use borrow.Author.Rules.{rules}
 use Rattle.ways.specs.Spans.{span_of}
 use Rattle.register.specs.Index.{entry_span}
 use Rattle.register.proofs.SlotLaws.{hash_none, hash_found, hash_differs, newest_lt}

@@ -1,11 +1,9 @@
 -- `row_by_key` meets its contract: the loop keeps that the atoms from `j` on decide.
 use Prim.Native.Nat.{◌-◌, ◌≤◌}
-use mathlib.Core.Path.{◌≡◌, sym, ◌∙◌}
-use native.Mathlib.Omega.{arith}
+use mathlib.Core.Path.{◌≡◌}
 use Rattle.base.specs.Loop.{first_in}
-use Rattle.base.proofs.LoopLaws.{first_next, first_here, first_end}
 use Rattle.register.specs.Index.{row_by_key}
-use Rattle.register.proofs.SlotLaws.{key_at, row_key_none, row_key_search}
+use Rattle.register.proofs.SlotLaws.{key_at}
 use Rattle.register.proofs.index.row_by_key.Given as goal
 
 abbrev pub invariant-loop-j : goal.invariant-loop-j

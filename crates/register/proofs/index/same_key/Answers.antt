@@ -1,10 +1,7 @@
 -- `same_key` meets its contract: the loop keeps that the words from `i` on decide.
-use Prim.Native.Nat.{◌+◌, ◌-◌, ◌*◌, ◌≤◌}
-use mathlib.Core.Path.{◌≡◌, refl, sym, ◌∙◌}
+use Prim.Native.Nat.{◌-◌}
+use mathlib.Core.Path.{refl, sym, ◌∙◌}
 use native.Mathlib.Omega.{arith}
-use lib.ListN.{drop}
-use Rattle.base.specs.Lists.{eq_list}
-use Rattle.ways.specs.Spans.{span_of}
 use Rattle.register.proofs.SlotLaws.{key_differs, key_next, key_end}
 use Rattle.register.proofs.index.same_key.Goals as goal
 

@@ -1,7 +1,6 @@
 -- `same_slot` meets its contract: the same bytes have the same variables.
 use mathlib.Core.Path.{sym, ◌∙◌}
 use native.Mathlib.Omega.{arith}
-use borrow.Author.Rules.{rules}
 use Rattle.ways.specs.Spans.{span_of}
 use Rattle.register.specs.Index.{entry_span}
 use Rattle.register.proofs.SlotLaws.{slot_other_hash, slot_vars, slot_same}

@@ -2,7 +2,6 @@
 use Rattle.semilinear.specs.Items.{atom_length}
 use Rattle.semilinear.proofs.ItemsLaws.{atom_room}
 use native.Mathlib.Omega.{arith}
-use borrow.Author.Rules.{rules}
 use Rattle.semilinear.proofs.items.atom_length.Goals as goal
 
 pub front_number-size-requires : goal.front_number-size-requires

@@ -1,6 +1,5 @@
 -- `front_number` meets its contract: two bytes at their place in the first record.
 use Rattle.semilinear.specs.Items.{front_number}
-use borrow.Author.Rules.{rules}
 use Rattle.semilinear.proofs.items.front_number.Goals as goal
 
 pub returns : goal.returns

@@ -1,7 +1,6 @@
 -- `front_spare` meets its contract: three bytes at their place in the first record.
 use Rattle.semilinear.specs.Items.{front_spare}
 use native.Mathlib.Omega.{arith}
-use borrow.Author.Rules.{rules}
 use Rattle.semilinear.proofs.items.front_spare.Goals as goal
 
 pub returns : goal.returns

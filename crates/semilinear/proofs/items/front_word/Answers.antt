@@ -1,6 +1,5 @@
 -- `front_word` meets its contract: eight bytes at their place in the first record.
 use Rattle.semilinear.specs.Items.{front_word}
-use borrow.Author.Rules.{rules}
 use Rattle.semilinear.proofs.items.front_word.Goals as goal
 
 pub returns : goal.returns

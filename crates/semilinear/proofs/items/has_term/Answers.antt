@@ -1,9 +1,7 @@
 -- `has_term` meets its contract: a term, and of this number.
 use Rattle.semilinear.specs.DecodeForm.{has_term}
 use Rattle.semilinear.proofs.ItemsLaws.{term_big}
-use borrow.Author.Tests.{not-true, not-false}
 use mathlib.Core.Path.{sym, ◌∙◌}
-use borrow.Author.Rules.{rules}
 use Rattle.semilinear.proofs.items.has_term.Goals as goal
 
 pub returns-then-not-is_term : goal.returns-then-not-is_term

@@ -1,7 +1,6 @@
 -- `is_atom` meets its contract: a case for each test.
 use Rattle.semilinear.specs.Items.{is_atom, front_kind, atom_length}
 use borrow.Author.Tests.{lt-leb, le-leb, ne_eqb, eq-eqb}
-use borrow.Author.Rules.{rules}
 use Rattle.semilinear.proofs.items.is_atom.Goals as goal
 
 pub returns-then-n-lt-RECORD_LENGTH_U64 : goal.returns-then-n-lt-RECORD_LENGTH_U64

@@ -1,7 +1,6 @@
 -- `is_term` meets its contract: a case for each test.
 use Rattle.semilinear.specs.Items.{is_term, front_kind}
 use borrow.Author.Tests.{lt-leb, le-leb}
-use borrow.Author.Rules.{rules}
 use Rattle.semilinear.proofs.items.is_term.Goals as goal
 
 pub returns-then-q-lt-RECORD_LENGTH : goal.returns-then-q-lt-RECORD_LENGTH

@@ -4,7 +4,6 @@ use lib.ListN.{length, drop, length-drop}
 use native.Mathlib.Omega.{arith}
 use lib.ListN.{drop, length-drop}
 use lib.Seq.{take_all}
-use borrow.Author.Rules.{rules}
 use Rattle.semilinear.proofs.items.rest_from.Goals as goal
 
 pub returns : goal.returns

@@ -1,6 +1,5 @@
 -- `refuse` meets its contract.
 use Rattle.semilinear.proofs.OutcomeLaws.{gives_refused}
-use borrow.Author.Rules.{rules}
 use Rattle.semilinear.proofs.outcome.refuse.Goals as goal
 
 pub returns : goal.returns

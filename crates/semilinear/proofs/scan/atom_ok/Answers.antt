@@ -2,7 +2,6 @@
 use Rattle.semilinear.specs.Valid.{atom_ok}
 use Rattle.semilinear.proofs.ItemsLaws.{atom_room}
 use borrow.Author.Tests.{eq-eqb, ne_eqb, le-leb, lt-leb}
-use borrow.Author.Rules.{rules}
 use Rattle.semilinear.proofs.scan.atom_ok.Goals as goal
 
 pub provenance-requires : goal.provenance-requires
@@ -34,7 +33,7 @@ unfolding atom_ok
 returns-then-front_spare-ne0 c =
     simp (
       ← c.provenance.ensures,
-      le-leb _ _ c.if-provenance-gt4.false,
+      le-leb _ 4 c.if-provenance-gt4.false,
       ← c.front_width.ensures,
       eq-eqb _ _ c.if-front_width-w.false,
       ← c.front_spare.ensures,
@@ -54,7 +53,7 @@ unfolding atom_ok
 returns c =
     simp (
       ← c.provenance.ensures,
-      le-leb _ _ c.if-provenance-gt4.false,
+      le-leb c.provenance.result 4 c.if-provenance-gt4.false,
       ← c.front_width.ensures,
       eq-eqb _ _ c.if-front_width-w.false,
       ← c.front_spare.ensures,

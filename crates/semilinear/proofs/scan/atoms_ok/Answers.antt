@@ -1,12 +1,8 @@
 -- `atoms_ok` meets its contract: the loop keeps that the atoms from `at` on decide.
-use mathlib.Core.Path.{◌≡◌, refl, sym, ◌∙◌, ap}
-use Prim.Native.Nat.{◌-◌, ◌≤◌}
+use mathlib.Core.Path.{refl, sym, ◌∙◌, ap}
+use Prim.Native.Nat.{◌-◌}
 use native.Mathlib.Omega.{arith}
-use borrow.Author.Rules.{rules}
-use lib.ListN.{length, drop}
-use borrow.Author.Tests.{not-true, not-false}
 use Rattle.semilinear.specs.Items.{is_atom}
-use Rattle.semilinear.specs.Valid.{atoms_ok}
 use Rattle.semilinear.proofs.ItemsLaws.{fold_done}
 use Rattle.semilinear.proofs.ScanLaws.{atom_inside, atoms_ok_next, atoms_ok_stop}
 use Rattle.semilinear.proofs.scan.atoms_ok.Goals as goal

@@ -1,8 +1,7 @@
 -- `front_ok` meets its contract: a case for each test, in the order of the definition.
 use Rattle.semilinear.specs.Valid.{front_ok}
-use borrow.Author.Tests.{not-true, not-false, le-leb, lt-leb}
+use borrow.Author.Tests.{le-leb, lt-leb}
 use mathlib.Core.Path.{sym, ◌∙◌}
-use borrow.Author.Rules.{rules}
 use Rattle.semilinear.proofs.scan.front_ok.Goals as goal
 
 pub returns-then-not-atoms_ok : goal.returns-then-not-atoms_ok

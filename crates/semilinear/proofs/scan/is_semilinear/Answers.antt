@@ -1,9 +1,7 @@
 -- `is_semilinear` meets its contract: the sum record first, then what is before it.
 use Rattle.semilinear.specs.Valid.{is_semilinear}
 use Rattle.semilinear.proofs.ValidLaws.{sum_parts}
-use borrow.Author.Tests.{not-true, not-false}
 use mathlib.Core.Path.{sym, ◌∙◌}
-use borrow.Author.Rules.{rules}
 use Rattle.semilinear.proofs.scan.is_semilinear.Goals as goal
 
 pub returns-then-not-sum_ok : goal.returns-then-not-sum_ok

@@ -1,7 +1,6 @@
 -- `length_refused` meets its contract: a case for each test.
 use Rattle.semilinear.specs.Valid.{length_refused}
 use borrow.Author.Tests.{eq-eqb, ne_eqb, lt-ltb, le-ltb}
-use borrow.Author.Rules.{rules}
 use Rattle.semilinear.proofs.scan.length_refused.Goals as goal
 
 pub returns-then-n-eq0 : goal.returns-then-n-eq0

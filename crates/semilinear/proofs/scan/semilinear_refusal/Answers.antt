@@ -1,7 +1,6 @@
 -- `semilinear_refusal` meets its contract: a case for each refusal, the lowest first.
 use Rattle.semilinear.specs.Valid.{semilinear_refusal}
 use mathlib.Core.Path.{sym, ◌∙◌}
-use borrow.Author.Rules.{rules}
 use Rattle.semilinear.proofs.scan.semilinear_refusal.Goals as goal
 
 pub returns-then-length_refused : goal.returns-then-length_refused

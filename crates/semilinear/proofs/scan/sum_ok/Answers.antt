@@ -1,7 +1,6 @@
 -- `sum_ok` meets its contract: a case for each test, in the order of the definition.
 use Rattle.semilinear.specs.Valid.{sum_ok}
 use borrow.Author.Tests.{eq-eqb, ne_eqb, le-leb, lt-leb}
-use borrow.Author.Rules.{rules}
 use Rattle.semilinear.proofs.scan.sum_ok.Goals as goal
 
 pub returns-then-s-lt-RECORD_LENGTH : goal.returns-then-s-lt-RECORD_LENGTH

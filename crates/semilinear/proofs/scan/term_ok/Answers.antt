@@ -2,7 +2,6 @@
 use Rattle.semilinear.specs.Valid.{term_ok}
 use Rattle.semilinear.proofs.ItemsLaws.{term_big}
 use borrow.Author.Tests.{eq-eqb, ne_eqb, le-leb, lt-leb, lt-ltb, le-ltb}
-use borrow.Author.Rules.{rules}
 use Rattle.semilinear.proofs.scan.term_ok.Goals as goal
 
 pub provenance-requires : goal.provenance-requires

@@ -1,15 +1,8 @@
 -- `terms_ok` meets its contract: the loop keeps that the terms from `at` on decide.
-use mathlib.Core.Path.{◌≡◌, refl, sym, ◌∙◌, ap}
+use mathlib.Core.Path.{◌≡◌}
 use Prim.Native.Nat.{◌-◌, ◌≤◌}
-use native.Mathlib.Omega.{arith}
-use borrow.Author.Rules.{rules}
-use lib.ListN.{length, drop, length-drop}
-use borrow.Author.Tests.{not-true, not-false}
-use Rattle.semilinear.specs.Items.{is_term}
+use lib.ListN.{length, drop}
 use Rattle.semilinear.specs.Valid.{terms_ok}
-use Rattle.semilinear.proofs.ItemsLaws.{term_big}
-use Rattle.semilinear.proofs.ValidLaws.{terms_end, terms_other}
-use Rattle.semilinear.proofs.ScanLaws.{term_inside, terms_ok_next, terms_ok_stop}
 use Rattle.semilinear.proofs.scan.terms_ok.Given as goal
 
 abbrev pub invariant-loop-at : goal.invariant-loop-at

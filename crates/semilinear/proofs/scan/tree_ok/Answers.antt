@@ -1,5 +1,4 @@
 -- `tree_ok` meets its contract: a case for each test.
-use borrow.Author.Rules.{rules}
 use borrow.Author.Tests.{not-true, not-false}
 use Rattle.semilinear.proofs.ValidLaws.{tree_shut, tree_bare, tree_open}
 use Rattle.semilinear.proofs.scan.tree_ok.Goals as goal

@@ -5,7 +5,6 @@ use native.Mathlib.Omega.{arith}
 use lib.ListN.{replicate}
 use Rattle.base.proofs.PutLaws.{padded_nil}
 use Rattle.semilinear_normalizer.proofs.WrittenLaws.{table_placed, index_room, gives_collected}
-use borrow.Author.Rules.{rules}
 use Rattle.semilinear_normalizer.proofs.form.write_form.Goals as goal
 
 pub register_all-table-requires : goal.register_all-table-requires

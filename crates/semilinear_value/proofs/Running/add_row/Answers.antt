@@ -5,13 +5,11 @@ use Rattle.semilinear_value.proofs.SumLaws.{coeff_with}
 use Rattle.semilinear_value.proofs.SumLaws.{sum_step}
 use Rattle.semilinear.specs.Items.{tree_span}
 use Rattle.semilinear.proofs.ItemsLaws.{term_big, has_term_is}
-use borrow.Author.Tests.{not-true, not-false}
 use mathlib.Core.Path.{ap, ap₂, sym, ◌∙◌}
 use Prim.Native.Nat.{ℕ, ◌+◌, ◌*◌, ◌%◌, ◌^◌}
 use mathlib.Core.List.{List}
 use Rattle.expr.specs.Value.{value}
 use Rattle.record.specs.Decode.{decode}
-use borrow.Author.Rules.{rules}
 use Rattle.semilinear_value.proofs.Running.add_row.Goals as goal
 
 pub atom_length-requires : goal.atom_length-requires

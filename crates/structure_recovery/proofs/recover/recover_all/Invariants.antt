@@ -1,14 +1,10 @@
 -- `recover_all` meets its contract: after k turns k groups are recovered; a full table ends the loop.
-use mathlib.Core.Path.{sym, ◌∙◌}
 use mathlib.Core.List.{[]}
 use Prim.Native.Nat.{◌-◌, ◌≤◌}
-use native.Mathlib.Omega.{arith}
 use Rattle.semilinear.specs.Items.{after_atoms}
 use Rattle.semilinear.specs.DecodeForm.{read_rows}
 use Rattle.views.specs.Grouping.{any_basis, bases_of}
-use Rattle.group.proofs.PassLaws.{count_few, count_room, next_at, end_at, group_at, all_at}
-use Rattle.made.proofs.WordsLaws.{is_full, not_full}
-use Rattle.structure_recovery.proofs.AllRecoveredLaws.{Going, going_start, going_next, going_stop, going_done}
+use Rattle.structure_recovery.proofs.AllRecoveredLaws.{Going}
 use Rattle.structure_recovery.proofs.recover.recover_all.Given as goal
 
 abbrev pub invariant-loop-k : goal.invariant-loop-k

@@ -1,11 +1,9 @@
 -- `recover_form` meets its contract: the copied table, its rows recovered, and the end of a pass.
 use mathlib.Core.Path.{refl}
-use native.Mathlib.Omega.{arith}
 use Rattle.base.proofs.PutLaws.{padded_nil}
 use Rattle.semilinear.proofs.ValidLaws.{semilinear_parts}
 use Rattle.group.proofs.PassLaws.{pass_begin}
 use Rattle.structure_recovery.proofs.RecoverEndLaws.{recover_room, recover_end}
-use borrow.Author.Rules.{rules}
 use Rattle.structure_recovery.proofs.recover.recover_form.Goals as goal
 
 pub width-w-requires : goal.width-w-requires

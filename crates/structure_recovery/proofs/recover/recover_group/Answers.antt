@@ -9,7 +9,6 @@ use Rattle.pairing.specs.Recovering.{Recovered}
 use Rattle.made.proofs.WordsLaws.{is_full}
 use Rattle.structure_recovery.proofs.GroupRecoveredLaws.{recovered_none, recovered_met, group_past}
 use Rattle.structure_recovery.proofs.GroupRecoveredLaws.{group_settled}
-use borrow.Author.Rules.{rules}
 use Rattle.structure_recovery.proofs.recover.recover_group.Goals as goal
 use Rattle.structure_recovery.proofs.recover.recover_group.Goals.{Joined-any_partner, else-any_partner, then-any_partner}
 

@@ -2,7 +2,6 @@
 use native.Mathlib.Omega.{arith}
 use Rattle.group.proofs.PassLaws.{read_count, read_readable, first_same, rows_views}
 use Rattle.structure_recovery.proofs.AllRecoveredLaws.{read_any, rows_recovered_lem}
-use borrow.Author.Rules.{rules}
 use Rattle.structure_recovery.proofs.recover.recover_rows.Goals as goal
 
 pub read_views-n-requires : goal.read_views-n-requires

@@ -1,7 +1,6 @@
 -- `recover_short` meets its contract: the arrays have room for the views and the bases of few atoms.
 use native.Mathlib.Omega.{arith}
 use Rattle.group.proofs.PassLaws.{form_fewer}
-use borrow.Author.Rules.{rules}
 use Rattle.structure_recovery.proofs.recover.recover_short.Goals as goal
 
 pub recover_rows-requires : goal.recover_rows-requires

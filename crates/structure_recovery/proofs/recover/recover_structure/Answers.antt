@@ -1,7 +1,6 @@
 -- `recover_structure` meets its contract: the front door, and then the form.
 use Rattle.atom_table.proofs.ReadLaws.{pass_shut, pass_open, pass_zeros, pass_given}
 use Rattle.structure_laws.specs.RecoverStructure.{recover_structure}
-use borrow.Author.Rules.{rules}
 use Rattle.structure_recovery.proofs.recover.recover_structure.Goals as goal
 
 pub returns-then-number-ne0 : goal.returns-then-number-ne0

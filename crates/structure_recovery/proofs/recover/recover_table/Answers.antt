@@ -1,7 +1,6 @@
 -- `recover_table` meets its contract: few atoms go into short arrays.
 use native.Mathlib.Omega.{arith}
 use Rattle.group.proofs.PassLaws.{form_fewer}
-use borrow.Author.Rules.{rules}
 use Rattle.structure_recovery.proofs.recover.recover_table.Goals as goal
 
 pub recover_short-requires : goal.recover_short-requires

@@ -1,6 +1,5 @@
 -- `key_of` meets its contract: no key for a literal, a Shr or too many variables, else the low rows and the variables.
 use Rattle.truth.proofs.KeyLaws.{key_literal, key_shr, key_vars, key_words}
-use borrow.Author.Rules.{rules}
 use Rattle.truth.proofs.key.key_of.Goals as goal
 
 pub returns-then-found : goal.returns-then-found

@@ -1,7 +1,6 @@
 -- `Reading::read_row` meets its contract: a row without a term has no view, one with a term that of its tree.
 use mathlib.Core.Path.{ap, sym, ◌∙◌}
 use native.Mathlib.Omega.{arith}
-use borrow.Author.Tests.{not-true, not-false}
 use lib.ListN.{length, set, drop, length-drop}
 use Rattle.semilinear.proofs.ItemsLaws.{term_big, has_term_is}
 use Rattle.semilinear_value.proofs.SumLaws.{passed_without, passed_with, coeff_with}
@@ -9,7 +8,6 @@ use Rattle.views.specs.Views.{kept_of}
 use Rattle.views.proofs.ViewLaws.{view_none}
 use Rattle.views.proofs.ViewsLaws.{viewed_none}
 use Rattle.views.proofs.ReadLaws.{tree_accepted, tree_variable, row_tree_lem, row_coeff_none, row_coeff, kept_none}
-use borrow.Author.Rules.{rules}
 use Rattle.views.proofs.Reading.read_row.Goals as goal
 
 pub atom_length-requires : goal.atom_length-requires

@@ -1,9 +1,7 @@
 -- `mark_traits` meets its contract: the equation of the fold at a root without, with one and with two children.
 use mathlib.Core.Path.{refl, ap}
-use Prim.Native.Nat.{ℕ, ◌+◌, ◌-◌, ◌<◌}
+use Prim.Native.Nat.{ℕ, ◌+◌, ◌-◌}
 use native.Mathlib.Omega.{arith}
-use borrow.Author.Rules.{rules}
-use Rattle.record.specs.Fields.{size}
 use Rattle.record.proofs.SizedLaws.{sized_big}
 use Rattle.record.proofs.DecodeLaws.{child_body, child_left, child_right}
 use Rattle.record.proofs.PlaceLaws.{root_whole, root_number, right_whole, right_number}

@@ -3,7 +3,6 @@ use Rattle.expr_utils.specs.Utils.{has_kind, has_arith}
 use Rattle.record.specs.Decode.{leaf}
 use Rattle.ways.specs.Marks.{mark_number, mark_of}
 use borrow.Author.Tests.{eq-eqb, ne_eqb}
-use borrow.Author.Rules.{rules}
 use Rattle.ways.proofs.marks.leaf_mark.Goals as goal
 
 pub returns-then-kind-eq0 : goal.returns-then-kind-eq0

@@ -1,6 +1,5 @@
 -- `put_mark` meets its contract: one element set.
 use mathlib.Core.Path.{refl}
-use borrow.Author.Rules.{rules}
 use Rattle.ways.proofs.MarksLaws.{put_one}
 use Rattle.ways.proofs.marks.put_mark.Goals as goal
 

@@ -1,7 +1,6 @@
 -- `root_mark` meets its contract: a case for each answer of the test.
 use mathlib.Core.Path.{sym, ◌∙◌}
 use Rattle.ways.specs.Marks.{root_mark}
-use borrow.Author.Rules.{rules}
 use Rattle.ways.proofs.marks.root_mark.Goals as goal
 
 pub returns-then-is_arith : goal.returns-then-is_arith

@@ -1,6 +1,4 @@
 -- `is_turned` meets its contract: one test after the other.
-use borrow.Author.Tests.{not-true, not-false}
-use borrow.Author.Rules.{rules}
 use Rattle.ways.proofs.WayLaws.{turned_off, turned_other, turned_on}
 use Rattle.ways.proofs.side.is_turned.Goals as goal
 

@@ -3,7 +3,6 @@ use mathlib.Core.Path.{refl}
 use native.Mathlib.Omega.{arith}
 use Rattle.ways.specs.Sides.{left_side}
 use Rattle.ways.proofs.TwoSidesLaws.{two_whole, two_number}
-use borrow.Author.Rules.{rules}
 use Rattle.ways.proofs.side.left_side.Goals as goal
 
 pub number_of-requires : goal.number_of-requires

@@ -3,7 +3,6 @@ use mathlib.Core.Path.{refl}
 use native.Mathlib.Omega.{arith}
 use Rattle.ways.specs.Sides.{right_side}
 use Rattle.ways.proofs.TwoSidesLaws.{two_root, two_whole, two_number}
-use borrow.Author.Rules.{rules}
 use Rattle.ways.proofs.side.right_side.Goals as goal
 
 pub overflow_sub-result : goal.overflow_sub-result

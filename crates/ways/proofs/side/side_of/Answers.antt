@@ -1,8 +1,6 @@
 -- `side_of` meets its contract: the marks of the two sides tell which of them has a variable.
 use mathlib.Core.Path.{refl, sym, ◌∙◌}
 use native.Mathlib.Omega.{arith}
-use borrow.Author.Rules.{rules}
-use borrow.Author.Tests.{not-true, not-false}
 use Rattle.ways.specs.Spans.{span_of}
 use Rattle.ways.specs.Sides.{SideOf}
 use Rattle.ways.proofs.SpanOfLaws.{span_end}

@@ -1,7 +1,6 @@
 -- `span_of` meets its contract: the part of the slice.
 use mathlib.Core.Path.{refl}
 use Rattle.ways.specs.Spans.{span_of}
-use borrow.Author.Rules.{rules}
 use Rattle.ways.proofs.side.span_of.Goals as goal
 
 pub returns : goal.returns

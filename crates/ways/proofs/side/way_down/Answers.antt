@@ -2,7 +2,7 @@
 use mathlib.Core.Path.{refl, ap, sym, ◌∙◌}
 use native.Mathlib.Omega.{arith}
 use mathlib.Core.Bool.{true, false}
-use borrow.Author.Tests.{eqb-false, ne_eqb, not-true, not-false}
+use borrow.Author.Tests.{eqb-false, ne_eqb}
 use Rattle.record.specs.Fields.{kind}
 use Rattle.base.proofs.BoolLaws.{false_true}
 use Rattle.ways.specs.declared.side.Side.{Side}
@@ -10,7 +10,6 @@ use Rattle.ways.specs.Sides.{WayDown}
 use Rattle.ways.proofs.SpanOfLaws.{span_big, kind_read}
 use Rattle.ways.proofs.SideLaws.{spot_some, spot_variable}
 use Rattle.ways.proofs.TwoSidesLaws.{add_sides}
-use borrow.Author.Rules.{rules}
 use Rattle.ways.proofs.side.way_down.Goals as goal
 
 pub returns-then-coeff-eq0 : goal.returns-then-coeff-eq0

@@ -1,5 +1,4 @@
 -- `way_neg` meets its contract: the record of the definition.
-use borrow.Author.Rules.{rules}
 use Rattle.ways.proofs.side.way_neg.Goals as goal
 
 pub returns : goal.returns

@@ -7,7 +7,6 @@ use Rattle.ways.specs.Spans.{span_of}
 use Rattle.ways.proofs.SpanOfLaws.{span_big, span_end, binary_two}
 use Rattle.ways.proofs.SideLaws.{spot_some}
 use Rattle.ways.proofs.WayLaws.{turned_read, way_neg, way_not, way_end}
-use borrow.Author.Rules.{rules}
 use Rattle.ways.proofs.side.way_on.Goals as goal
 
 pub kind-k-requires : goal.kind-k-requires

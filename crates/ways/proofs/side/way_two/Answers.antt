@@ -2,7 +2,6 @@
 use native.Mathlib.Omega.{arith}
 use Rattle.ways.proofs.SideLaws.{spot_some, spot_arith}
 use Rattle.ways.proofs.WayLaws.{way_mul, way_and, way_arith, way_masked}
-use borrow.Author.Rules.{rules}
 use Rattle.ways.proofs.side.way_two.Goals as goal
 
 pub returns-then-k-eq3 : goal.returns-then-k-eq3

@@ -4,7 +4,6 @@ use native.Mathlib.Omega.{arith}
 use Rattle.record.proofs.SizedLaws.{sized_big, sized_length}
 use Rattle.atom_table.specs.Table.{full_table}
 use Rattle.atom_table.proofs.TableLaws.{create_full, create_past, fits_more_count, fits_more_records, created}
-use borrow.Author.Rules.{rules}
 use Rattle.atom_table.proofs.table.Table.create_atom.Goals as goal
 
 pub returns-then-self : goal.returns-then-self

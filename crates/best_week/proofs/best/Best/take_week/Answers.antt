@@ -1,6 +1,5 @@
 -- `take_week` meets its contract: there is none before, the new one is lower, or it is not.
 use mathlib.Core.Path.{ap, ◌∙◌}
-use borrow.Author.Tests.{not-true, not-false}
 use Rattle.best_week.proofs.SignedLaws.{back, back_lower}
 use Rattle.best_week.proofs.BestLaws.{new, take_first, take_lower, take_none}
 use Rattle.best_week.proofs.best.Best.take_week.Goals as goal

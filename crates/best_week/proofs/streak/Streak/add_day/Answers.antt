@@ -1,6 +1,4 @@
 -- `add_day` meets its contract: a new streak, a longer one, or one that has moved on by a day.
-use borrow.Author.Rules.{rules}
-use borrow.Author.Tests.{not-true, not-false}
 use mathlib.Core.Path.{refl, sym, ◌∙◌}
 use Rattle.best_week.proofs.SignedLaws.{back, same_fits}
 use Rattle.best_week.proofs.TotalLaws.{over_fits}

@@ -3,7 +3,6 @@ use mathlib.Core.Path.{sym, ◌∙◌}
 use native.Mathlib.Omega.{arith}
 use Rattle.bit_partitioner.proofs.PlacesLaws.{count_place, room_next, still_room, placed_still, placed_joined}
 use Rattle.bit_partitioner.proofs.PlacesLaws.{count_new, count_same}
-use borrow.Author.Rules.{rules}
 use Rattle.bit_partitioner.proofs.places.Places.join_place.Goals as goal
 
 pub overflow_mul-at : goal.overflow_mul-at

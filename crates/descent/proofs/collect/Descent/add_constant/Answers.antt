@@ -1,6 +1,5 @@
 -- `add_constant` meets its contract: the sum of the definition.
 use mathlib.Core.Path.{refl}
-use borrow.Author.Rules.{rules}
 use Rattle.descent.proofs.collect.Descent.add_constant.Goals as goal
 
 pub returns : goal.returns

@@ -12,7 +12,6 @@ use Rattle.descent.proofs.AndSideLaws.{and_variable, side_at, side_value_lt, and
 use Rattle.descent.proofs.AndSideLaws.{and_plain_side, and_not_side, and_binary}
 use Rattle.descent.proofs.PushLaws.{atom_push, not_push}
 use Rattle.descent.proofs.CollectsLaws.{collects_as}
-use borrow.Author.Rules.{rules}
 use Rattle.descent.proofs.collect.Descent.collect_and.Goals as goal
 
 pub side_of-side-requires : goal.side_of-side-requires

@@ -3,7 +3,7 @@ use mathlib.Core.Path.{ap, sym, ◌∙◌}
 use Prim.Native.Nat.{ℕ}
 use native.Mathlib.Omega.{arith}
 use mathlib.Core.List.{List, []}
-use borrow.Author.Tests.{ne_eqb, not-true, not-false}
+use borrow.Author.Tests.{ne_eqb}
 use Rattle.arith.specs.Width.{mod_mul}
 use Rattle.record.specs.Decode.{decode}
 use Rattle.expr.specs.Value.{value}
@@ -13,7 +13,6 @@ use Rattle.ways.proofs.SideLaws.{spot_some, spot_marks, spot_variable}
 use Rattle.descent.proofs.CollectsLaws.{collects_as, collects_more, collects_none}
 use Rattle.descent.proofs.CollectsLaws.{collects_constant, ready_less}
 use Rattle.descent.proofs.WayDownLaws.{end_zero, end_constant, end_whole}
-use borrow.Author.Rules.{rules}
 use Rattle.descent.proofs.collect.Descent.collect_end.Goals as goal
 
 pub returns-then-coeff-eq0 : goal.returns-then-coeff-eq0

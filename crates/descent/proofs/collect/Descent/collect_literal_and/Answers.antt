@@ -6,7 +6,6 @@ use Rattle.expr_refusal.proofs.RefusalLaws.{accepted_big}
 use Rattle.ways.specs.Spans.{span_of}
 use Rattle.ways.proofs.SpanOfLaws.{span_end}
 use Rattle.descent.proofs.PushLaws.{literal_and_zero, literal_and_plain, literal_and_not}
-use borrow.Author.Rules.{rules}
 use Rattle.descent.proofs.collect.Descent.collect_literal_and.Goals as goal
 
 pub returns-then-coeff-eq0 : goal.returns-then-coeff-eq0

@@ -1,6 +1,5 @@
 -- `collect_masked` meets its contract: the constant, then the And with the literal.
 use Rattle.descent.proofs.PushLaws.{ready_literal, collects_literal}
-use borrow.Author.Rules.{rules}
 use Rattle.descent.proofs.collect.Descent.collect_masked.Goals as goal
 
 pub collect_literal_and-requires : goal.collect_literal_and-requires

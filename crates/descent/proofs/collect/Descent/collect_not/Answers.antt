@@ -2,7 +2,6 @@
 use mathlib.Core.Path.{refl, ap, ◌∙◌}
 use native.Mathlib.Omega.{arith}
 use Rattle.descent.specs.declared.collect.Descent.{Descent}
-use borrow.Author.Rules.{rules}
 use Rattle.descent.proofs.collect.Descent.collect_not.Goals as goal
 
 pub push_spot-requires : goal.push_spot-requires

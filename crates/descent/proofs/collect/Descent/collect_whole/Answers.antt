@@ -7,7 +7,6 @@ use Rattle.ways.proofs.SideLaws.{spot_some, spot_arith}
 use Rattle.descent.proofs.WholeLaws.{whole_nonlinear, whole_and, whole_atom, is_and, other_kind}
 use Rattle.descent.proofs.PushLaws.{atom_push}
 use Rattle.descent.proofs.CollectsLaws.{collects_as, collects_nonlinear}
-use borrow.Author.Rules.{rules}
 use Rattle.descent.proofs.collect.Descent.collect_whole.Goals as goal
 
 pub kind-k-requires : goal.kind-k-requires

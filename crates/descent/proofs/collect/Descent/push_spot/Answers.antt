@@ -1,7 +1,6 @@
 -- `push_spot` meets its contract: five words are put behind the others.
 use mathlib.Core.Path.{refl}
 use Rattle.descent.specs.Spots.{spot_words}
-use borrow.Author.Rules.{rules}
 use Rattle.descent.proofs.collect.Descent.push_spot.Goals as goal
 
 pub returns : goal.returns

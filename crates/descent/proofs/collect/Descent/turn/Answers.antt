@@ -1,6 +1,4 @@
 -- `turn` meets its contract: by whether the Not is turned.
-use borrow.Author.Tests.{not-true, not-false}
-use borrow.Author.Rules.{rules}
 use Rattle.descent.proofs.WayDownLaws.{turn_off, turn_on}
 use Rattle.descent.proofs.collect.Descent.turn.Goals as goal
 

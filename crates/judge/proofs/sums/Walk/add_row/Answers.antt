@@ -7,13 +7,11 @@ use Rattle.truth.specs.Truth.{bit_of, row_bits}
 use Rattle.truth.proofs.TruthLaws.{table_f_bit}
 use Rattle.arith.specs.Bit.{bit_at}
 use Rattle.record.specs.Decode.{decode}
-use borrow.Author.Tests.{not-true, not-false}
 use mathlib.Core.Path.{refl, ap, ap₂, sym, ◌∙◌}
 use mathlib.Core.List.{List}
 use lib.ListN.{get_or}
 use native.Mathlib.Omega.{arith}
 use Prim.Native.Nat.{ℕ, ◌+◌, ◌*◌, ◌%◌, ◌^◌}
-use borrow.Author.Rules.{rules}
 use Rattle.judge.proofs.sums.Walk.add_row.Goals as goal
 
 pub atom_length-requires : goal.atom_length-requires
