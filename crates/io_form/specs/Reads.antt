@@ -1,6 +1,5 @@
 -- What a read that fails half-way leaves.
-use Rattle.std.specs.Prelude.{ℕ, ◌≤◌, List, length, take}
-use Rattle.std.proofs.Common.{Option}
+use Rattle.std.specs.Prelude.{ℕ, ◌≤◌, List, length, take, Option}
 use Rattle.std.specs.Io.KnownBytes.{Consumes}
 
 -- what the reader gave stands at the start of buf, where its bytes are known
