@@ -4,7 +4,7 @@ use Prim.Native.Nat.{ℕ}
 use mathlib.Core.List.{List, [], ◌∷◌}
 use mathlib.Core.Bool.{Bool, true, false}
 use lib.ListN.{length, take, replicate, length-replicate}
-use denote.Ref.{Bor}
+use denote.Ref.{Bor, MutBor}
 use contract.Lifetimes.{Lfts}
 use borrow.Fn.World.{ArgsD}
 use borrow.Fn.Kinds.{ended_of}
@@ -56,19 +56,22 @@ handed len (not_made n pos e) =
       given = gives_same e len (refused_answer n) _ (gives_refused n len (refused_answer n) _ refl refl);
     }
 
--- a reference to a value
+-- a reference to a value, shared or mutable
 abbrev ref : {A : Type 0} → A → Bor A
 ref x = record { ref_ptr = (0, 0); now = x }
+
+abbrev mut_ref : {A : Type 0} → A → MutBor A
+mut_ref x = record { ref_ptr = (0, 0); ghost_name = 0; now = x }
 
 -- a writer that handed over an answer and a slice, where its contract allows it
 abbrev lifetimes : Lfts 4
 lifetimes = ([], ([], ([], ([], tt))))
 
 abbrev given_args : List ℕ → ℕ → ArgsD writer.signature lifetimes
-given_args s len = (ref s, (ref (replicate len 0), (ref 0, (ref 0, tt))))
+given_args s len = (ref s, (mut_ref (replicate len 0), (mut_ref 0, (mut_ref 0, tt))))
 
 abbrev left_args : List ℕ → Answer → List ℕ → AtExit (ended_of 4 writer-kinds.ps writer-kinds.r) lifetimes
-left_args s a out = (ref s, (ref out, (ref a.used, (ref a.terms, tt))))
+left_args s a out = (ref s, (mut_ref out, (mut_ref a.used, (mut_ref a.terms, tt))))
 
 returned : (L : Learns) (s : List ℕ) (len : ℕ) (a : Answer) (out : List ℕ)
     → L lifetimes (given_args s len) a.refusal (left_args s a out) → Returned L s len a.refusal a.used out
@@ -100,8 +103,8 @@ call_handed flatten_complex_atoms_lem s len h =
     let a = h.answer in
     flattens (record {
       κs = ([], lifetimes);
-      args = (ref s, (ref (replicate len 0), (ref 0, (ref 0, (ref 0, tt)))));
-      exit = (ref s, (ref h.out, (ref a.used, (ref a.terms, (ref (flag_number a.flag), tt)))));
+      args = (ref s, (mut_ref (replicate len 0), (mut_ref 0, (mut_ref 0, (mut_ref 0, tt)))));
+      exit = (ref s, (mut_ref h.out, (mut_ref a.used, (mut_ref a.terms, (mut_ref (flag_number a.flag), tt)))));
       learnt = rw (length-replicate {A = ℕ} len 0) h.given;
       reads = refl;
       sized = length-replicate len 0;

@@ -1,6 +1,6 @@
 -- Any list of calls of the exported functions keeps the value (Trace.antt): what each call's contract says is what the
 -- definitions give, and the rest is the theorem about the definitions (`list_keeps`).
-use mathlib.Core.Path.{◌≡◌, refl, ap, sym, ◌∙◌}
+use mathlib.Core.Path.{◌≡◌, refl, ap, sym, subst, ◌∙◌}
 use Prim.Native.Nat.{ℕ, zero, suc, ◌<◌}
 use native.Mathlib.Omega.{arith}
 use mathlib.Core.List.{List, [], ◌∷◌}
@@ -47,46 +47,55 @@ record GivesUsed (o : Outcome) (len r used : ℕ) (out : List ℕ) : Type 0 wher
 abbrev terms_of : {L : Learns} {s : List ℕ} {len r used : ℕ} {out : List ℕ} → Returned L s len r used out → ℕ
 terms_of k = k.exit.1.1.1.0.now
 
+-- what is said of the lists and numbers that a call names
+given_as : (o : List ℕ → ℕ → Outcome) {s s' out out' : List ℕ} {len len' r used used' terms : ℕ} → s' ≡ s → len' ≡ len
+    → used' ≡ used → out' ≡ out → Gives (o s' len') len' r (used' ∷ terms ∷ []) out'
+    → Gives (o s len) len r (used ∷ terms ∷ []) out
+given_as o reads sized uses writes g = rw (sym reads, sym sized, sym uses, sym writes) g
+
 call_gives : {s : List ℕ} {len r used : ℕ} {out : List ℕ} (p : Pass) → CallOf s len r used out p
     → GivesUsed (pass_gives p s len) len r used out
 unfolding pass_gives
 call_gives refine_terms_lem (refines k) =
     record {
       terms = terms_of k;
-      given = rw (sym k.reads, sym k.sized, sym k.uses, sym k.writes) k.learnt;
+      given = given_as (pass_gives refine_terms_lem) k.reads k.sized k.uses k.writes k.learnt;
     }
 call_gives recover_structure_lem (recovers k) =
     record {
       terms = terms_of k;
-      given = rw (sym k.reads, sym k.sized, sym k.uses, sym k.writes) k.learnt;
+      given = given_as (pass_gives recover_structure_lem) k.reads k.sized k.uses k.writes k.learnt;
     }
 call_gives coalesce_terms_lem (coalesces k) =
     record {
       terms = terms_of k;
-      given = rw (sym k.reads, sym k.sized, sym k.uses, sym k.writes) k.learnt;
+      given = given_as (pass_gives coalesce_terms_lem) k.reads k.sized k.uses k.writes k.learnt;
     }
 call_gives flatten_complex_atoms_lem (flattens k) =
     record {
       terms = k.exit.1.1.1.0.now;
       given =
-          rw (sym k.reads, sym k.sized, sym k.uses, sym k.writes) (gives_two _ _ _ _ _ _ _ k.learnt);
+          given_as (pass_gives flatten_complex_atoms_lem) k.reads k.sized k.uses k.writes
+          (gives_two _ _ _ _ _ _ _ k.learnt);
     }
 call_gives compact_atom_table_lem (compacts k) =
     record {
       terms = terms_of k;
-      given = rw (sym k.reads, sym k.sized, sym k.uses, sym k.writes) k.learnt;
+      given = given_as (pass_gives compact_atom_table_lem) k.reads k.sized k.uses k.writes k.learnt;
     }
 
 normalize_gives : {rules : ℕ} {s : List ℕ} {len used : ℕ} {out : List ℕ} → Normalizes s len used out rules
     → GivesUsed (normalize_by_rules rules s len) len 0 used out
 normalize_gives {rules} {s} {len} {used} {out} (plain k) =
     let given : Gives (normalize_to_semilinear s len) len 0 (used ∷ terms_of k ∷ []) out =
-    rw (sym k.reads, sym k.sized, sym k.uses, sym k.writes) k.learnt in
+    given_as normalize_to_semilinear k.reads k.sized k.uses k.writes k.learnt in
     record { terms = terms_of k; given = rw (rules_one s len) given }
-normalize_gives (by_rules k) =
+normalize_gives {rules} {s} {len} {used} {out} (by_rules k) =
     record {
       terms = k.exit.1.1.1.1.0.now;
-      given = rw (sym k.named, sym k.reads, sym k.sized, sym k.uses, sym k.writes) k.learnt;
+      given =
+          subst (λ (n : ℕ). Gives (normalize_by_rules n s len) len 0 (used ∷ k.exit.1.1.1.1.0.now ∷ []) out) k.named
+          (given_as (normalize_by_rules k.args.0) k.reads k.sized k.uses k.writes k.learnt);
     }
 
 -- the partition classes of any bytes
@@ -149,7 +158,8 @@ unfolding sheet_after
 trace_cut zero none = none
 trace_cut (suc n) none = none
 trace_cut zero (then k rest) = none
-trace_cut (suc n) (then k rest) = then k (trace_cut n rest)
+trace_cut {s = s} (suc n) (then {out = out} {r = r} {used = used} k rest) =
+    then k (trace_cut {s = in_use_after r used out s} n rest)
 
 -- ---- from an expression
 

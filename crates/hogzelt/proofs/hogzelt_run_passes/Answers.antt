@@ -7,7 +7,8 @@ use Rattle.hogzelt.proofs.hogzelt_run_passes.Goals as goal
 
 pub returns : goal.returns
 returns c =
-    let run = c.run_passes-ran in (
-      gives_two _ _ _ _ _ _ _ run.ensures,
-      c.clear.ensures ∙ ap (λ (n : ℕ). replicate n 0) run.auto.1.1.1.0,
-    )
+    let run = c.run_passes-ran in
+    record {
+      gives = gives_two _ _ _ _ _ _ _ run.ensures;
+      spare_after = c.clear.ensures ∙ ap (λ (n : ℕ). replicate n 0) run.auto.spare;
+    }

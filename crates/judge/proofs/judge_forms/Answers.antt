@@ -20,8 +20,8 @@ returns-then-b-ne0 c =
 
 pub judge_pair-requires : goal.judge_pair-requires
 judge_pair-requires c =
-    let bytes-l = c.shared_slice_known-1.given in
-    let bytes-r = c.shared_slice_known-2-1.given in (
+    let bytes-l = c.type_inv.left in
+    let bytes-r = c.type_inv.right in (
       own_form c.args.left.now (λ i. (bytes-l i).fits)
           (sym c.semilinear_refusal-a.ensures ∙ c.if-a-ne0.false),
       own_form c.args.right.now (λ i. (bytes-r i).fits)

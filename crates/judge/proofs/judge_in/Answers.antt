@@ -25,35 +25,23 @@ returns-then-b-ne0 c =
 
 pub slice_bounds-judge_pair-end : goal.slice_bounds-judge_pair-end
 slice_bounds-judge_pair-end c =
-    let bytes-l = c.shared_slice_known-1.given in
-    let bytes-r = c.shared_slice_known-2-1.given in
+    let bytes-l = c.type_inv.left in
     let left =
     form_for _ _ c.requires.0 c.normalize_to_semilinear-a.result _ c.normalize_to_semilinear-a.ensures
     (λ i. (bytes-l i).fits) c.if-a-ne0.false in
-    let right =
-    form_for _ _ c.requires.1 c.normalize_to_semilinear-b.result _
-    c.normalize_to_semilinear-b.ensures (λ i. (bytes-r i).fits) c.if-b-ne0.false in
     left.1
 
 pub slice_bounds-judge_pair-end-2 : goal.slice_bounds-judge_pair-end-2
 slice_bounds-judge_pair-end-2 c =
-    let bytes-l = c.shared_slice_known-1.given in
-    let bytes-r = c.shared_slice_known-2-1.given in
+    let bytes-l = c.type_inv.left in
     let left =
     form_for _ _ c.requires.0 c.normalize_to_semilinear-a.result _ c.normalize_to_semilinear-a.ensures
     (λ i. (bytes-l i).fits) c.if-a-ne0.false in
-    let right =
-    form_for _ _ c.requires.1 c.normalize_to_semilinear-b.result _
-    c.normalize_to_semilinear-b.ensures (λ i. (bytes-r i).fits) c.if-b-ne0.false in
     room_take _ _ left.1
 
 pub slice_bounds-judge_pair-end-3 : goal.slice_bounds-judge_pair-end-3
 slice_bounds-judge_pair-end-3 c =
-    let bytes-l = c.shared_slice_known-1.given in
-    let bytes-r = c.shared_slice_known-2-1.given in
-    let left =
-    form_for _ _ c.requires.0 c.normalize_to_semilinear-a.result _ c.normalize_to_semilinear-a.ensures
-    (λ i. (bytes-l i).fits) c.if-a-ne0.false in
+    let bytes-r = c.type_inv.right in
     let right =
     form_for _ _ c.requires.1 c.normalize_to_semilinear-b.result _
     c.normalize_to_semilinear-b.ensures (λ i. (bytes-r i).fits) c.if-b-ne0.false in
@@ -61,11 +49,7 @@ slice_bounds-judge_pair-end-3 c =
 
 pub slice_bounds-judge_pair-end-4 : goal.slice_bounds-judge_pair-end-4
 slice_bounds-judge_pair-end-4 c =
-    let bytes-l = c.shared_slice_known-1.given in
-    let bytes-r = c.shared_slice_known-2-1.given in
-    let left =
-    form_for _ _ c.requires.0 c.normalize_to_semilinear-a.result _ c.normalize_to_semilinear-a.ensures
-    (λ i. (bytes-l i).fits) c.if-a-ne0.false in
+    let bytes-r = c.type_inv.right in
     let right =
     form_for _ _ c.requires.1 c.normalize_to_semilinear-b.result _
     c.normalize_to_semilinear-b.ensures (λ i. (bytes-r i).fits) c.if-b-ne0.false in
@@ -73,8 +57,8 @@ slice_bounds-judge_pair-end-4 c =
 
 pub judge_pair-requires : goal.judge_pair-requires
 judge_pair-requires c =
-    let bytes-l = c.shared_slice_known-1.given in
-    let bytes-r = c.shared_slice_known-2-1.given in
+    let bytes-l = c.type_inv.left in
+    let bytes-r = c.type_inv.right in
     let left =
     form_for _ _ c.requires.0 c.normalize_to_semilinear-a.result _ c.normalize_to_semilinear-a.ensures
     (λ i. (bytes-l i).fits) c.if-a-ne0.false in

@@ -14,8 +14,7 @@ use lib.ListN.{length}
 use Rattle.judge.proofs.judge_pair.Goals as goal
 
 pub width-w-requires : goal.width-w-requires
-width-w-requires c =
-    side_big c.args.forms c.args.left.now c.requires.0.taken
+width-w-requires c = side_big c.args.forms c.args.left.now c.requires.0.taken
 
 pub width-requires : goal.width-requires
 width-requires c =
@@ -52,8 +51,7 @@ returns-then-n-gt-JOINT_VARS c =
     (omega (arith, count, c.if-n-gt-JOINT_VARS.true))
 
 pub side_shifts-requires : goal.side_shifts-requires
-side_shifts-requires c =
-    c.requires.0.taken
+side_shifts-requires c = c.requires.0.taken
 
 pub returns-then-side_shifts : goal.returns-then-side_shifts
 returns-then-side_shifts c =
@@ -74,10 +72,7 @@ returns-then-side_shifts c =
     (sym c.side_shifts.ensures ∙ c.if-side_shifts.true))
 
 pub side_shifts-requires-2 : goal.side_shifts-requires-2
-side_shifts-requires-2 c =
-    let start =
-    c in
-    start.pre.1.taken
+side_shifts-requires-2 c = c.requires.1.taken
 
 pub returns-then-side_shifts-2 : goal.returns-then-side_shifts-2
 returns-then-side_shifts-2 c =

@@ -14,8 +14,8 @@ pub returns : goal.returns
 returns c =
     let first = c.place_sums in
     let second = c.place_sums-2 in
-    let x = first.new.1.1.1.1.1.0 in
-    let y = second.new.1.1.1.1.1.0 in
+    let x = first.new.sums in
+    let y = second.new.sums in
     let w = c.args.w in
     let p = c.args.place in
     let vs = c.args.vars.now in

@@ -9,13 +9,13 @@ use Rattle.runner.proofs.TurnLaws.{parted}
 use Rattle.runner.proofs.call_part.Goals as goal
 
 pub slice_bounds-make_call-end : goal.slice_bounds-make_call-end
-slice_bounds-make_call-end c = let at = c.before.before.before in sym (length-take-le at.args.used at.args.from.now at.requires.0)
+slice_bounds-make_call-end c = sym (length-take-le c.args.used c.args.from.now c.requires.0)
 
 pub slice_bounds-make_call-end-3 : goal.slice_bounds-make_call-end-3
-slice_bounds-make_call-end-3 c = let at = c.before.before.before.before in sym (length-take-le at.args.len at.args.to.now at.requires.1)
+slice_bounds-make_call-end-3 c = sym (length-take-le c.args.len c.args.to.now c.requires.1)
 
 pub returns : goal.returns
 returns c =
     let call = c.make_call in
     parted (pass_gives (pass_at c.args.pass) (take c.args.used c.args.from.now)) c.args.len
-    call.result c.args.to.now call.new.1.1.0 c.requires.1 call.auto.1.1.0 call.ensures
+    call.result c.args.to.now call.new.out c.requires.1 call.auto.out call.ensures

@@ -5,12 +5,12 @@ use Rattle.runner.proofs.RunLaws.{lies_placed, lies_given, placed_again, placed_
 use Rattle.runner.proofs.run_from.Goals as goal
 
 pub run_list-last-requires : goal.run_list-last-requires
-run_list-last-requires c = let at = c.before.before.before.before.before in (at.requires.0, lies_placed at.args.spare.now at.requires.1)
+run_list-last-requires c = (c.requires.0, lies_placed c.args.spare.now c.requires.1)
 
 pub settle-requires : goal.settle-requires
 settle-requires c =
     let run = c.run_list-last in
-    (run.auto.1.1.0 ∙ slice_length c.requires.1, placed_again run.ensures)
+    (run.auto.sheet ∙ slice_length c.requires.1, placed_again run.ensures)
 
 pub returns : goal.returns
 returns c =

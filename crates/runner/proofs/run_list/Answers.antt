@@ -31,7 +31,7 @@ pub loop-i-preserved : goal.loop-i-preserved
 loop-i-preserved c =
     let turn = c.turn-x in
     running_turn c.loop-i.invariant c.loop-i-test.true turn.ensures
-    turn.auto.1.1.1.0 turn.auto.1.1.1.1.0
+    turn.auto.sheet turn.auto.spare
 
 pub shape_of-sheet : goal.shape_of-sheet
 shape_of-sheet c = c.loop-i.invariant.sheet_length

@@ -8,29 +8,29 @@ pub returns-then-found-eq1 : goal.returns-then-found-eq1
 returns-then-found-eq1 c =
     let normal = c.normalize_to_semilinear-found in
     run_one c.args.expr.now c.args.calls.now (length c.args.sheet.now) (length c.args.spare.now)
-    normal.result normal.new.1.0 normal.ensures c.if-found-eq1.true
+    normal.result normal.new.out normal.ensures c.if-found-eq1.true
 
 pub returns-then-found-eq2 : goal.returns-then-found-eq2
 returns-then-found-eq2 c =
     let normal = c.normalize_to_semilinear-found in
     run_two c.args.expr.now c.args.calls.now (length c.args.sheet.now) (length c.args.spare.now)
-    normal.result normal.new.1.0 normal.ensures c.if-found-eq2.true
+    normal.result normal.new.out normal.ensures c.if-found-eq2.true
 
 pub returns-then-not-is_list : goal.returns-then-not-is_list
 returns-then-not-is_list c =
     let normal = c.normalize_to_semilinear-found in
     let refuse = c.refuse in
     run_bad c.args.expr.now c.args.calls.now (length c.args.sheet.now) (length c.args.spare.now)
-    normal.result normal.new.1.0 normal.ensures
-    c.if-found-eq1.false c.if-found-eq2.false (list_is _ _ normal.auto.1.0 c.is_list.ensures c.if-not-is_list.true)
-    _ normal.auto.1.0 refuse.result _ refuse.ensures
+    normal.result normal.new.out normal.ensures
+    c.if-found-eq1.false c.if-found-eq2.false (list_is _ _ normal.auto.out c.is_list.ensures c.if-not-is_list.true)
+    _ normal.auto.out refuse.result _ refuse.ensures
 
 pub returns-then-found-ne0 : goal.returns-then-found-ne0
 returns-then-found-ne0 c =
     let normal = c.normalize_to_semilinear-found in
     run_refused c.args.expr.now c.args.calls.now (length c.args.sheet.now) (length c.args.spare.now)
-    normal.result normal.new.1.0 normal.ensures
-    c.if-found-eq1.false c.if-found-eq2.false (list_is _ _ normal.auto.1.0 c.is_list.ensures c.if-not-is_list.false)
+    normal.result normal.new.out normal.ensures
+    c.if-found-eq1.false c.if-found-eq2.false (list_is _ _ normal.auto.out c.is_list.ensures c.if-not-is_list.false)
     c.if-found-ne0.true
 
 pub run_from-requires : goal.run_from-requires
@@ -38,9 +38,9 @@ run_from-requires c =
     let normal = c.normalize_to_semilinear-found in (
       sym c.is_list.ensures ∙ c.if-not-is_list.false,
       run_start c.args.expr.now c.args.calls.now (length c.args.sheet.now) (length c.args.spare.now)
-          normal.result normal.new.1.0 normal.ensures
-          c.if-found-eq1.false c.if-found-eq2.false (list_is _ _ normal.auto.1.0 c.is_list.ensures c.if-not-is_list.false)
-          (λ i. (c.shared_slice_known-1.given i).fits) c.if-found-ne0.false,
+          normal.result normal.new.out normal.ensures
+          c.if-found-eq1.false c.if-found-eq2.false (list_is _ _ normal.auto.out c.is_list.ensures c.if-not-is_list.false)
+          (λ i. (c.type_inv.expr i).fits) c.if-found-ne0.false,
     )
 
 pub returns : goal.returns
@@ -48,6 +48,6 @@ returns c =
     let normal = c.normalize_to_semilinear-found in
     let run = c.run_from in
     run_end c.args.expr.now c.args.calls.now (length c.args.sheet.now) (length c.args.spare.now)
-    normal.result normal.new.1.0 normal.ensures
-    c.if-found-eq1.false c.if-found-eq2.false (list_is _ _ normal.auto.1.0 c.is_list.ensures c.if-not-is_list.false)
-    (λ i. (c.shared_slice_known-1.given i).fits) c.if-found-ne0.false run.result _ run.ensures
+    normal.result normal.new.out normal.ensures
+    c.if-found-eq1.false c.if-found-eq2.false (list_is _ _ normal.auto.out c.is_list.ensures c.if-not-is_list.false)
+    (λ i. (c.type_inv.expr i).fits) c.if-found-ne0.false run.result _ run.ensures
