@@ -30,8 +30,8 @@ use Rattle.pairing.proofs.RecoverLaws.{value_recover, valid_recover, new_recover
 use Rattle.structure_laws.proofs.CoalesceLaws.{value_coalesce, valid_coalesce, new_coalesce}
 use Rattle.structure_laws.proofs.FlattenLaws.{value_flatten, valid_flatten}
 use Rattle.structure_laws.proofs.HeadsLaws.{new_flatten}
-use Rattle.claims.specs.Calls.{Pass, Call, refine_terms_lem, recover_structure_lem, coalesce_terms_lem}
-use Rattle.claims.specs.Calls.{flatten_complex_atoms_lem, compact_atom_table_lem, pass_gives, use_of, after_call, in_use}
+use Rattle.claims.specs.Calls.{Pass, Call, refine_terms_pass, recover_structure_pass, coalesce_terms_pass}
+use Rattle.claims.specs.Calls.{flatten_complex_atoms_pass, compact_atom_table_pass, pass_gives, use_of, after_call, in_use}
 use Rattle.claims.specs.Calls.{SameValue}
 
 -- ---- one call
@@ -75,20 +75,20 @@ coalesce_made =
 module _ (f : Form) (ok : valid_form f ≡ true) (len : ℕ) where
   pub pass_keeps : (p : Pass) → Made f (pass_gives p (encode_form f) len)
   unfolding pass_gives
-  pass_keeps refine_terms_lem = refine_made f ok len
-  pass_keeps recover_structure_lem = recover_made f ok len
-  pass_keeps coalesce_terms_lem = coalesce_made f ok len
-  pass_keeps flatten_complex_atoms_lem = flatten_made f ok len
-  pass_keeps compact_atom_table_lem = compact_made f ok len
+  pass_keeps refine_terms_pass = refine_made f ok len
+  pass_keeps recover_structure_pass = recover_made f ok len
+  pass_keeps coalesce_terms_pass = coalesce_made f ok len
+  pass_keeps flatten_complex_atoms_pass = flatten_made f ok len
+  pass_keeps compact_atom_table_pass = compact_made f ok len
 
   -- a result slice of another length is refused
   pub pass_two : (p : Pass) → (len ≡ 57360 → ⊥) → pass_gives p (encode_form f) len ≡ refused 2
   unfolding pass_gives refine_terms recover_structure coalesce_terms flatten_complex_atoms compact_atom_table
-  pass_two refine_terms_lem = pass_slice _ (encode_form f) len (form_not_refused f ok)
-  pass_two recover_structure_lem = pass_slice _ (encode_form f) len (form_not_refused f ok)
-  pass_two coalesce_terms_lem = pass_slice _ (encode_form f) len (form_not_refused f ok)
-  pass_two flatten_complex_atoms_lem = pass_slice _ (encode_form f) len (form_not_refused f ok)
-  pass_two compact_atom_table_lem = pass_slice _ (encode_form f) len (form_not_refused f ok)
+  pass_two refine_terms_pass = pass_slice _ (encode_form f) len (form_not_refused f ok)
+  pass_two recover_structure_pass = pass_slice _ (encode_form f) len (form_not_refused f ok)
+  pass_two coalesce_terms_pass = pass_slice _ (encode_form f) len (form_not_refused f ok)
+  pass_two flatten_complex_atoms_pass = pass_slice _ (encode_form f) len (form_not_refused f ok)
+  pass_two compact_atom_table_pass = pass_slice _ (encode_form f) len (form_not_refused f ok)
 
 -- ---- any list of calls
 

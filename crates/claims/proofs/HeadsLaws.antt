@@ -38,8 +38,8 @@ use Rattle.structure_laws.specs.RecoverStructure.{recover_structure}
 use Rattle.structure_laws.specs.CoalesceTerms.{coalesce_terms}
 use Rattle.structure_laws.specs.FlattenComplexAtoms.{flatten_complex_atoms}
 use Rattle.partition_laws.specs.Partition.{partitions_outcome, compute_partitions}
-use Rattle.claims.specs.Calls.{Pass, Call, refine_terms_lem, recover_structure_lem, coalesce_terms_lem}
-use Rattle.claims.specs.Calls.{flatten_complex_atoms_lem, compact_atom_table_lem, pass_gives, use_of, in_use}
+use Rattle.claims.specs.Calls.{Pass, Call, refine_terms_pass, recover_structure_pass, coalesce_terms_pass}
+use Rattle.claims.specs.Calls.{flatten_complex_atoms_pass, compact_atom_table_pass, pass_gives, use_of, in_use}
 use Rattle.claims.specs.Heads.{SameButHeads, known_rows}
 use Rattle.claims.proofs.CallsLaws.{pass_keeps, list_keeps}
 
@@ -73,11 +73,11 @@ module _ (s : List ℕ) (h : IsBytes s) (len : ℕ) (bytes numbers : List ℕ) w
 
   pass_form : (p : Pass) → pass_gives p s len ≡ accepted bytes numbers → is_semilinear s ≡ true
   unfolding pass_gives refine_terms recover_structure coalesce_terms flatten_complex_atoms compact_atom_table
-  pass_form refine_terms_lem e = accepted_form _ e
-  pass_form recover_structure_lem e = accepted_form _ e
-  pass_form coalesce_terms_lem e = accepted_form _ e
-  pass_form flatten_complex_atoms_lem e = accepted_form _ e
-  pass_form compact_atom_table_lem e = accepted_form _ e
+  pass_form refine_terms_pass e = accepted_form _ e
+  pass_form recover_structure_pass e = accepted_form _ e
+  pass_form coalesce_terms_pass e = accepted_form _ e
+  pass_form flatten_complex_atoms_pass e = accepted_form _ e
+  pass_form compact_atom_table_pass e = accepted_form _ e
 
   -- of every pass, whatever the heads before
   pub pass_heads : (p : Pass) → pass_gives p s len ≡ accepted bytes numbers → new_heads (body bytes) ≡ true
@@ -163,11 +163,11 @@ module _ (f g : Form) (okf : valid_form f ≡ true) (okg : valid_form g ≡ true
 
   pub same_pass : (p : Pass) (len : ℕ) → pass_gives p (encode_form f) len ≡ pass_gives p (encode_form g) len
   unfolding pass_gives refine_terms recover_structure coalesce_terms flatten_complex_atoms compact_atom_table
-  same_pass refine_terms_lem = same_made _
-  same_pass recover_structure_lem = same_made _
-  same_pass coalesce_terms_lem = same_made _
-  same_pass flatten_complex_atoms_lem = same_made _
-  same_pass compact_atom_table_lem = same_made _
+  same_pass refine_terms_pass = same_made _
+  same_pass recover_structure_pass = same_made _
+  same_pass coalesce_terms_pass = same_made _
+  same_pass flatten_complex_atoms_pass = same_made _
+  same_pass compact_atom_table_pass = same_made _
 
   pub same_columns : (len : ℕ) → compute_partitions (encode_form f) len ≡ compute_partitions (encode_form g) len
   unfolding compute_partitions

@@ -11,11 +11,11 @@ use Rattle.structure_laws.specs.FlattenComplexAtoms.{flatten_complex_atoms}
 
 -- the five passes
 pub data Pass : Type 0 where
-  refine_terms_lem : Pass
-  recover_structure_lem : Pass
-  coalesce_terms_lem : Pass
-  flatten_complex_atoms_lem : Pass
-  compact_atom_table_lem : Pass
+  refine_terms_pass : Pass
+  recover_structure_pass : Pass
+  coalesce_terms_pass : Pass
+  flatten_complex_atoms_pass : Pass
+  compact_atom_table_pass : Pass
 
 -- a pass, and the length of the result slice that is lent to it
 pub record Call : Type 0 where
@@ -24,11 +24,11 @@ pub record Call : Type 0 where
 
 -- what the pass gives for the bytes s and a result slice of len bytes
 unfoldable pub pass_gives : Pass → List ℕ → ℕ → Outcome
-pass_gives refine_terms_lem s len = refine_terms s len
-pass_gives recover_structure_lem s len = recover_structure s len
-pass_gives coalesce_terms_lem s len = coalesce_terms s len
-pass_gives flatten_complex_atoms_lem s len = flatten_complex_atoms s len
-pass_gives compact_atom_table_lem s len = compact_atom_table s len
+pass_gives refine_terms_pass s len = refine_terms s len
+pass_gives recover_structure_pass s len = recover_structure s len
+pass_gives coalesce_terms_pass s len = coalesce_terms s len
+pass_gives flatten_complex_atoms_pass s len = flatten_complex_atoms s len
+pass_gives compact_atom_table_pass s len = compact_atom_table s len
 
 -- the bytes in use after a call: those that it gives, or the old ones where it is refused
 unfoldable pub use_of : List ℕ → Outcome → List ℕ

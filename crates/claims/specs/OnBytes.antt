@@ -10,8 +10,8 @@ use Rattle.semilinear.specs.Outcome.{form_outcome}
 use Rattle.normalizer_laws.specs.Normalize.{normalize_to_semilinear}
 use Rattle.partition_laws.specs.Partition.{compute_partitions}
 use Rattle.claims.specs.Calls.{Pass, Call, pass_gives, use_of, in_use}
-use Rattle.claims.specs.Calls.Pass.{refine_terms_lem, recover_structure_lem, coalesce_terms_lem, flatten_complex_atoms_lem}
-use Rattle.claims.specs.Calls.Pass.{compact_atom_table_lem}
+use Rattle.claims.specs.Calls.Pass.{refine_terms_pass, recover_structure_pass, coalesce_terms_pass, flatten_complex_atoms_pass}
+use Rattle.claims.specs.Calls.Pass.{compact_atom_table_pass}
 use Rattle.claims.specs.Example.{Example, a, b, mask, row, term, form}
 use Rattle.base.specs.Limits.{column_words, form_bytes}
 
@@ -47,19 +47,19 @@ unfoldable pub on_bytes : List Example
 on_bytes =
     -- the starred puzzles of normalising, refining, recovering and the columns
     normalizes (Binary 6 a (Constant 15)) (form 8 15 (row a 1 ∷ term 15 254 ∷ []))
-    ∷ makes refine_terms_lem (sheet (term 255 16 ∷ [])) (sheet (term 255 0 ∷ term 15 16 ∷ [])) false
-    ∷ makes refine_terms_lem (sheet (term 15 1 ∷ term 240 1 ∷ [])) (sheet (term 15 0 ∷ term 240 0 ∷ row a 1 ∷ [])) false
-    ∷ makes recover_structure_lem (sheet (term 252 1 ∷ term 3 255 ∷ term 0 255 ∷ []))
+    ∷ makes refine_terms_pass (sheet (term 255 16 ∷ [])) (sheet (term 255 0 ∷ term 15 16 ∷ [])) false
+    ∷ makes refine_terms_pass (sheet (term 15 1 ∷ term 240 1 ∷ [])) (sheet (term 15 0 ∷ term 240 0 ∷ row a 1 ∷ [])) false
+    ∷ makes recover_structure_pass (sheet (term 252 1 ∷ term 3 255 ∷ term 0 255 ∷ []))
     (form 8 253 (term 252 0 ∷ term 3 0 ∷ term 0 255 ∷ xor 3 1 ∷ [])) false
     ∷ record {
       got = compute_partitions (encode_form (sheet (term 15 1 ∷ []))) column_words;
       want = accepted (15 ∷ 2 ∷ 240 ∷ 0 ∷ []) (2 ∷ []);
     }
     -- coalescing, flattening with its flag, and compaction, which numbers the atoms anew
-    ∷ makes coalesce_terms_lem (sheet (term 15 1 ∷ term 240 1 ∷ [])) (sheet (term 15 0 ∷ term 240 0 ∷ row a 1 ∷ [])) false
-    ∷ makes flatten_complex_atoms_lem (form 8 7 (row (Unary 7 0 b) 3 ∷ []))
+    ∷ makes coalesce_terms_pass (sheet (term 15 1 ∷ term 240 1 ∷ [])) (sheet (term 15 0 ∷ term 240 0 ∷ row a 1 ∷ [])) false
+    ∷ makes flatten_complex_atoms_pass (form 8 7 (row (Unary 7 0 b) 3 ∷ []))
     (form 8 4 (row (Unary 7 0 b) 0 ∷ row b 253 ∷ [])) true
-    ∷ makes compact_atom_table_lem (form 8 9 (term 15 0 ∷ row b 2 ∷ term 240 0 ∷ xor 3 1 ∷ []))
+    ∷ makes compact_atom_table_pass (form 8 9 (term 15 0 ∷ row b 2 ∷ term 240 0 ∷ xor 3 1 ∷ []))
     (form 8 9 (row b 2 ∷ xor 3 1 ∷ [])) false
     ∷ []
 
@@ -83,13 +83,13 @@ halves = saved 1 (mask a 15) 1 ∷ saved 2 (mask a 240) 1 ∷ []
 unfoldable pub saved_heads : List Example
 saved_heads =
     -- every pass writes new heads, also where it changes nothing else
-    makes compact_atom_table_lem old new false
-    ∷ makes refine_terms_lem old new false
-    ∷ makes recover_structure_lem old new false
-    ∷ makes coalesce_terms_lem old new false
-    ∷ makes flatten_complex_atoms_lem old new false
-    ∷ makes refine_terms_lem (sheet halves) (sheet (term 15 0 ∷ term 240 0 ∷ row a 1 ∷ [])) false
-    ∷ makes compact_atom_table_lem (sheet (saved 0 a 0 ∷ saved 1 b 2 ∷ [])) (sheet (row b 2 ∷ [])) false
+    makes compact_atom_table_pass old new false
+    ∷ makes refine_terms_pass old new false
+    ∷ makes recover_structure_pass old new false
+    ∷ makes coalesce_terms_pass old new false
+    ∷ makes flatten_complex_atoms_pass old new false
+    ∷ makes refine_terms_pass (sheet halves) (sheet (term 15 0 ∷ term 240 0 ∷ row a 1 ∷ [])) false
+    ∷ makes compact_atom_table_pass (sheet (saved 0 a 0 ∷ saved 1 b 2 ∷ [])) (sheet (row b 2 ∷ [])) false
     -- the columns are the same
     ∷ record {
       got = compute_partitions (encode_form (sheet halves)) column_words;
@@ -97,12 +97,12 @@ saved_heads =
     }
     -- a refused call leaves the bytes in use as they were
     ∷ record {
-      got = accepted (in_use (record { pass = compact_atom_table_lem; len = short } ∷ []) (encode_form old)) [];
+      got = accepted (in_use (record { pass = compact_atom_table_pass; len = short } ∷ []) (encode_form old)) [];
       want = accepted (encode_form old) [];
     }
     -- 5 is no byte of a head
-    ∷ stops compact_atom_table_lem (encode_form (sheet (saved 5 a 1 ∷ []))) whole 10
-    ∷ stops flatten_complex_atoms_lem (encode_form (sheet (row a 1 ∷ saved 255 b 2 ∷ []))) whole 10
+    ∷ stops compact_atom_table_pass (encode_form (sheet (saved 5 a 1 ∷ []))) whole 10
+    ∷ stops flatten_complex_atoms_pass (encode_form (sheet (row a 1 ∷ saved 255 b 2 ∷ []))) whole 10
     ∷ []
 
 -- ---- variables past 255 (ticket #101)
@@ -137,27 +137,27 @@ past_byte =
     normalizes (Binary 2 (v 256) (Binary 3 (Constant 2) (v 0))) (sheet (row (v 256) 1 ∷ row (v 0) 2 ∷ []))
     ∷ normalizes (Binary 6 (v 256) (v 0)) (sheet (row (Binary 6 (v 256) (v 0)) 1 ∷ []))
     -- groups by their hashes, which rise from v0 by v255 and v65535 to v256
-    ∷ makes refine_terms_lem (sheet (some 255 16))
+    ∷ makes refine_terms_pass (sheet (some 255 16))
     (sheet (some 255 0 ++ (part 0 15 16 ∷ part 255 15 16 ∷ part 65535 15 16 ∷ part 256 15 16 ∷ []))) false
-    ∷ makes coalesce_terms_lem (sheet (part 256 15 1 ∷ part 65535 15 2 ∷ part 256 240 1 ∷ part 65535 240 2 ∷ []))
+    ∷ makes coalesce_terms_pass (sheet (part 256 15 1 ∷ part 65535 15 2 ∷ part 256 240 1 ∷ part 65535 240 2 ∷ []))
     (sheet
     (part 256 15 0 ∷ part 65535 15 0 ∷ part 256 240 0 ∷ part 65535 240 0 ∷ row (v 65535) 2 ∷ row (v 256) 1 ∷ []))
     false
-    ∷ makes recover_structure_lem (sheet (part 65535 252 1 ∷ part 65535 3 255 ∷ []))
+    ∷ makes recover_structure_pass (sheet (part 65535 252 1 ∷ part 65535 3 255 ∷ []))
     (form 8 253 (part 65535 252 0 ∷ part 65535 3 0 ∷ row (Binary 6 (Constant 3) (v 65535)) 1 ∷ [])) false
     -- an atom of v65535 alone, and of v256
-    ∷ makes flatten_complex_atoms_lem (form 8 7 (row (Unary 7 0 (v 65535)) 3 ∷ row (Unary 7 0 (v 256)) 1 ∷ []))
+    ∷ makes flatten_complex_atoms_pass (form 8 7 (row (Unary 7 0 (v 65535)) 3 ∷ row (Unary 7 0 (v 256)) 1 ∷ []))
     (form 8 3 (row (Unary 7 0 (v 65535)) 0 ∷ row (Unary 7 0 (v 256)) 0 ∷ row (v 65535) 253 ∷ row (v 256) 255 ∷ [])) true
-    ∷ makes compact_atom_table_lem (sheet (row (v 256) 0 ∷ row (v 65535) 2 ∷ [])) (sheet (row (v 65535) 2 ∷ [])) false
+    ∷ makes compact_atom_table_pass (sheet (row (v 256) 0 ∷ row (v 65535) 2 ∷ [])) (sheet (row (v 65535) 2 ∷ [])) false
     -- bits 0 to 3 of v256 ^ v65535
     ∷ record {
       got = compute_partitions (encode_form (sheet (row (mask (Binary 6 (v 256) (v 65535)) 15) 1 ∷ []))) column_words;
       want = accepted (15 ∷ 6 ∷ 240 ∷ 0 ∷ []) (2 ∷ []);
     }
     -- byte 5 of a head, of a term and of the sum
-    ∷ stops compact_atom_table_lem ((with_byte5 atom ++ one) ++ sum) whole 10
-    ∷ stops compact_atom_table_lem ((atom ++ with_byte5 one) ++ sum) whole 10
-    ∷ stops compact_atom_table_lem ((atom ++ one) ++ with_byte5 sum) whole 10
+    ∷ stops compact_atom_table_pass ((with_byte5 atom ++ one) ++ sum) whole 10
+    ∷ stops compact_atom_table_pass ((atom ++ with_byte5 one) ++ sum) whole 10
+    ∷ stops compact_atom_table_pass ((atom ++ one) ++ with_byte5 sum) whole 10
     ∷ []
 
 -- ---- literals written as sums (ticket #104)
@@ -213,9 +213,9 @@ refusals =
     -- v0 × v1
     ∷ refuses (encode 8 (Binary 3 a b)) whole 8
     -- a pass: 1 before 2, 2 before 10, and 10
-    ∷ stops refine_terms_lem fifteen short 1
-    ∷ stops recover_structure_lem none short 2
-    ∷ stops coalesce_terms_lem none whole 10
+    ∷ stops refine_terms_pass fifteen short 1
+    ∷ stops recover_structure_pass none short 2
+    ∷ stops coalesce_terms_pass none whole 10
     ∷ []
 
 -- ---- any list of calls
@@ -231,7 +231,7 @@ start = use_of [] (normalize_to_semilinear (encode 8 expression) whole)
 -- a pass, then a compaction that is refused for the length of its slice, then another pass
 abbrev calls : Pass → Pass → List Call
 calls p q =
-    record { pass = p; len = whole } ∷ record { pass = compact_atom_table_lem; len = short }
+    record { pass = p; len = whole } ∷ record { pass = compact_atom_table_pass; len = short }
     ∷ record { pass = q; len = whole } ∷ []
 
 -- the bytes in use after the calls are those of f
@@ -243,8 +243,8 @@ leaves l f = record { got = accepted (in_use l start) []; want = accepted (encod
 unfoldable pub orders : List Example
 orders =
     leaves [] (sheet (term 15 128 ∷ term 240 128 ∷ []))
-    ∷ leaves (calls refine_terms_lem recover_structure_lem)
+    ∷ leaves (calls refine_terms_pass recover_structure_pass)
     (sheet (term 15 0 ∷ term 240 0 ∷ term 1 128 ∷ term 0 0 ∷ []))
-    ∷ leaves (calls recover_structure_lem refine_terms_lem)
+    ∷ leaves (calls recover_structure_pass refine_terms_pass)
     (form 8 128 (term 15 0 ∷ term 240 0 ∷ xor 15 128 ∷ []))
     ∷ []

@@ -22,8 +22,8 @@ use Rattle.normalizer_laws.specs.Normalize.{normalize_to_semilinear}
 use Rattle.normalizer_laws.proofs.NormalizeLaws.{Normalized, normalize_form}
 use Rattle.rules_laws.specs.Rules.{normalize_by_rules}
 use Rattle.rules_laws.proofs.RulesLaws.{rules_form}
-use Rattle.claims.specs.Calls.{Pass, Call, refine_terms_lem, recover_structure_lem, coalesce_terms_lem, flatten_complex_atoms_lem}
-use Rattle.claims.specs.Calls.{compact_atom_table_lem, pass_gives, after_call}
+use Rattle.claims.specs.Calls.{Pass, Call, refine_terms_pass, recover_structure_pass, coalesce_terms_pass, flatten_complex_atoms_pass}
+use Rattle.claims.specs.Calls.{compact_atom_table_pass, pass_gives, after_call}
 use Rattle.claims.proofs.CallsLaws.{pass_keeps, call_keeps}
 use Rattle.hogzelt.proofs.Trace.{Returned, CallOf, refines, recovers, coalesces, flattens, compacts, in_use_after}
 use Rattle.hogzelt.proofs.Trace.{Trace, none, then, Traced, plain, by_rules, Accepted, Started, Learns}
@@ -90,16 +90,16 @@ returned L s len a out h =
 call_handed : (p : Pass) (s : List ℕ) (len : ℕ) (h : Handed (pass_gives p s len) len)
     → CallOf s len h.answer.refusal h.answer.used h.out p
 unfolding pass_gives
-call_handed refine_terms_lem s len h =
+call_handed refine_terms_pass s len h =
     refines (returned refine-reads.Learnt s len h.answer h.out
     (rw (length-replicate {A = ℕ} len 0) (gives_two _ _ _ _ _ _ _ h.given)))
-call_handed recover_structure_lem s len h =
+call_handed recover_structure_pass s len h =
     recovers (returned recover-reads.Learnt s len h.answer h.out
     (rw (length-replicate {A = ℕ} len 0) (gives_two _ _ _ _ _ _ _ h.given)))
-call_handed coalesce_terms_lem s len h =
+call_handed coalesce_terms_pass s len h =
     coalesces (returned coalesce-reads.Learnt s len h.answer h.out
     (rw (length-replicate {A = ℕ} len 0) (gives_two _ _ _ _ _ _ _ h.given)))
-call_handed flatten_complex_atoms_lem s len h =
+call_handed flatten_complex_atoms_pass s len h =
     let a = h.answer in
     flattens (record {
       κs = ([], lifetimes);
@@ -111,7 +111,7 @@ call_handed flatten_complex_atoms_lem s len h =
       uses = refl;
       writes = refl;
     })
-call_handed compact_atom_table_lem s len h =
+call_handed compact_atom_table_pass s len h =
     compacts (returned compact-reads.Learnt s len h.answer h.out
     (rw (length-replicate {A = ℕ} len 0) (gives_two _ _ _ _ _ _ _ h.given)))
 

@@ -25,8 +25,8 @@ use Rattle.normalizer_laws.specs.Normalize.{normalize_to_semilinear}
 use Rattle.rules_laws.specs.Rules.{normalize_by_rules}
 use Rattle.partition_laws.specs.Columns.{atom_tree, IsRow, Columns}
 use Rattle.claims.specs.Atoms.{AllAtoms}
-use Rattle.claims.specs.Calls.{Pass, Call, refine_terms_lem, recover_structure_lem, coalesce_terms_lem, flatten_complex_atoms_lem}
-use Rattle.claims.specs.Calls.{compact_atom_table_lem, in_use}
+use Rattle.claims.specs.Calls.{Pass, Call, refine_terms_pass, recover_structure_pass, coalesce_terms_pass, flatten_complex_atoms_pass}
+use Rattle.claims.specs.Calls.{compact_atom_table_pass, in_use}
 use Rattle.runner.specs.RunPasses.{calls_of}
 use Rattle.hogzelt.specs.contracts.hogzelt_compact_atom_table as writer
 use Rattle.hogzelt.proofs.hogzelt_compact_atom_table.Kinds as writer-kinds
@@ -125,11 +125,11 @@ pub record Ran (s words : List ℕ) (len r used : ℕ) (sheet : List ℕ) : Type
 
 -- a call of the exported function of a pass: one constructor for each
 pub data CallOf (s : List ℕ) (len r used : ℕ) (out : List ℕ) : Pass → Type 0 where
-  refines : Returned refine-reads.Learnt s len r used out → CallOf s len r used out refine_terms_lem
-  recovers : Returned recover-reads.Learnt s len r used out → CallOf s len r used out recover_structure_lem
-  coalesces : Returned coalesce-reads.Learnt s len r used out → CallOf s len r used out coalesce_terms_lem
-  flattens : Flattened s len r used out → CallOf s len r used out flatten_complex_atoms_lem
-  compacts : Returned compact-reads.Learnt s len r used out → CallOf s len r used out compact_atom_table_lem
+  refines : Returned refine-reads.Learnt s len r used out → CallOf s len r used out refine_terms_pass
+  recovers : Returned recover-reads.Learnt s len r used out → CallOf s len r used out recover_structure_pass
+  coalesces : Returned coalesce-reads.Learnt s len r used out → CallOf s len r used out coalesce_terms_pass
+  flattens : Flattened s len r used out → CallOf s len r used out flatten_complex_atoms_pass
+  compacts : Returned compact-reads.Learnt s len r used out → CallOf s len r used out compact_atom_table_pass
 
 -- the bytes in use after a call: those that it says are used of its slice, or the old ones where it is refused
 unfoldable pub in_use_after : ℕ → ℕ → List ℕ → List ℕ → List ℕ

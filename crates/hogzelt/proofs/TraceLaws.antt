@@ -27,8 +27,8 @@ use Rattle.partition_laws.specs.Columns.{atom_tree}
 use Rattle.partition_laws.specs.Partition.{compute_partitions}
 use Rattle.partition_laws.proofs.ColumnsLaws.{row_is}
 use Rattle.bit_partitioner.proofs.EntryLaws.{columns_of_call}
-use Rattle.claims.specs.Calls.{Pass, Call, refine_terms_lem, recover_structure_lem, coalesce_terms_lem, flatten_complex_atoms_lem}
-use Rattle.claims.specs.Calls.{compact_atom_table_lem, pass_gives, use_of, after_call, in_use}
+use Rattle.claims.specs.Calls.{Pass, Call, refine_terms_pass, recover_structure_pass, coalesce_terms_pass, flatten_complex_atoms_pass}
+use Rattle.claims.specs.Calls.{compact_atom_table_pass, pass_gives, use_of, after_call, in_use}
 use Rattle.claims.proofs.AtomsLaws.{valid_atoms}
 use Rattle.claims.proofs.CallsLaws.{pass_keeps, call_keeps, list_keeps}
 use Rattle.hogzelt.proofs.Trace.{Learns, Returned, Flattened, Parted, CallOf, refines, recovers, coalesces}
@@ -56,32 +56,32 @@ given_as o reads sized uses writes g = rw (sym reads, sym sized, sym uses, sym w
 call_gives : {s : List ℕ} {len r used : ℕ} {out : List ℕ} (p : Pass) → CallOf s len r used out p
     → GivesUsed (pass_gives p s len) len r used out
 unfolding pass_gives
-call_gives refine_terms_lem (refines k) =
+call_gives refine_terms_pass (refines k) =
     record {
       terms = terms_of k;
-      given = given_as (pass_gives refine_terms_lem) k.reads k.sized k.uses k.writes k.learnt;
+      given = given_as (pass_gives refine_terms_pass) k.reads k.sized k.uses k.writes k.learnt;
     }
-call_gives recover_structure_lem (recovers k) =
+call_gives recover_structure_pass (recovers k) =
     record {
       terms = terms_of k;
-      given = given_as (pass_gives recover_structure_lem) k.reads k.sized k.uses k.writes k.learnt;
+      given = given_as (pass_gives recover_structure_pass) k.reads k.sized k.uses k.writes k.learnt;
     }
-call_gives coalesce_terms_lem (coalesces k) =
+call_gives coalesce_terms_pass (coalesces k) =
     record {
       terms = terms_of k;
-      given = given_as (pass_gives coalesce_terms_lem) k.reads k.sized k.uses k.writes k.learnt;
+      given = given_as (pass_gives coalesce_terms_pass) k.reads k.sized k.uses k.writes k.learnt;
     }
-call_gives flatten_complex_atoms_lem (flattens k) =
+call_gives flatten_complex_atoms_pass (flattens k) =
     record {
       terms = k.exit.1.1.1.0.now;
       given =
-          given_as (pass_gives flatten_complex_atoms_lem) k.reads k.sized k.uses k.writes
+          given_as (pass_gives flatten_complex_atoms_pass) k.reads k.sized k.uses k.writes
           (gives_two _ _ _ _ _ _ _ k.learnt);
     }
-call_gives compact_atom_table_lem (compacts k) =
+call_gives compact_atom_table_pass (compacts k) =
     record {
       terms = terms_of k;
-      given = given_as (pass_gives compact_atom_table_lem) k.reads k.sized k.uses k.writes k.learnt;
+      given = given_as (pass_gives compact_atom_table_pass) k.reads k.sized k.uses k.writes k.learnt;
     }
 
 normalize_gives : {rules : ℕ} {s : List ℕ} {len used : ℕ} {out : List ℕ} → Normalizes s len used out rules

@@ -9,8 +9,8 @@ use lib.ListN.{length, get_or, drop, drop_of_length-le}
 use lib.Seq.{drop-cons}
 use lib.Dec.{leb}
 use borrow.Author.Tests.{eq-eqb, ne_eqb, le-leb, lt-leb}
-use Rattle.claims.specs.Calls.{Call, refine_terms_lem, recover_structure_lem, coalesce_terms_lem, flatten_complex_atoms_lem}
-use Rattle.claims.specs.Calls.{compact_atom_table_lem}
+use Rattle.claims.specs.Calls.{Call, refine_terms_pass, recover_structure_pass, coalesce_terms_pass, flatten_complex_atoms_pass}
+use Rattle.claims.specs.Calls.{compact_atom_table_pass}
 use Rattle.runner.specs.RunPasses.{pass_at, call_of, calls_of, is_pass, is_call, is_list}
 
 -- ---- the number of a pass, by the first test that decides
@@ -24,26 +24,26 @@ module _ (p : ℕ) where
   unfolding is_pass
   pass_some h = rw (le-leb 1 p h)
 
-  pub at_one : p ≡ 1 → pass_at p ≡ refine_terms_lem
+  pub at_one : p ≡ 1 → pass_at p ≡ refine_terms_pass
   unfolding pass_at
   at_one e = rw (eq-eqb p 1 e)
 
   module _ (n1 : p ≡ 1 → ⊥) where
-    pub at_two : p ≡ 2 → pass_at p ≡ recover_structure_lem
+    pub at_two : p ≡ 2 → pass_at p ≡ recover_structure_pass
     unfolding pass_at
     at_two e = rw (ne_eqb p 1 n1, eq-eqb p 2 e)
 
     module _ (n2 : p ≡ 2 → ⊥) where
-      pub at_three : p ≡ 3 → pass_at p ≡ coalesce_terms_lem
+      pub at_three : p ≡ 3 → pass_at p ≡ coalesce_terms_pass
       unfolding pass_at
       at_three e = rw (ne_eqb p 1 n1, ne_eqb p 2 n2, eq-eqb p 3 e)
 
       module _ (n3 : p ≡ 3 → ⊥) where
-        pub at_four : p ≡ 4 → pass_at p ≡ flatten_complex_atoms_lem
+        pub at_four : p ≡ 4 → pass_at p ≡ flatten_complex_atoms_pass
         unfolding pass_at
         at_four e = rw (ne_eqb p 1 n1, ne_eqb p 2 n2, ne_eqb p 3 n3, eq-eqb p 4 e)
 
-        pub at_other : (p ≡ 4 → ⊥) → pass_at p ≡ compact_atom_table_lem
+        pub at_other : (p ≡ 4 → ⊥) → pass_at p ≡ compact_atom_table_pass
         unfolding pass_at
         at_other n4 = rw (ne_eqb p 1 n1, ne_eqb p 2 n2, ne_eqb p 3 n3, ne_eqb p 4 n4)
 

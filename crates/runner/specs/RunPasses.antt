@@ -5,16 +5,16 @@ use Rattle.semilinear.specs.Form.{term_count}
 use Rattle.semilinear.specs.DecodeForm.{decode_form}
 use Rattle.base.specs.Outcome.{Outcome, accepted, refused, refusal_of}
 use Rattle.normalizer_laws.specs.Normalize.{normalize_to_semilinear}
-use Rattle.claims.specs.Calls.{Pass, Call, refine_terms_lem, recover_structure_lem, coalesce_terms_lem, flatten_complex_atoms_lem}
-use Rattle.claims.specs.Calls.{compact_atom_table_lem, in_use}
+use Rattle.claims.specs.Calls.{Pass, Call, refine_terms_pass, recover_structure_pass, coalesce_terms_pass, flatten_complex_atoms_pass}
+use Rattle.claims.specs.Calls.{compact_atom_table_pass, in_use}
 
 -- the pass of a number: refining 1, recovering 2, coalescing 3, flattening 4, compacting 5
 unfoldable pub pass_at : ℕ → Pass
 pass_at n =
-    when (eqb n 1) (λ _. refine_terms_lem)
-    (λ _. when (eqb n 2) (λ _. recover_structure_lem)
-    (λ _. when (eqb n 3) (λ _. coalesce_terms_lem)
-    (λ _. when (eqb n 4) (λ _. flatten_complex_atoms_lem) (λ _. compact_atom_table_lem))))
+    when (eqb n 1) (λ _. refine_terms_pass)
+    (λ _. when (eqb n 2) (λ _. recover_structure_pass)
+    (λ _. when (eqb n 3) (λ _. coalesce_terms_pass)
+    (λ _. when (eqb n 4) (λ _. flatten_complex_atoms_pass) (λ _. compact_atom_table_pass))))
 
 -- there is a pass of this number
 unfoldable pub is_pass : ℕ → Bool
