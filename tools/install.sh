@@ -21,7 +21,7 @@ command -v cc > /dev/null 2>&1 || stop "cc, a C compiler, is missing"
 archive=${HOGZELT_LIB:-$top/target/staticlib/libhogzelt.a}
 if [ -z "${HOGZELT_LIB:-}" ] && [ ! -f "$archive" ]; then
     command -v rt > /dev/null 2>&1 || stop "rt is missing, and so is the archive; HOGZELT_LIB can name one"
-    printf 'install: tools/build.sh proves and builds the archive, in an hour or so\n' >&2
+    printf 'install: tools/build.sh proves and builds the archive, which takes long the first time\n' >&2
     "$top/tools/build.sh" >&2
 fi
 [ -f "$archive" ] || stop "there is no archive $archive"

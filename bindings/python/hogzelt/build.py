@@ -56,7 +56,7 @@ def prove_archive(top: str) -> None:
     if not shutil.which("rt"):
         raise NoLibrary(f"{ARCHIVE} is missing, and so is rt, the Rattle toolchain, which builds"
                         " it; HOGZELT_SO can name a shared object that is elsewhere")
-    say(f"{ARCHIVE} is missing; {BUILD} proves and builds it, which takes an hour or so the first"
+    say(f"{ARCHIVE} is missing; {BUILD} proves and builds it, which takes long the first"
         " time and prints what is proved of each crate:")
     status = subprocess.run([os.path.join(top, BUILD)], cwd=top, stdout=sys.stderr).returncode
     if status:

@@ -169,7 +169,7 @@ class Building(Calls):
                      f' "{self.archive}" out/libhogzelt_c.a; echo one proved')
         status, shared, said = self.made()
         self.assertEqual((status, shared), (0, self.shared))
-        self.assertIn("takes an hour or so the first time", said)
+        self.assertIn("takes long the first time", said)
         self.assertIn("one proved\n", said)
         first = os.stat(shared).st_mtime_ns
         self.assertEqual(self.made(), (0, shared, ""))
