@@ -29,8 +29,8 @@ pub returns-then-found-ne0 : goal.returns-then-found-ne0
 returns-then-found-ne0 c =
     let normal = c.normalize_to_semilinear-found in
     run_refused c.args.expr.now c.args.calls.now (length c.args.sheet.now) (length c.args.spare.now)
-    normal.result normal.new.out normal.ensures
-    c.if-found-eq1.false c.if-found-eq2.false (list_is _ _ normal.auto.out c.is_list.ensures c.if-not-is_list.false)
+    normal.result normal.new.out normal.ensures c.if-found-eq1.false
+    c.if-found-eq2.false (list_is _ _ normal.auto.out c.is_list.ensures c.if-not-is_list.false)
     c.if-found-ne0.true
 
 pub run_from-requires : goal.run_from-requires
@@ -48,6 +48,6 @@ returns c =
     let normal = c.normalize_to_semilinear-found in
     let run = c.run_from in
     run_end c.args.expr.now c.args.calls.now (length c.args.sheet.now) (length c.args.spare.now)
-    normal.result normal.new.out normal.ensures
-    c.if-found-eq1.false c.if-found-eq2.false (list_is _ _ normal.auto.out c.is_list.ensures c.if-not-is_list.false)
+    normal.result normal.new.out normal.ensures c.if-found-eq1.false c.if-found-eq2.false
+    (list_is _ _ normal.auto.out c.is_list.ensures c.if-not-is_list.false)
     (λ i. (c.type_inv.expr i).fits) c.if-found-ne0.false run.result _ run.ensures
