@@ -11,6 +11,7 @@ ghost use Rattle.arith.specs.Effective.{effective_mask, reduce_mask};
 ghost use Rattle.arith.specs.Effective.{can_change_coefficient_to, can_change_mask_to};
 
 // The bits that a width keeps, all set. Corresponds to arith.rs 9-17.
+#[tactic(auto, using(crate::proofs::WordLaws::bitmask_wide, crate::proofs::WordLaws::bitmask_narrow, crate::proofs::WordLaws::one_shl))]
 pub fn bitmask(bitwidth: u32) -> u64
     ensures { result ≡ bitmask bitwidth }
 {
@@ -21,43 +22,40 @@ pub fn bitmask(bitwidth: u32) -> u64
 }
 
 // Whether a width is one of 1 to 64. Corresponds to arith.rs 22-24.
+#[tactic(auto, unfolding(crate::specs::Width::is_valid_bitwidth))]
 pub fn is_valid_bitwidth(bitwidth: u32) -> bool
     ensures { result ≡ is_valid_bitwidth bitwidth }
 {
-    if bitwidth < 1 {
-        return false;
-    }
-    bitwidth <= 64
+    (1..=64).contains(&bitwidth)
 }
 
-// a * b modulo 2^64. Added: the Rust has it built in. With a = a1*2^32 + a0 and b = b1*2^32 + b0
-// it is a0*b0 + (a1*b0 + a0*b1)*2^32, and of the sum in brackets only the low 32 bits count.
+// a * b modulo 2^64. Added; it stays beside std's method since its contract is a claim of
+// docs/CLAIMS.md.
+#[tactic(auto, unfolding(crate::specs::Width::wrapping_mul))]
 pub fn wrapping_mul(a: u64, b: u64) -> u64
     ensures { result ≡ wrapping_mul a b }
 {
-    let a0 = a & 0xffff_ffff;
-    let a1 = a >> 32;
-    let b0 = b & 0xffff_ffff;
-    let b1 = b >> 32;
-    let mid = std::num::wrapping_add_u64(a1 * b0, a0 * b1);
-    std::num::wrapping_add_u64(a0 * b0, mid << 32)
+    a.wrapping_mul(b)
 }
 
 // a + b modulo 2^w. Corresponds to arith.rs 42-44.
+#[tactic(auto, using(crate::proofs::WordLaws::and_mod_add))]
 pub fn mod_add(a: u64, b: u64, bitwidth: u32) -> u64
     ensures { result ≡ mod_add a b bitwidth }
 {
-    std::num::wrapping_add_u64(a, b) & bitmask(bitwidth)
+    a.wrapping_add(b) & bitmask(bitwidth)
 }
 
 // a - b modulo 2^w. Corresponds to arith.rs 48-50.
+#[tactic(auto, using(crate::proofs::WordLaws::and_mod_sub))]
 pub fn mod_sub(a: u64, b: u64, bitwidth: u32) -> u64
     ensures { result ≡ mod_sub a b bitwidth }
 {
-    std::num::wrapping_sub_u64(a, b) & bitmask(bitwidth)
+    a.wrapping_sub(b) & bitmask(bitwidth)
 }
 
 // a * b modulo 2^w. Corresponds to arith.rs 54-56.
+#[tactic(auto, using(crate::proofs::WordLaws::and_mod_mul))]
 pub fn mod_mul(a: u64, b: u64, bitwidth: u32) -> u64
     ensures { result ≡ mod_mul a b bitwidth }
 {
@@ -65,6 +63,7 @@ pub fn mod_mul(a: u64, b: u64, bitwidth: u32) -> u64
 }
 
 // -a modulo 2^w. Corresponds to arith.rs 60-62.
+#[tactic(auto, using(crate::proofs::WidthLaws::mod_sub_zero))]
 pub fn mod_neg(a: u64, bitwidth: u32) -> u64
     ensures { result ≡ mod_neg a bitwidth }
 {
@@ -72,6 +71,7 @@ pub fn mod_neg(a: u64, bitwidth: u32) -> u64
 }
 
 // The low w bits of a, each turned. Corresponds to arith.rs 66-68.
+#[tactic(auto, using(crate::proofs::WordLaws::and_mod_not))]
 pub fn mod_not(a: u64, bitwidth: u32) -> u64
     ensures { result ≡ mod_not a bitwidth }
 {
@@ -79,6 +79,7 @@ pub fn mod_not(a: u64, bitwidth: u32) -> u64
 }
 
 // a shifted down by k, and then cut to w bits. Corresponds to arith.rs 72-77.
+#[tactic(auto, using(crate::proofs::WordLaws::and_mod_shr, crate::proofs::WordLaws::mod_shr_past))]
 pub fn mod_shr(a: u64, k: u64, bitwidth: u32) -> u64
     ensures { result ≡ mod_shr a k bitwidth }
 {
@@ -89,6 +90,7 @@ pub fn mod_shr(a: u64, k: u64, bitwidth: u32) -> u64
 }
 
 // The bit of m at place i, which is 0 from place 64 on. Added.
+#[tactic(auto, using(crate::proofs::BitLaws::shr_and_one))]
 pub fn bit(m: u64, i: u32) -> u64
     ensures { result ≡ bit_at m i }
 {
@@ -99,10 +101,11 @@ pub fn bit(m: u64, i: u32) -> u64
 }
 
 // The bits of x that count in coeff * x modulo 2^w. Corresponds to term_refiner.rs 22-29.
+#[tactic(auto, using(crate::proofs::EffectiveLaws::effective_none, crate::proofs::EffectiveLaws::effective_ones))]
 pub fn effective_mask(coeff: u64, bitwidth: u32) -> u64
     ensures { result ≡ effective_mask coeff bitwidth }
 {
-    let tz = u64::trailing_zeros(coeff);
+    let tz = coeff.trailing_zeros();
     if tz >= bitwidth {
         return 0;
     }
@@ -111,6 +114,7 @@ pub fn effective_mask(coeff: u64, bitwidth: u32) -> u64
 
 // Whether old_coeff * (x & bitmask_val) is new_coeff * (x & bitmask_val) modulo 2^w for every x.
 // Corresponds to term_refiner.rs 34-46.
+#[tactic(auto, using(crate::proofs::EffectiveLaws::coefficient_test))]
 pub fn can_change_coefficient_to(
     old_coeff: u64,
     new_coeff: u64,
@@ -125,6 +129,7 @@ pub fn can_change_coefficient_to(
 
 // Whether coeff * (x & old_mask) is coeff * (x & new_mask) modulo 2^w for every x.
 // Corresponds to term_refiner.rs 51-54.
+#[tactic(auto, using(crate::proofs::EffectiveLaws::mask_test))]
 pub fn can_change_mask_to(coeff: u64, old_mask: u64, new_mask: u64, bitwidth: u32) -> bool
     ensures { result ≡ can_change_mask_to coeff old_mask new_mask bitwidth }
 {
@@ -132,6 +137,7 @@ pub fn can_change_mask_to(coeff: u64, old_mask: u64, new_mask: u64, bitwidth: u3
 }
 
 // The bits of the mask that count beside coeff. Corresponds to term_refiner.rs 58-60.
+#[tactic(auto, using(crate::proofs::EffectiveLaws::reduce_and))]
 pub fn reduce_mask(coeff: u64, mask: u64, bitwidth: u32) -> u64
     ensures { result ≡ reduce_mask coeff mask bitwidth }
 {

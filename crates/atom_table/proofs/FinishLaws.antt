@@ -5,8 +5,9 @@ use Prim.Native.Nat.{ℕ, ◌+◌, ◌*◌, ◌≤◌}
 use native.Mathlib.Omega.{arith}
 use mathlib.Core.List.{List, [], ◌++◌}
 use mathlib.Core.Bool.{Bool, true, false}
+use Rattle.std.specs.Prelude.{Result, Ok}
+use Rattle.base.specs.declared.refusal.Refusal.{Refusal}
 use lib.ListN.{length, take, length-append}
-use lib.Dec.{leb}
 use borrow.Author.Tests.{le-leb}
 use Rattle.record.specs.Fields.{width}
 use Rattle.record.specs.Span.{body}
@@ -24,19 +25,19 @@ use Rattle.semilinear.specs.Valid.{is_semilinear}
 use Rattle.semilinear.specs.DecodeForm.{rows_of, decode_form, read_form, read_rows}
 use Rattle.base.specs.Outcome.{refused}
 use Rattle.semilinear.specs.Outcome.{form_outcome}
-use Rattle.semilinear.specs.Answers.{GivesForm}
+use Rattle.semilinear.specs.Answers.{InNumbers, in_numbers, GivesForm}
 use Rattle.semilinear.specs.PassOutcome.{limit_outcome}
-use Rattle.atom_table.specs.Table.{atom_spans, AtomsPut, Placed, Kept, Holds, Clean}
-use Rattle.atom_table.specs.Terms.{coeffs_of, coeffs_in, coeff_terms, coeff_count, TermsPut, Copied, Finished, Ends}
+use Rattle.atom_table.specs.Table.{atom_spans, AtomsPut, Placed, Holds, Clean}
+use Rattle.atom_table.specs.Terms.{coeffs_of, coeffs_in, coeff_terms, coeff_count, TermsPut, Copied, Finished}
 use Rattle.record.proofs.BytesLaws.{bytes_body}
 use Rattle.semilinear.proofs.AcceptLaws.{written}
 use Rattle.semilinear.proofs.RetiredLaws.{length_retired, records_retired}
-use Rattle.semilinear.proofs.FormLaws.{length_atoms, length_terms, term_count_le}
+use Rattle.semilinear.proofs.FormLaws.{length_atoms}
 use Rattle.atom_table.proofs.HoldsLaws.{padded_holds, at_holds}
 use Rattle.atom_table.proofs.SpansLaws.{spans_read}
 use Rattle.semilinear.proofs.OutcomeLaws.{gives_form}
 use Rattle.atom_table.proofs.PassLaws.{length_sum, gives_same}
-use Rattle.atom_table.proofs.TermsLaws.{length_coeffs_in, terms_coeffs, count_coeffs, terms_put_room}
+use Rattle.atom_table.proofs.TermsLaws.{terms_coeffs, count_coeffs, terms_put_room}
 use Rattle.semilinear.proofs.ValidLaws.{semilinear_parts}
 
 -- ---- the atoms of a form
@@ -109,12 +110,12 @@ module _ (s : List ℕ) (h : IsBytes s) (ok : is_semilinear s ≡ true) {f : Lis
 -- ---- the end
 
 module _ (w c step : ℕ) (words : List ℕ) (flag : Bool) (tab : Table) (out : List ℕ) where
-  pub finished_full : tab.full ≡ true → {n : ℕ} → n ≡ 57360 → (r : Answer) {e : List ℕ} → GivesForm (refused 9) n r e
+  pub finished_full : tab.full ≡ true → {n : ℕ} → n ≡ 57360 → (r : Result Answer Refusal) {e : List ℕ} → GivesForm (refused 9) n r e
       → Finished w tab step words c flag out r e
   unfolding limit_outcome
   finished_full full en r {e} h =
       record {
-        gives = λ l ends. gives_same (nine l (ends.past full)) 57360 r e (rw en at h);
+        gives = λ l ends. gives_same (nine l (ends.past full)) 57360 (in_numbers r) e (rw en at h);
       }
     where
       nine : (l : List Row) → fits_table l ≡ false
@@ -145,15 +146,18 @@ module _ (w c step : ℕ) (words : List ℕ) (flag : Bool) (tab : Table) (out : 
       sum_end = omega (arith, sum_fits, length_terms_put, len)
 
       abbrev answer : Answer
-      answer = record { refusal = 0; used = r.used + 16; terms = r.terms; flag = flag }
+      answer = record { used = r.used + 16; terms = r.terms; flag = flag }
+
+      abbrev numbers : InNumbers
+      numbers = record { refusal = 0; used = r.used + 16; terms = r.terms; flag = flag }
 
       pub finished_form : {e : List ℕ} → e ≡ put d r.used (sum_bytes w c)
-          → Finished w tab step words c flag out answer e
+          → Finished w tab step words c flag out (Ok answer) e
       unfolding encode_form limit_outcome
       finished_form {e} p = record { gives = λ l ends. form l (ends.holds more) (ends.clean more) (ends.coeffs more) }
         where
           form : (l : List Row) → Holds w tab out l → Clean tab out → coeffs_in step words (length l) ≡ coeffs_of l
-              → GivesForm (limit_outcome (record { bitwidth = w; constant = c; rows = l }) flag) 57360 answer e
+              → GivesForm (limit_outcome (record { bitwidth = w; constant = c; rows = l }) flag) 57360 (Ok answer) e
           form l holds clean coeffs =
               let k = holds.kept more in
               let own : Form = record { bitwidth = w; constant = c; rows = l } in
@@ -172,11 +176,11 @@ module _ (w c step : ℕ) (words : List ℕ) (flag : Bool) (tab : Table) (out : 
               omega (arith, t.place, ap length bytes, at_is, length-append atoms terms) in
               let used : r.used + 16 ≡ length ((atoms ++ terms) ++ z) =
               omega (arith, used-is, length-append (atoms ++ terms) z, length_sum w c) in
-              let given : ◌≡◌ {A = Answer} answer
+              let given : ◌≡◌ {A = InNumbers} numbers
               (record { refusal = 0; used = length ((atoms ++ terms) ++ z); terms = term_count l; flag = flag }) =
               ap₂ (λ (u n : ℕ). record { refusal = 0; used = u; terms = n; flag = flag }) used count in
-              gives_same (simp k.fits) 57360 answer e
-              (gives_form own flag 57360 answer e given
+              gives_same (simp k.fits) 57360 numbers e
+              (gives_form own flag 57360 numbers e given
               (p
               ∙ ap (λ (b : List ℕ). put b r.used z)
               (t.written

@@ -22,8 +22,8 @@ use Rattle.expr_refusal.proofs.RefusalLaws.{sized_accepted}
 use Rattle.expr.proofs.AcceptLaws.{accept_encode}
 use Rattle.atom_table.specs.declared.table.Table.{Table}
 use Rattle.semilinear.specs.Form.{head_byte, Row, new_row, new_rows, atom_bytes, atoms_bytes, tree_records, fits_table}
-use Rattle.atom_table.specs.Table.{Placed, store_of, empty_table, atom_span}
-use Rattle.atom_table.specs.Table.{Kept, Holds, Clean}
+use Rattle.atom_table.specs.Table.{store_of, empty_table, atom_span}
+use Rattle.atom_table.specs.Table.{Holds, Clean}
 use Rattle.atom_table.specs.Table.{fits_more, more_atoms, full_table, create_atom}
 use Rattle.semilinear.proofs.FormLaws.{length_atoms}
 use Rattle.atom_table.proofs.TableLaws.{fits_more_within, fits_more_parts, length_atom_span, room_atom}

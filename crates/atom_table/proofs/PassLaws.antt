@@ -12,12 +12,11 @@ use Rattle.record.specs.Fields.{width}
 use Rattle.record.specs.Tree.{record_bytes}
 use Rattle.record.specs.Span.{body}
 use Rattle.base.proofs.BoolLaws.{and_true, false_true}
-use Rattle.semilinear.specs.declared.outcome.Answer.{Answer}
 use Rattle.semilinear.specs.Form.{Form, sum_bytes}
 use Rattle.semilinear.specs.Valid.{length_refused, sum_ok, front_ok, is_semilinear}
 use Rattle.semilinear.specs.DecodeForm.{read_form}
 use Rattle.base.specs.Outcome.{Outcome, refused}
-use Rattle.semilinear.specs.Answers.{GivesForm}
+use Rattle.semilinear.specs.Answers.{InNumbers, GivesNumbers}
 use Rattle.semilinear.specs.PassOutcome.{pass_outcome}
 
 -- ---- a pass, by its refusals
@@ -52,9 +51,9 @@ unfolding is_semilinear
 semilinear_front s e = (and_true (sum_ok s) (front_ok (width s) (body s)) e).1
 
 -- an answer to one outcome is one to an equal outcome
-pub gives_same : {o p : Outcome} → p ≡ o → (len : ℕ) (r : Answer) (out : List ℕ) → GivesForm o len r out
-    → GivesForm p len r out
-gives_same e len r out h = subst (λ (x : Outcome). GivesForm x len r out) (sym e) h
+pub gives_same : {o p : Outcome} → p ≡ o → (len : ℕ) (r : InNumbers) (out : List ℕ) → GivesNumbers o len r out
+    → GivesNumbers p len r out
+gives_same e len r out h = subst (λ (x : Outcome). GivesNumbers x len r out) (sym e) h
 
 pub length_le : (s : List ℕ) → length_refused s ≡ false → length s ≤ 57360
 unfolding length_refused

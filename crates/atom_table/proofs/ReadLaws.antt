@@ -6,19 +6,22 @@ use Prim.Native.Nat.{ℕ, ◌≤◌}
 use native.Mathlib.Omega.{arith}
 use mathlib.Core.List.{List, []}
 use mathlib.Core.Bool.{Bool, true, false, not}
+use Rattle.std.specs.Prelude.{Result, Err}
+use Rattle.base.specs.Refusal.{refusal_number}
+use Rattle.base.specs.declared.refusal.Refusal.{Refusal}
+use Rattle.base.proofs.RefusalLaws.{number_not}
 use lib.ListN.{length, replicate, length-replicate}
 use lib.Dec.{eqb}
-use borrow.Author.Tests.{eq-eqb, ne_eqb, eqb-true, not-false}
+use borrow.Author.Tests.{eq-eqb, ne_eqb, eqb-true}
 use Rattle.base.specs.Choice.{when}
 use Rattle.base.specs.Put.{padded}
-use Rattle.base.proofs.BoolLaws.{false_true}
 use Rattle.base.proofs.PutLaws.{padded_nil}
 use Rattle.semilinear.specs.declared.outcome.Answer.{Answer}
 use Rattle.semilinear.specs.Form.{Form}
 use Rattle.semilinear.specs.Valid.{length_refused, is_semilinear}
 use Rattle.semilinear.specs.DecodeForm.{read_form}
 use Rattle.base.specs.Outcome.{Outcome, accepted, refused, refusal_of, numbers_of, written_of, Gives}
-use Rattle.semilinear.specs.Answers.{refused_answer, GivesForm}
+use Rattle.semilinear.specs.Answers.{in_numbers, GivesForm}
 use Rattle.semilinear.specs.PassOutcome.{read_outcome, open_outcome, pass_outcome}
 use Rattle.semilinear.proofs.OutcomeLaws.{gives_refused}
 use Rattle.atom_table.proofs.PassLaws.{length_le, gives_same}
@@ -129,27 +132,26 @@ open_zeros whole s len r out g = g.written ∙ written_open whole s len len
 
 -- ---- the entry point of a pass
 
--- let in: the bytes are a form, and the slice has its length and is all zeros
-module _ (s : List ℕ) (len : ℕ) {n : ℕ} {out : List ℕ} (door : Gives (open_outcome 57360 s len) len n [] out)
-    (z : n ≡ 0) where
+-- let in: the bytes are a form, and the slice has its length and is all zeros; what is given is given
+module _ (s : List ℕ) (len : ℕ) {out : List ℕ} (door : Gives (open_outcome 57360 s len) len 0 [] out) where
   pub pass_open : Opened 57360 s len
-  pass_open = (opened (λ f. refused 0) 57360 s len n door.number z).0
+  pass_open = (opened (λ f. refused 0) 57360 s len 0 door.number refl).0
 
   pub pass_zeros : out ≡ padded 57360 []
-  pass_zeros = open_zeros 57360 s len n out door ∙ ap (λ (k : ℕ). replicate k 0) pass_open.sliced ∙ padded_nil 57360
+  pass_zeros = open_zeros 57360 s len 0 out door ∙ ap (λ (k : ℕ). replicate k 0) pass_open.sliced ∙ padded_nil 57360
 
-module _ (given : Form → Outcome) (s : List ℕ) (len : ℕ) {n : ℕ} {out : List ℕ}
-    (door : Gives (open_outcome 57360 s len) len n [] out) where
-  -- refused at the door
-  pub pass_shut : (n ≡ 0 → ⊥) → (r : Answer) → r ≡ refused_answer n → GivesForm (pass_outcome given s len) len r out
+  pub pass_given : (given : Form → Outcome) (r : Result Answer Refusal) {out' : List ℕ}
+      → GivesForm (given (read_form s)) 57360 r out' → GivesForm (pass_outcome given s len) len r out'
   unfolding pass_outcome
-  pass_shut ne r e =
-      gives_same (shut given 57360 s len n door.number ne) len r out
-      (gives_refused n len r out e (open_zeros 57360 s len n out door))
+  pass_given given r {out'} h =
+      gives_same (opened given 57360 s len 0 door.number refl).1 len (in_numbers r) out' (rw pass_open.sliced h)
 
-  -- let in: what is given is given
-  pub pass_given : n ≡ 0 → (r : Answer) {out' : List ℕ} → GivesForm (given (read_form s)) 57360 r out'
-      → GivesForm (pass_outcome given s len) len r out'
-  unfolding pass_outcome
-  pass_given z r {out'} h =
-      gives_same (opened given 57360 s len n door.number z).1 len r out' (rw (pass_open s len door z).sliced h)
+-- refused at the door
+pub pass_shut : (given : Form → Outcome) (s : List ℕ) (len : ℕ) {out : List ℕ} {e : Refusal}
+    → Gives (open_outcome 57360 s len) len (refusal_number e) [] out → {r : Result Answer Refusal} → r ≡ Err e
+    → GivesForm (pass_outcome given s len) len r out
+unfolding pass_outcome
+pass_shut given s len {out} {e} door {r} is =
+    gives_same (shut given 57360 s len (refusal_number e) door.number (number_not e)) len (in_numbers r) out
+    (gives_refused (refusal_number e) len (in_numbers r) out (ap in_numbers is)
+    (open_zeros 57360 s len (refusal_number e) out door))

@@ -5,8 +5,7 @@ use Prim.Native.Nat.{ℕ, ◌+◌, ◌≤◌}
 use native.Mathlib.Omega.{arith}
 use mathlib.Core.List.{List, [], ◌++◌}
 use mathlib.Core.Bool.{true, false}
-use lib.ListN.{length, drop}
-use lib.Seq.{drop-drop}
+use lib.ListN.{length}
 use Rattle.base.specs.Put.{put}
 use Rattle.base.proofs.PutLaws.{length_put, put_then}
 use Rattle.record.specs.Tree.{IsBytes}
@@ -15,11 +14,13 @@ use Rattle.expr.proofs.AcceptLaws.{accept_encode}
 use Rattle.semilinear.specs.Form.{head_byte, atom_bytes, atoms_bytes}
 use Rattle.expr.specs.Hash.{structural_hash}
 use Rattle.record.specs.Span.{sized}
-use Rattle.semilinear.specs.Items.{front_number, front_word, atom_length, is_atom, tree_span, after_atom}
+use Rattle.semilinear.specs.Items.{front_word, atom_length, is_atom, tree_span, after_atom}
+use Rattle.semilinear.specs.declared.items.Atom.{Atom}
+use Rattle.semilinear.specs.Atoms.{FrontAtom}
 use Rattle.semilinear.specs.Valid.{atom_ok, atoms_ok}
 use Rattle.semilinear.specs.DecodeForm.{after_term, row_at, read_rows}
 use Rattle.semilinear.proofs.ItemsLaws.{length_tree_span, fold_atom, fold_done, atoms_ind}
-use Rattle.semilinear.proofs.ScanLaws.{Scanned, passed_none, passed_table, passed_atom, atom_inside}
+use Rattle.semilinear.proofs.ScanLaws.{Scanned, passed_none, passed_table, passed_atom, given_length, atom_inside}
 use Rattle.semilinear.proofs.ValidLaws.{atom_parts, first_atom_ok, later_atoms_ok}
 use Rattle.semilinear.proofs.AcceptLaws.{bytes_tree_span, bytes_after_atom}
 use Rattle.semilinear.proofs.RetiredLaws.{read_rows_atom, read_rows_end}
@@ -71,65 +72,54 @@ module _ (w : ℕ) where
 
 -- ---- one after the other
 
--- the atoms before the place `at`, so many with so many tree records, are put: with those from it on, all are
-pub record SpansPut (w : ℕ) (f before : List ℕ) (at count records : ℕ) (after : List ℕ) : Type 0 where
-  pub scanned : Scanned f at count records
-  pub left_ok : atoms_ok w (drop at f) ≡ true
+-- the atoms before the place `at`, so many with so many tree records, are put: with those that r has left, all are
+pub record SpansPut (w : ℕ) (f before : List ℕ) (at count records : ℕ) (after r : List ℕ) : Type 0 where
+  pub scanned : Scanned f at count records r
+  pub left_ok : atoms_ok w r ≡ true
   pub long : length after ≡ length before
-  pub all : put after at (atom_spans w (drop at f)) ≡ put before 0 (atom_spans w f)
+  pub all : put after at (atom_spans w r) ≡ put before 0 (atom_spans w f)
 
-module _ (w : ℕ) (f before : List ℕ) (ok : atoms_ok w f ≡ true) (room : length f ≤ length before) where
-  pub spans_none : SpansPut w f before 0 0 0 before
-  spans_none = record { scanned = passed_none f; left_ok = ok; long = refl; all = refl }
+module _ (w : ℕ) (f before : List ℕ) (room : length f ≤ length before) where
+  pub spans_none : atoms_ok w f ≡ true → SpansPut w f before 0 0 0 before f
+  spans_none ok = record { scanned = passed_none f; left_ok = ok; long = refl; all = refl }
 
-  module _ (at count records : ℕ) (after : List ℕ) (h : SpansPut w f before at count records after) {r : List ℕ}
-      (er : r ≡ drop at f) where
+  module _ (at count records : ℕ) (after : List ℕ) {r : List ℕ} (h : SpansPut w f before at count records after r) where
     pub spans_all : is_atom r ≡ false
         → AtomsPut w f before after (record { at = at; count = count; records = records; full = false })
-    spans_all e =
-        let end : is_atom (drop at f) ≡ false = rw er at e in
-        let none : atom_spans w (drop at f) ≡ [] = fold_done _ _ (drop at f) end in
+    spans_all end =
+        let none : atom_spans w r ≡ [] = fold_done _ _ r end in
         record {
           found = passed_table f at count records h.scanned end;
           more = refl;
           written = put_none after at ∙ ap (put after at) (sym none) ∙ h.all;
         }
 
-    module _ (e : is_atom r ≡ true) where
-      rest_ok : atoms_ok w r ≡ true
-      rest_ok = rw er h.left_ok
-
-      pub span_ready : (sized (tree_span r) ≡ true) × (front_word r ≡ structural_hash (decode (tree_span r)))
-      span_ready = atom_ready w r (first_atom_ok w r rest_ok e)
+    module _ {a : Atom} {t : List ℕ} (g : FrontAtom r a t) where
+      pub span_ready : (sized a.tree.now ≡ true) × (a.hash ≡ structural_hash (decode a.tree.now))
+      span_ready =
+          let p = atom_ready w r (first_atom_ok w r h.left_ok g.stands) in
+          (rw g.tree p.0, g.hash ∙ rw g.tree p.1)
 
       -- the end of the atom stands within both
-      pub span_inside : at + atom_length r ≤ length f
-      span_inside = atom_inside f at r er e h.scanned.inside
+      pub span_room : at + 16 + length a.tree.now ≤ length after
+      span_room = omega (arith, atom_inside f at r h.scanned.left g.stands h.scanned.inside, given_length g, h.long, room)
 
-      pub span_room : at + 16 + length (tree_span r) ≤ length after
-      unfolding atom_length
-      span_room = omega (arith, span_inside, length_tree_span r e, h.long, room)
-
-      next : after_atom r ≡ drop (at + atom_length r) f
-      unfolding after_atom
-      next = ap (drop (atom_length r)) er ∙ drop-drop (atom_length r) at f
-
-      pub spans_more : {out : List ℕ} → out ≡ put after at (atom_span w (tree_span r))
-          → SpansPut w f before (at + atom_length r) (count + 1) (records + front_number r) out
+      pub spans_more : {out : List ℕ} → out ≡ put after at (atom_span w a.tree.now)
+          → SpansPut w f before (at + (16 + length a.tree.now)) (count + 1) (records + a.size) out t
       spans_more {out} p =
-          let x : List ℕ = atom_span w (tree_span r) in
-          let n : length x ≡ atom_length r = length_span w r e in
-          let fits : at + length x ≤ length after = omega (arith, n, span_inside, h.long, room) in
-          let rest : List ℕ = atom_spans w (drop (at + atom_length r) f) in
-          let step : atom_spans w (drop at f) ≡ x ++ rest =
-          ap (atom_spans w) (sym er) ∙ fold_atom _ _ r e ∙ ap (λ (l : List ℕ). x ++ atom_spans w l) next in
+          let x : List ℕ = atom_span w a.tree.now in
+          let n : length x ≡ 16 + length a.tree.now = length_atom_span w a.tree.now in
+          let fits : at + length x ≤ length after = omega (arith, n, span_room) in
+          let rest : List ℕ = atom_spans w t in
+          let step : atom_spans w r ≡ x ++ rest =
+          fold_atom _ _ r g.stands ∙ rw (g.tree, g.rest) refl in
           record {
-            scanned = passed_atom f at r er e count records h.scanned;
-            left_ok = rw (← next) (later_atoms_ok w r rest_ok e);
+            scanned = passed_atom g f at count records h.scanned;
+            left_ok = rw g.rest (later_atoms_ok w r h.left_ok g.stands);
             long = ap length p ∙ length_put after at x fits ∙ h.long;
             all =
-                ap (λ (d : List ℕ). put d (at + atom_length r) rest) p
-                ∙ put_then after at x rest (at + atom_length r) fits (omega (arith, n))
+                ap (λ (d : List ℕ). put d (at + (16 + length a.tree.now)) rest) p
+                ∙ put_then after at x rest (at + (16 + length a.tree.now)) fits (omega (arith, n))
                 ∙ ap (put after at) (sym step)
                 ∙ h.all;
           }

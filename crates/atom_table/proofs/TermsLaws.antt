@@ -1,13 +1,13 @@
 -- Laws of the terms that are put (specs/Terms.antt): one by one they are those of the coefficients, and the coefficients
 -- of the rows give the terms of the rows.
-use mathlib.Core.Path.{◌≡◌, refl, ap, ap₂, sym, ◌∙◌}
-use Prim.Native.Nat.{ℕ, zero, suc, ◌+◌, ◌*◌, ◌≤◌, ◌<◌}
+use mathlib.Core.Path.{◌≡◌, refl, ap, sym, ◌∙◌}
+use Prim.Native.Nat.{ℕ, zero, suc, ◌+◌, ◌*◌, ◌≤◌}
 use native.Mathlib.Omega.{arith}
-use native.Mathlib.Nat.{add-zero, mul-le-mul_left}
+use native.Mathlib.Nat.{add-zero}
 use native.Mathlib.Decide.{ℕ_discrete}
 use mathlib.Core.List.{List, [], ◌∷◌, ◌++◌, append_assoc, append-nil}
 use mathlib.Core.Bool.{Bool, true, false}
-use lib.ListN.{length, get_or, take, length-append}
+use lib.ListN.{length, get_or, length-append}
 use lib.Dec.{eqb}
 use borrow.Author.Tests.{eq-eqb, ne_eqb}
 use Rattle.base.specs.Choice.{when}
@@ -187,15 +187,3 @@ module _ (w to step : ℕ) (words out : List ℕ) where
             (sym h.place)
             ∙ ap (put out to) (sym bytes);
       })
-
--- a word of n that stand `step` apart
-pub word_inside : (step i n len : ℕ) → 1 ≤ step → i < n → step * n ≤ len → step * i < len
-word_inside step i n len pos less room =
-    let more : step * (i + 1) ≤ step * n = mul-le-mul_left step (omega arith) in
-    omega (arith, more)
-
--- where the next one stands
-pub word_bound : (step i n : ℕ) → step ≤ 16 → i ≤ n → n ≤ 256 → step * i ≤ 4096
-word_bound step i n s h most =
-    let more : step * i ≤ step * 256 = mul-le-mul_left step (omega arith) in
-    omega (arith, more)

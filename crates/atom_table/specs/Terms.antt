@@ -1,7 +1,8 @@
 -- The terms of a form as they are put behind its atoms: from the coefficients of the rows, which stand in lent words;
 -- and what the begin and the end of a pass leave.
-use Rattle.std.specs.Prelude.{◌≡◌, ℕ, zero, suc, ◌+◌, ◌*◌, ◌≤◌, List, [], ◌∷◌, ◌++◌, Bool, true, false, length, get_or, eqb}
+use Rattle.std.specs.Prelude.{◌≡◌, ℕ, zero, suc, ◌+◌, ◌*◌, ◌≤◌, List, [], ◌∷◌, ◌++◌, Bool, true, false, length, get_or, eqb, Result}
 use Rattle.base.specs.Choice.{when}
+use Rattle.base.specs.declared.refusal.Refusal.{Refusal}
 use Rattle.base.specs.Put.{put}
 use Rattle.atom_table.specs.declared.table.Written.{Written}
 use Rattle.semilinear.specs.declared.outcome.Answer.{Answer}
@@ -89,7 +90,7 @@ pub record Ends (w : ℕ) (tab : Table) (step : ℕ) (words out : List ℕ) (l :
   pub past : tab.full ≡ true → fits_table l ≡ false
 
 -- for every rows that they stand for: their form, or 9 where they pass a limit
-pub record Finished (w : ℕ) (tab : Table) (step : ℕ) (words : List ℕ) (c : ℕ) (flag : Bool) (out : List ℕ) (r : Answer)
-    (out' : List ℕ) : Type 0 where
+pub record Finished (w : ℕ) (tab : Table) (step : ℕ) (words : List ℕ) (c : ℕ) (flag : Bool) (out : List ℕ)
+    (r : Result Answer Refusal) (out' : List ℕ) : Type 0 where
   pub gives : (l : List Row) → Ends w tab step words out l
       → GivesForm (limit_outcome (record { bitwidth = w; constant = c; rows = l }) flag) form_bytes r out'

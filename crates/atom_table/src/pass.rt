@@ -11,8 +11,10 @@ ghost use Rattle.base.specs.Limits.{form_bytes, record_length};
 use crate::table;
 use crate::table::{Table, Written};
 use base::limits;
+use base::refusal::Refusal;
+use semilinear::items::Atoms;
+use semilinear::outcome;
 use semilinear::outcome::Answer;
-use semilinear::{items, outcome};
 
 // Puts the atoms at the front of f into out from its start on, each with a new head.
 fn put_atoms(f: &[u8], w: u8, out: &mut [u8]) -> Table
@@ -22,20 +24,17 @@ fn put_atoms(f: &[u8], w: u8, out: &mut [u8]) -> Table
     let mut at = 0;
     let mut count: u64 = 0;
     let mut records: u64 = 0;
-    loop {
-        let r = items::rest_from(f, at);
-        if !items::is_atom(r) {
-            return Table {
-                at: at,
-                count: count,
-                records: records,
-                full: false,
-            };
-        }
-        table::put_atom(out, at, items::tree_span(r), items::front_word(r), w);
+    for atom in Atoms::of(f) {
+        table::put_atom(out, at, atom.tree, atom.hash, w);
         count += 1;
-        records += items::front_number(r);
-        at += items::atom_length(r);
+        records += atom.size;
+        at += atom.len();
+    }
+    Table {
+        at,
+        count,
+        records,
+        full: false,
     }
 }
 
@@ -70,12 +69,8 @@ fn put_terms(words: &[u64], step: usize, n: usize, w: u8, out: &mut [u8], to: us
         out.old out.new result }
 {
     let mut x = Written { used: to, terms: 0 };
-    let mut at = 0;
-    let mut i = 0;
-    while i < n {
-        x = put_row(x, i as u64, words[at], w, out);
-        at += step;
-        i += 1;
+    for i in 0..n {
+        x = put_row(x, i as u64, words[step * i], w, out);
     }
     x
 }
@@ -90,23 +85,22 @@ pub fn finish(
     w: u8,
     flag: bool,
     out: &mut [u8],
-) -> Answer
+) -> Result<Answer, Refusal>
     requires { FinishRoom tab step words.now out.old }
     ensures { Finished w tab step words.now constant flag
         out.old result out.new }
 {
     if tab.full {
-        return outcome::refuse(out, 9);
+        return outcome::refuse(out, Refusal::TooLarge);
     }
     let n = tab.count as usize;
     let at = tab.at;
     let written = put_terms(words, step, n, w, out, at);
     let used = written.used;
     table::put_sum(out, used, constant, w);
-    Answer {
-        refusal: 0,
+    Ok(Answer {
         used: (used + limits::RECORD_LENGTH) as u64,
         terms: written.terms,
-        flag: flag,
-    }
+        flag,
+    })
 }

@@ -2,42 +2,45 @@
 // a cleared slice.
 ghost use Rattle.std.specs.Prelude.{◌≡◌, [], length};
 ghost use Rattle.base.specs.Outcome.{refusal_of, Gives};
+ghost use Rattle.base.specs.Refusal.{number_of};
 ghost use Rattle.semilinear.specs.PassOutcome.{open_outcome};
 ghost use Rattle.base.specs.Limits.{column_words, form_bytes};
 
 use base::limits;
+use base::refusal::Refusal;
 use semilinear::scan;
 
-// The refusal of s beside a result slice of len elements, which must be `whole`; 0 where there is none.
-fn read_refusal(s: &[u8], len: usize, whole: usize) -> u64
-    ensures { result ≡ refusal_of (open_outcome whole s.now len) }
+// The refusal of s beside a result slice of len elements, which must be `whole`.
+fn read_refusal(s: &[u8], len: usize, whole: usize) -> Result<(), Refusal>
+    ensures { number_of result ≡ refusal_of (open_outcome whole s.now len) }
 {
     if scan::length_refused(s) {
-        return 1;
+        return Err(Refusal::Length);
     }
     if len != whole {
-        return 2;
+        return Err(Refusal::ResultLength);
     }
     if !scan::is_semilinear(s) {
-        return 10;
+        return Err(Refusal::NotSemilinear);
     }
-    0
+    Ok(())
 }
 
 // The refusal of a pass on s; all of out is zero.
-pub fn open_bytes(s: &[u8], out: &mut [u8]) -> u64
+pub fn open_bytes(s: &[u8], out: &mut [u8]) -> Result<(), Refusal>
     ensures { Gives (open_outcome form_bytes s.now (length out.old))
-        (length out.old) result [] out.new }
+        (length out.old) (number_of result) [] out.new }
 {
-    base::write::clear(out);
+    out.fill(0);
     read_refusal(s, out.len(), limits::FORM_BYTES)
 }
 
-// The refusal of the partition of s; all of out is zero.
-pub fn open_words(s: &[u8], out: &mut [u64]) -> u64
+// The refusal of the partition of s; all of out is zero. Kept beside `open_bytes`: one for both would need the zero of
+// its element, and `Gives` speaks of numbers.
+pub fn open_words(s: &[u8], out: &mut [u64]) -> Result<(), Refusal>
     ensures { Gives (open_outcome column_words s.now (length out.old))
-        (length out.old) result [] out.new }
+        (length out.old) (number_of result) [] out.new }
 {
-    base::write::clear_words(out);
+    out.fill(0);
     read_refusal(s, out.len(), limits::COLUMN_WORDS)
 }

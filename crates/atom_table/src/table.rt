@@ -10,6 +10,7 @@ ghost use Rattle.atom_table.specs.Table.{Placed, store_of, empty_table, atom_spa
 ghost use Rattle.base.specs.Limits.{record_length};
 
 use base::limits;
+use record::kinds::FormKind;
 
 // Byte 1 of every new head.
 pub const HEAD_BYTE: u8 = 4;
@@ -22,28 +23,39 @@ pub fn put_atom(out: &mut [u8], at: usize, t: &[u8], hash: u64, w: u8)
     ensures { out.new
         ≡ put out.old at (atom_span w t.now) }
 {
-    record::write::put_record(out, at, 33, HEAD_BYTE, record::size(t), w, hash);
-    base::write::put_bytes(out, at + limits::RECORD_LENGTH, t);
+    record::write::put_record(
+        out,
+        at,
+        FormKind::Head as u8,
+        HEAD_BYTE,
+        record::size(t),
+        w,
+        hash,
+    );
+    base::write::put(out, at + limits::RECORD_LENGTH, t);
 }
 
 // Puts the term of atom i with coefficient c into out from index `at` on.
+#[tactic(auto, unfolding(semilinear::specs::Form::term_bytes))]
 pub fn put_term(out: &mut [u8], at: usize, i: u64, c: u64, w: u8)
     requires { (at + record_length ≤ length out.old) × (i < 2 ^ 16) }
     ensures { out.new ≡ put out.old at (term_bytes w i c) }
 {
-    record::write::put_record(out, at, 34, 0, i, w, c);
+    record::write::put_record(out, at, FormKind::Term as u8, 0, i, w, c);
 }
 
 // Puts the sum record with the constant c into out from index `at` on.
+#[tactic(auto, unfolding(semilinear::specs::Form::sum_bytes))]
 pub fn put_sum(out: &mut [u8], at: usize, c: u64, w: u8)
     requires { at + record_length ≤ length out.old }
     ensures { out.new ≡ put out.old at (sum_bytes w c) }
 {
-    record::write::put_record(out, at, 32, 0, 0, w, c);
+    record::write::put_record(out, at, FormKind::Sum as u8, 0, 0, w, c);
 }
 
-// The bytes, atoms and tree records so far, and whether an atom more would have passed a limit.
-#[derive(Drop)]
+// The bytes, atoms and tree records so far, and whether an atom more would have passed a limit. Kept as a flag: a table
+// that is full keeps its numbers, and `store_of` reads all four.
+#[derive(Clone, Copy)]
 pub struct Table {
     pub at: usize,
     pub count: u64,
@@ -53,6 +65,7 @@ pub struct Table {
 
 impl Table {
     // A table without atoms.
+    #[tactic(auto, unfolding(crate::specs::Table::empty_table))]
     pub fn empty() -> Self
         ensures { result ≡ empty_table }
     {
@@ -76,21 +89,16 @@ impl Table {
             return self;
         }
         let size = record::size(t);
-        let count = self.count;
-        let records = self.records;
-        if count >= limits::ATOM_LIMIT_U64 {
+        if self.count >= limits::ATOM_LIMIT_U64
+            || self.records + size > limits::TREE_RECORD_LIMIT_U64
+        {
             self.full = true;
             return self;
         }
-        if records + size > limits::TREE_RECORD_LIMIT_U64 {
-            self.full = true;
-            return self;
-        }
-        let at = self.at;
-        put_atom(out, at, t, hash, w);
-        self.at = at + limits::RECORD_LENGTH + t.len();
-        self.count = count + 1;
-        self.records = records + size;
+        put_atom(out, self.at, t, hash, w);
+        self.at += limits::RECORD_LENGTH + t.len();
+        self.count += 1;
+        self.records += size;
         self
     }
 }

@@ -15,20 +15,21 @@ use Rattle.record.specs.Decode.{decode}
 use Rattle.base.proofs.ListsLaws.{eq_of_eq_list}
 use Rattle.expr.specs.Hash.{structural_hash}
 use Rattle.semilinear.specs.Form.{Row, eq_tree, atom_bytes, atoms_bytes}
-use Rattle.semilinear.specs.Items.{front_word, atom_length, is_atom, tree_span, after_atom}
+use Rattle.std.specs.Prelude.{Some, None}
+use Rattle.semilinear.specs.Items.{front_word, atom_length, is_atom, tree_span, after_atom, atom_count}
 use Rattle.semilinear.proofs.ItemsLaws.{atom_room, fold_atom, fold_done}
 use Rattle.semilinear.proofs.FrontLaws.{atom_front, word_atom, tree_span_atom, after_atom_atom}
 use Rattle.made.specs.Made.{Basis}
 use Rattle.structure_laws.specs.RecoverStructure.{row_with}
-use Rattle.bare.specs.Search.{atom_has, atom_with}
+use Rattle.bare.specs.Search.{atom_has, atom_with, IsAtomWith}
 use Rattle.bare.proofs.HashBytesLaws.{same_hash}
 
 -- ---- the test of one atom
 
 module _ (hash : ℕ) (t r : List ℕ) {v : ℕ} (e : v ≡ front_word r) where
-  pub tree_other : (v ≡ hash → ⊥) → false ≡ atom_has hash t r
+  pub tree_other : (v ≡ hash → ⊥) → eqb v hash ≡ atom_has hash t r
   unfolding atom_has
-  tree_other n = sym (simp (ne_eqb (front_word r) hash (λ z. n (e ∙ z))))
+  tree_other n = ne_eqb v hash n ∙ sym (simp (ne_eqb (front_word r) hash (λ z. n (e ∙ z))))
 
   pub tree_same : v ≡ hash → {s : List ℕ} {b : Bool} → s ≡ tree_span r → b ≡ eq_list s t → b ≡ atom_has hash t r
   unfolding atom_has
@@ -53,17 +54,26 @@ module _ (hash : ℕ) (t : List ℕ) where
     pub inside : at ≤ length f
     pub bytes : i ≤ at
     pub rest : atom_with hash t f ≡ i + atom_with hash t (drop at f)
+    pub count : atom_count f ≡ i + atom_count (drop at f)
 
   pub passed_none : (f : List ℕ) → Searched f 0 0
-  passed_none f = record { inside = omega arith; bytes = omega arith; rest = omega arith }
+  passed_none f = record { inside = omega arith; bytes = omega arith; rest = omega arith; count = omega arith }
 
   module _ (f : List ℕ) (at i : ℕ) (h : Searched f at i) {r : List ℕ} (er : r ≡ drop at f) where
-    pub passed_end : is_atom r ≡ false → i ≡ atom_with hash t f
-    passed_end e = omega (arith, h.rest, ap (atom_with hash t) er, with_none r e)
+    pub passed_end : is_atom r ≡ false → IsAtomWith hash t f None
+    passed_end e =
+        let none : atom_count r ≡ 0 = fold_done _ _ r e in
+        omega (arith, h.rest, ap (atom_with hash t) er, with_none r e, h.count, ap atom_count er, none)
 
     module _ (ea : is_atom r ≡ true) where
-      pub passed_found : atom_has hash t r ≡ true → i ≡ atom_with hash t f
-      passed_found s = omega (arith, h.rest, ap (atom_with hash t) er, with_here r ea s)
+      count_next : atom_count r ≡ 1 + atom_count (after_atom r)
+      count_next = fold_atom _ _ r ea
+
+      pub passed_found : atom_has hash t r ≡ true → IsAtomWith hash t f (Some i)
+      passed_found s = (
+        omega (arith, h.rest, ap (atom_with hash t) er, with_here r ea s),
+        omega (arith, h.count, ap atom_count er, count_next),
+      )
 
       pub atom_inside : at + atom_length r ≤ length f
       unfolding atom_length
@@ -80,6 +90,7 @@ module _ (hash : ℕ) (t : List ℕ) where
             inside = atom_inside;
             bytes = omega (arith, h.bytes);
             rest = omega (arith, h.rest, ap (atom_with hash t) er, with_next r ea s, ap (atom_with hash t) after_at);
+            count = omega (arith, h.count, ap atom_count er, count_next, ap atom_count after_at);
           }
 
 -- ---- the rows
@@ -155,6 +166,16 @@ module _ (w hash : ℕ) (b : List ℕ) (basis : Basis w hash b) (word : hash < 2
   unfolding atoms_bytes row_with
   with_rows [] i = omega (arith, with_none hash b [] none_front)
   with_rows (x ∷ l) i = with_row x l i (with_rows l (i + 1))
+
+  -- as many as the rows
+  pub count_atoms : (l : List Row) → atom_count (atoms_bytes w l) ≡ length l
+  unfolding atoms_bytes
+  count_atoms [] = fold_done _ _ [] none_front
+  count_atoms (x ∷ l) =
+      let r : List ℕ = atom_bytes w x.provenance x.tree ++ atoms_bytes w l in
+      let next : atom_count r ≡ 1 + atom_count (after_atom r) =
+      fold_atom _ _ r (atom_front w x.provenance x.tree (atoms_bytes w l)) in
+      omega (arith, next, ap atom_count (after_atom_atom w x.provenance x.tree (atoms_bytes w l)), count_atoms l)
 
   pub row_found : (l : List Row) → atom_with hash b (atoms_bytes w l) ≡ row_with w (decode b) 0 l
   row_found l = omega (arith, with_rows l 0)

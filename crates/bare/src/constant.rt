@@ -1,13 +1,14 @@
 // The constant of a form that is being made.
-ghost use Rattle.std.specs.Prelude.{◌≡◌, length, get_or, set};
+ghost use Rattle.std.specs.Prelude.{◌≡◌};
+ghost use Rattle.made.specs.Made.{with_constant};
 ghost use Rattle.arith.specs.Width.{mod_add};
 
-// Adds x to the constant among the words of the table.
-pub fn add_constant(made: &mut [u64], x: u64, w: u32)
-    requires { length made.old ≡ 6 }
+use made::Made;
+
+// Adds x to the constant beside the table.
+pub fn add_constant(made: &mut Made, x: u64, w: u32)
     ensures { made.new
-        ≡ set made.old 5 (mod_add (get_or made.old 5 0) x w) }
+        ≡ with_constant made.old (mod_add made.old.constant x w) }
 {
-    let constant = arith::mod_add(made[5], x, w);
-    made[5] = constant;
+    made.constant = arith::mod_add(made.constant, x, w);
 }

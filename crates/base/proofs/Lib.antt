@@ -5,4 +5,5 @@ pub mod ListsLaws
 pub mod LoopLaws
 pub mod PartLaws
 pub mod PutLaws
+pub mod RefusalLaws
 pub mod SearchLaws

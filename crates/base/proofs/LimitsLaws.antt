@@ -1,5 +1,5 @@
 -- Limits that follow from each other.
-use Prim.Native.Nat.{ℕ, ◌+◌, ◌*◌}
+use Prim.Native.Nat.{◌+◌, ◌*◌}
 use mathlib.Core.Path.{◌≡◌, refl}
 use Rattle.base.specs.Limits.{record_length, expr_records, expr_bytes, atom_limit, tree_record_limit, form_bytes}
 use Rattle.base.specs.Limits.{group_entries, column_words}

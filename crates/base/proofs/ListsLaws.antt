@@ -9,6 +9,7 @@ use mathlib.Core.List.{List, [], ◌∷◌}
 use mathlib.Core.Bool.{Bool, true, false, ◌&&◌}
 use lib.Dec.{eqb}
 use lib.ListN.{length, get_or, drop, drop_of_length-le}
+use lib.Pointwise.{pointwise}
 use lib.Seq.{drop-cons}
 use borrow.Author.Tests.{eqb-true, eq-eqb, ne_eqb}
 use Rattle.base.specs.Lists.{eq_list, elem, RisingFrom}
@@ -28,13 +29,13 @@ unfolding eq_list
 eq_list_self [] = refl
 eq_list_self (x ∷ l) = simp (eq-eqb x x refl, eq_list_self l)
 
-pub eq_list_lengths : (l m : List ℕ) → (length l ≡ length m → ⊥) → eq_list l m ≡ false
+-- `==` of two slices tells the same
+pub pointwise_eq_list : (l m : List ℕ) → pointwise eqb l m ≡ eq_list l m
 unfolding eq_list
-eq_list_lengths l m d = go (eq_list l m) refl
-  where
-    go : (b : Bool) → eq_list l m ≡ b → eq_list l m ≡ false
-    go true e = absurd (d (ap length (eq_of_eq_list l m e)))
-    go false e = e
+pointwise_eq_list [] [] = refl
+pointwise_eq_list [] (y ∷ m) = refl
+pointwise_eq_list (x ∷ l) [] = refl
+pointwise_eq_list (x ∷ l) (y ∷ m) = ap (λ (b : Bool). eqb x y && b) (pointwise_eq_list l m)
 
 -- past the first i elements: the next ones decide, or the rest does
 module _ (l m : List ℕ) (i : ℕ) (hl : i < length l) (hm : i < length m) where

@@ -4,10 +4,10 @@ use mathlib.Core.Path.{◌≡◌, refl, ap, sym, ◌∙◌}
 use Prim.Native.Nat.{ℕ, zero, suc, ◌+◌, ◌-◌, ◌≤◌, ◌<◌}
 use native.Mathlib.Omega.{arith}
 use native.Mathlib.Nat.{add_assoc, suc-sub-suc, sub-zero, zero-sub}
-use mathlib.Core.List.{List, [], ◌++◌, append_assoc, append-nil}
+use mathlib.Core.List.{List, [], ◌++◌, append_assoc}
 use lib.ListN.{length, get_or, take, drop, replicate, length-append, length-take, length-drop, length-replicate}
-use lib.ListN.{drop_of_length-le}
-use lib.Seq.{paste, take_at, drop_at, drop-drop, take-length, length-take-le, get_or-take, get_or-append-add}
+use borrow.Rule.Slice.PartMut.{put_mid}
+use lib.Seq.{take_at, drop_at, drop-drop, length-take-le, get_or-take, get_or-append-add}
 use Rattle.base.specs.Put.{put, padded}
 use Rattle.base.proofs.PartLaws.{part_take}
 
@@ -91,10 +91,13 @@ put_then_then d at l r x i j h e f =
     let g : at + length (l ++ r) ≡ j = omega arith in
     rw (put_then d at l r i (omega arith) e) (put_then d at (l ++ r) x j (omega arith) g)
 
--- all of a piece is copied
-pub put_all : (d : List ℕ) (at : ℕ) (s : List ℕ) → paste d at s (length s) ≡ put d at s
+-- a piece written between two places
+pub put_mid_is : {A : Type 0} (d s t : List A) (at : ℕ) → t ≡ s
+    → put_mid at (at + length s - at) d t ≡ put d at s
 unfolding put
-put_all d at s = rw take-length
+put_mid_is d s t at e =
+    let n : at + length s - at ≡ length s = omega arith in
+    rw (n, e, drop-drop (length s) at d) (sym (append_assoc (take at d) s (drop (at + length s) d)))
 
 -- ---- zeros behind
 
@@ -134,11 +137,3 @@ put_padded len b x = rw (take_padded len b, drop_padded len b (length x), length
 -- the same, with its place as the code has it
 pub put_padded_at : (len : ℕ) (b x : List ℕ) (i : ℕ) → i ≡ length b → put (padded len b) i x ≡ padded len (b ++ x)
 put_padded_at len b x i e = rw e (put_padded len b x)
-
--- zeros put one by one: where i has reached the end, all of it is zero
-pub filled : (d out : List ℕ) (i : ℕ) → i ≤ length d → length out ≡ length d → out ≡ replicate i 0 ++ drop i d
-    → length out ≤ i → out ≡ replicate (length d) 0
-filled d out i le len e past =
-    let at : i ≡ length d = omega arith in
-    let end : length d ≤ i = omega arith in
-    e ∙ rw (drop_of_length-le d end, append-nil, at)

@@ -5,3 +5,4 @@ pub mod Lists
 pub mod Loop
 pub mod Outcome
 pub mod Put
+pub mod Refusal

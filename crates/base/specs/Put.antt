@@ -2,7 +2,7 @@
 use Rattle.std.specs.Prelude.{ℕ, ◌+◌, ◌-◌, List, ◌++◌, length, take, drop, replicate}
 
 -- d with s in place of what stands from index `at` on
-unfoldable pub put : List ℕ → ℕ → List ℕ → List ℕ
+unfoldable pub put : {A : Type 0} → List A → ℕ → List A → List A
 put d at s = take at d ++ s ++ drop (at + length s) d
 
 -- l at the start of len elements, zeros behind

@@ -4,8 +4,9 @@ use mathlib.Core.Path.{◌≡◌, refl, sym, subst, ◌∙◌}
 use Prim.Native.Nat.{ℕ, zero, suc, ◌+◌, ◌-◌, ◌≤◌, ◌<◌}
 use native.Mathlib.Omega.{arith}
 use native.Mathlib.Decide.{ℕ_discrete, dec_lt}
-use mathlib.Core.Bool.{Bool, true, false, not, ◌&&◌}
+use mathlib.Core.Bool.{Bool, true, false, ◌&&◌}
 use mathlib.Core.List.{List}
+use Rattle.std.specs.Prelude.{Option, Some, None}
 use lib.Dec.{eqb}
 use lib.IntN.{ℤ, pos}
 use lib.Signed.{lt_z, ◌<ℤ◌, ◌≤ℤ◌, ≤ℤ_refl, <ℤ-≤ℤ_trans}
@@ -25,55 +26,49 @@ use Rattle.best_week.proofs.WeekLaws.{lower_not, weaken, second_of}
 
 -- ---- the week that is taken, by the ways of the code
 
-module _ (x : Best) (a : ℕ) (t : ℤ) where
-  abbrev pub new : Best
-  new = record { found = true; at = a; total = t }
+module _ (a : ℕ) (t : ℤ) where
+  abbrev pub new : Option Best
+  new = Some (record { at = a; total = t })
 
-  pub take_first : x.found ≡ false → new ≡ take_week x a t
+  pub take_first : new ≡ take_week None a t
   unfolding take_week
-  take_first e = simp e
+  take_first = refl
 
-  pub take_lower : x.found ≡ true → lt_z t x.total ≡ true → new ≡ take_week x a t
+  pub take_lower : (x : Best) → lt_z t x.total ≡ true → new ≡ take_week (Some x) a t
   unfolding take_week
-  take_lower e f = simp (e, f)
+  take_lower x f = simp f
 
-  pub take_none : x.found ≡ true → lt_z t x.total ≡ false → x ≡ take_week x a t
+  pub take_none : (x : Best) → lt_z t x.total ≡ false → Some x ≡ take_week (Some x) a t
   unfolding take_week
-  take_none e f = simp (e, f)
+  take_none x f = simp f
 
 module _ (s : List ℕ) where
   -- ---- the walk
 
   -- too few records for a week
-  pub best_start : (i : ℕ) (x : Best) → i < week_days → x.found ≡ false → BestUpTo s i x
-  best_start i x l e =
-      record {
-        none = λ _ j u. absurd (omega arith);
-        best = λ t. false_true (sym e ∙ t);
-        sum = λ t. false_true (sym e ∙ t);
-      }
+  pub best_start : (i : ℕ) → i < week_days → BestUpTo s i None
+  best_start i l j u = absurd (omega arith)
 
-  module _ (i : ℕ) (x : Best) (up : BestUpTo s i x) where
+  module _ (i : ℕ) where
     -- no week ends with the record that is read
-    pub best_kept : ((j : ℕ) → j + week_days ≡ i + 1 → is_week s j ≡ false) → BestUpTo s (i + 1) x
-    best_kept h =
-        record {
-          none = λ e j l. none e j l (ℕ_discrete (j + week_days) (i + 1));
-          best = λ e.
-              let b = up.best e in
-              record {
-                week = b.week;
-                inside = omega (arith, b.inside);
-                lowest = λ j l w. lowest b.lowest j l w (ℕ_discrete (j + week_days) (i + 1));
-                earliest = b.earliest;
-              };
-          sum = up.sum;
-        }
+    pub best_kept : (x : Option Best) → BestUpTo s i x → ((j : ℕ) → j + week_days ≡ i + 1 → is_week s j ≡ false)
+        → BestUpTo s (i + 1) x
+    best_kept None up h = λ j l. none j l (ℕ_discrete (j + week_days) (i + 1))
       where
-        none : x.found ≡ false → (j : ℕ) → j + week_days ≤ i + 1 → Dec (j + week_days ≡ i + 1) → is_week s j ≡ false
-        none e j l (yes q) = h j q
-        none e j l (no q) = up.none e j (omega arith)
-
+        none : (j : ℕ) → j + week_days ≤ i + 1 → Dec (j + week_days ≡ i + 1) → is_week s j ≡ false
+        none j l (yes q) = h j q
+        none j l (no q) = up j (omega arith)
+    best_kept (Some x) up h =
+        let b : IsBest s i x.at = up.0 in (
+          record {
+            week = b.week;
+            inside = omega (arith, b.inside);
+            lowest = λ j l w. lowest b.lowest j l w (ℕ_discrete (j + week_days) (i + 1));
+            earliest = b.earliest;
+          },
+          up.1,
+        )
+      where
         lowest : ((j : ℕ) → j + week_days ≤ i → is_week s j ≡ true → week_total s x.at ≤ℤ week_total s j)
             → (j : ℕ) → j + week_days ≤ i + 1 → is_week s j ≡ true → Dec (j + week_days ≡ i + 1)
             → week_total s x.at ≤ℤ week_total s j
@@ -97,8 +92,8 @@ module _ (s : List ℕ) where
           lowest j l v (no q) = weaken (h j (omega arith) v)
 
       -- not lower than the best before: that one stays
-      stayed : IsBest s i x.at → week_total s x.at ≤ℤ week_total s a → IsBest s (i + 1) x.at
-      stayed b h =
+      stayed : (x : Best) → IsBest s i x.at → week_total s x.at ≤ℤ week_total s a → IsBest s (i + 1) x.at
+      stayed x b h =
           record {
             week = b.week;
             inside = omega (arith, b.inside);
@@ -111,40 +106,27 @@ module _ (s : List ℕ) where
           lowest j l v (yes q) = subst (λ (k : ℕ). week_total s x.at ≤ℤ week_total s k) (sym q) h
           lowest j l v (no q) = b.lowest j (omega arith) v
 
-      pub best_taken : BestUpTo s (i + 1) (take_week x a t)
+      pub best_taken : (x : Option Best) → BestUpTo s i x → BestUpTo s (i + 1) (take_week x a t)
       unfolding take_week
-      best_taken = go x.found refl (lt_z t x.total) refl
+      best_taken None up = (taken (λ j l v. false_true (sym (up j l) ∙ v)), e)
+      best_taken (Some x) up = go (lt_z t x.total) refl
         where
-          new : IsBest s (i + 1) a → BestUpTo s (i + 1) (record { found = true; at = a; total = t })
-          new b =
-              record {
-                none = λ f. false_true (sym f);
-                best = λ _. b;
-                sum = λ _. e;
-              }
-
-          go : (f : Bool) → x.found ≡ f → (b : Bool) → lt_z t x.total ≡ b
-              → BestUpTo s (i + 1)
-              (when (f && not b) (λ _. x) (λ _. record { found = true; at = a; total = t }))
-          go false p b q = new (taken (λ j l v. false_true (sym (up.none p j l) ∙ v)))
-          go true p true q =
+          go : (b : Bool) → lt_z t x.total ≡ b
+              → BestUpTo s (i + 1) (when b (λ _. Some (record { at = a; total = t })) (λ _. Some x))
+          go true q =
               let h : t <ℤ x.total = lower_true q in
               let k : week_total s a <ℤ week_total s x.at =
-              subst (λ (z : ℤ). z <ℤ week_total s x.at) e (subst (λ (z : ℤ). t <ℤ z) (up.sum p) h) in
-              new (taken (λ j l v. <ℤ-≤ℤ_trans k ((up.best p).lowest j l v)))
-          go true p false q =
+              subst (λ (z : ℤ). z <ℤ week_total s x.at) e (subst (λ (z : ℤ). t <ℤ z) up.1 h) in
+              (taken (λ j l v. <ℤ-≤ℤ_trans k (up.0.lowest j l v)), e)
+          go false q =
               let h : x.total ≤ℤ t = lower_false q in
               let k : week_total s x.at ≤ℤ week_total s a =
-              subst (λ (z : ℤ). z ≤ℤ week_total s a) (up.sum p) (subst (λ (z : ℤ). x.total ≤ℤ z) e h) in
-              record {
-                none = λ f. false_true (sym f ∙ p);
-                best = λ _. stayed (up.best p) k;
-                sum = up.sum;
-              }
+              subst (λ (z : ℤ). z ≤ℤ week_total s a) up.1 (subst (λ (z : ℤ). x.total ≤ℤ z) e h) in
+              (stayed x up.0 k, up.1)
 
   -- the records are all read
-  pub best_all : {i n : ℕ} {x : Best} → BestUpTo s i x → i ≤ n → n ≤ i → BestUpTo s n x
-  best_all {i} {n} {x} u a b = let e : i ≡ n = omega arith in subst (λ (k : ℕ). BestUpTo s k x) e u
+  pub best_all : {i n : ℕ} (x : Option Best) → BestUpTo s i x → i ≤ n → n ≤ i → BestUpTo s n x
+  best_all {i} {n} x u a b = let e : i ≡ n = omega arith in subst (λ (k : ℕ). BestUpTo s k x) e u
 
   -- ---- the definition
 
@@ -185,22 +167,22 @@ module _ (s : List ℕ) where
       go j false e = simp e
 
   -- the first i records have a best week, or none
-  pub any_best : (i : ℕ) → (x : Best) × BestUpTo s i x
-  any_best zero = (record { found = false; at = 0; total = pos 0 }, best_start 0 _ (omega arith) refl)
+  pub any_best : (i : ℕ) → (x : Option Best) × BestUpTo s i x
+  any_best zero = (None, best_start 0 (omega arith))
   any_best (suc i) = go (any_best i) (dec_lt (i + 1) week_days) (is_week s (i + 1 - week_days)) refl
     where
       same : i + 1 ≡ suc i
       same = omega arith
 
-      more : (x : Best) → BestUpTo s (i + 1) x → (x : Best) × BestUpTo s (suc i) x
+      more : (x : Option Best) → BestUpTo s (i + 1) x → (x : Option Best) × BestUpTo s (suc i) x
       more x u = (x, subst (λ (k : ℕ). BestUpTo s k x) same u)
 
-      go : ((x : Best) × BestUpTo s i x) → Dec (i + 1 < week_days) → (w : Bool) → is_week s (i + 1 - week_days) ≡ w
-          → (x : Best) × BestUpTo s (suc i) x
+      go : ((x : Option Best) × BestUpTo s i x) → Dec (i + 1 < week_days) → (w : Bool)
+          → is_week s (i + 1 - week_days) ≡ w → (x : Option Best) × BestUpTo s (suc i) x
       go (x, u) (yes l) w e = more x (best_kept i x u (λ j q. absurd (omega arith)))
       go (x, u) (no l) true e =
           more (take_week x (i + 1 - week_days) (week_total s (i + 1 - week_days)))
-          (best_taken i x u (i + 1 - week_days) (omega arith) e refl)
+          (best_taken i (i + 1 - week_days) (omega arith) e refl x u)
       go (x, u) (no l) false e =
           more x
           (best_kept i x u
@@ -210,28 +192,20 @@ module _ (s : List ℕ) where
   pub best_is : best_at s < records s → IsBest s (records s) (best_at s)
   best_is l = go (any_best (records s))
     where
-      cases : (x : Best) → BestUpTo s (records s) x → (f : Bool) → x.found ≡ f → IsBest s (records s) (best_at s)
-      cases x u true e =
-          let b = u.best e in subst (IsBest s (records s)) (sym (best_at_lem x.at b)) b
-      cases x u false e = absurd (omega (arith, best_at_none (u.none e)))
-
-      go : ((x : Best) × BestUpTo s (records s) x) → IsBest s (records s) (best_at s)
-      go (x, u) = cases x u x.found refl
+      go : ((x : Option Best) × BestUpTo s (records s) x) → IsBest s (records s) (best_at s)
+      go (Some x, u) = subst (IsBest s (records s)) (sym (best_at_lem x.at u.0)) u.0
+      go (None, u) = absurd (omega (arith, best_at_none u))
 
   pub best_none : records s ≤ best_at s → (j : ℕ) → is_week s j ≡ false
   best_none l j = go (any_best (records s))
     where
-      week : (w : Bool) → is_week s j ≡ w → (x : Best) → BestUpTo s (records s) x → x.found ≡ false → is_week s j ≡ false
-      week true e x u f = u.none f j (week_inside s j e)
-      week false e x u f = e
+      week : (w : Bool) → is_week s j ≡ w → BestUpTo s (records s) None → is_week s j ≡ false
+      week true e u = u j (week_inside s j e)
+      week false e u = e
 
-      cases : (x : Best) → BestUpTo s (records s) x → (f : Bool) → x.found ≡ f → is_week s j ≡ false
-      cases x u true e =
-          let b = u.best e in absurd (omega (arith, best_at_lem x.at b, b.inside))
-      cases x u false e = week (is_week s j) refl x u e
-
-      go : ((x : Best) × BestUpTo s (records s) x) → is_week s j ≡ false
-      go (x, u) = cases x u x.found refl
+      go : ((x : Option Best) × BestUpTo s (records s) x) → is_week s j ≡ false
+      go (Some x, u) = absurd (omega (arith, best_at_lem x.at u.0, u.0.inside))
+      go (None, u) = week (is_week s j) refl u
 
   -- ---- the numbers that are returned
 

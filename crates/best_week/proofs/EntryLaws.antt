@@ -4,50 +4,53 @@ use Prim.Native.Nat.{ℕ}
 use native.Mathlib.Omega.{arith}
 use mathlib.Core.Bool.{Bool, true, false}
 use mathlib.Core.List.{List}
+use Rattle.std.specs.Prelude.{Option, Some, None, Result, Err}
 use lib.IntN.{ℤ, pos}
 use Rattle.base.specs.Outcome.{flag_number}
+use Rattle.base.specs.Refusal.{refusal_number, number_of}
+use Rattle.base.specs.declared.refusal.Refusal.{Refusal}
+use Rattle.base.proofs.RefusalLaws.{number_not}
 use Rattle.best_week.specs.Run.{records, day, run_refusal}
 use Rattle.best_week.specs.BestWeek.{is_week, week_total, has_week, best_at, IsBestWeek}
 use Rattle.best_week.specs.Told.{IsBest, Told}
 use Rattle.best_week.specs.Walk.{BestUpTo}
+use Rattle.best_week.specs.Answer.{found_of, total_of, day_of}
+use Rattle.best_week.specs.declared.Week.{Week}
 use Rattle.best_week.specs.declared.best.Best.{Best}
 use Rattle.best_week.proofs.BestLaws.{best_at_lem, best_at_none, week_found, total_found, total_none}
 use Rattle.best_week.proofs.BestLaws.{week_missing, week_refused, day_found, day_none, best_is, best_none, best_inside, no_best}
 
-module _ (s : List ℕ) {refusal found first : ℕ} {total : ℤ} where
+module _ (s : List ℕ) where
   -- a refusal, or 0, with zeros beside it
-  without : {k : ℕ} → k ≡ run_refusal s → has_week s ≡ false
-      → (refusal ≡ k) × (found ≡ 0) × (total ≡ pos 0) × (first ≡ 0) → IsBestWeek s refusal found total first
-  without e h z =
+  without : {refusal : ℕ} → refusal ≡ run_refusal s → has_week s ≡ false → IsBestWeek s refusal 0 (pos 0) 0
+  without e h =
       record {
-        number = z.0 ∙ e;
-        flag = z.1 ∙ sym (ap flag_number h);
-        sum = z.2 ∙ sym (total_none s h);
-        start = z.3 ∙ sym (day_none s h);
+        number = e;
+        flag = sym (ap flag_number h);
+        sum = sym (total_none s h);
+        start = sym (day_none s h);
       }
 
-  pub gives_refused : {k : ℕ} → k ≡ run_refusal s → (k ≡ 0 → ⊥)
-      → (refusal ≡ k) × (found ≡ 0) × (total ≡ pos 0) × (first ≡ 0) → IsBestWeek s refusal found total first
-  gives_refused e h = without e (week_refused s (λ z. h (e ∙ z)))
+  pub gives_refused : (r : Refusal) → refusal_number r ≡ run_refusal s → {x : Result (Option Week) Refusal} → x ≡ Err r
+      → IsBestWeek s (number_of x) (found_of x) (total_of x) (day_of x)
+  gives_refused r e is = rw is (without e (week_refused s (λ z. number_not r (e ∙ z))))
 
-  pub gives_none : {k n : ℕ} {x : Best} → k ≡ run_refusal s → k ≡ 0 → n ≡ records s → BestUpTo s n x → x.found ≡ false
-      → (refusal ≡ 0) × (found ≡ 0) × (total ≡ pos 0) × (first ≡ 0) → IsBestWeek s refusal found total first
-  gives_none {x = x} e z c up f =
-      without (sym z ∙ e)
-      (week_missing s (best_at_none s ((subst (λ (k : ℕ). BestUpTo s k x) c up).none f)))
+  pub gives_none : {n : ℕ} → 0 ≡ run_refusal s → n ≡ records s → BestUpTo s n None → IsBestWeek s 0 0 (pos 0) 0
+  gives_none e c up =
+      without e (week_missing s (best_at_none s (subst (λ (k : ℕ). BestUpTo s k None) c up)))
 
-pub gives_week : (s : List ℕ) {k n first : ℕ} {total : ℤ} {x : Best} → k ≡ run_refusal s → k ≡ 0 → n ≡ records s
-    → BestUpTo s n x → x.found ≡ true → total ≡ x.total → first ≡ day s x.at → IsBestWeek s 0 1 total first
-gives_week s {x = x} e z c up f t d =
-    let b : IsBest s (records s) x.at = (subst (λ (k : ℕ). BestUpTo s k x) c up).best f in
-    let a : best_at s ≡ x.at = best_at_lem s x.at b in
-    let h : has_week s ≡ true = week_found s (sym e ∙ z) (omega (arith, b.inside)) in
-    record {
-      number = sym z ∙ e;
-      flag = sym (ap flag_number h);
-      sum = t ∙ up.sum f ∙ ap (week_total s) (sym a) ∙ sym (total_found s h);
-      start = d ∙ ap (day s) (sym a) ∙ sym (day_found s h);
-    }
+  pub gives_week : {n first : ℕ} {total : ℤ} (x : Best) → 0 ≡ run_refusal s → n ≡ records s → BestUpTo s n (Some x)
+      → total ≡ x.total → first ≡ day s x.at → IsBestWeek s 0 1 total first
+  gives_week x e c up t d =
+      let b : IsBest s (records s) x.at = (subst (λ (k : ℕ). BestUpTo s k (Some x)) c up).0 in
+      let a : best_at s ≡ x.at = best_at_lem s x.at b in
+      let h : has_week s ≡ true = week_found s (sym e) (omega (arith, b.inside)) in
+      record {
+        number = e;
+        flag = sym (ap flag_number h);
+        sum = t ∙ up.1 ∙ ap (week_total s) (sym a) ∙ sym (total_found s h);
+        start = d ∙ ap (day s) (sym a) ∙ sym (day_found s h);
+      }
 
 -- ---- what a caller is told
 

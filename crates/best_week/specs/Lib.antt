@@ -3,4 +3,5 @@ pub mod Run
 pub mod BestWeek
 pub mod Told
 pub mod Walk
+pub mod Answer
 pub mod Examples

@@ -1,5 +1,5 @@
 -- The walk over the records of a run: what holds after the first i of them.
-use Rattle.std.specs.Prelude.{◌≡◌, ℕ, ◌+◌, ◌-◌, ◌*◌, ◌<◌, ◌≤◌, List, true, false, not, ◌&&◌, length, ℤ}
+use Rattle.std.specs.Prelude.{◌≡◌, ℕ, ◌+◌, ◌-◌, ◌*◌, ◌<◌, ◌≤◌, List, true, false, length, ℤ, Option, Some, None}
 use Rattle.std.specs.Int.Signed.{lt_z}
 use Rattle.base.specs.Choice.{when}
 use Rattle.base.specs.Limits.{record_length}
@@ -21,13 +21,12 @@ pub record StreakAt (s : List ℕ) (i : ℕ) (x : Streak) : Type 0 where
   pub broken : x.days < week_days → x.days < i → follows s (i - x.days) ≡ false
   pub sum : x.total ≡ total_of s (i - x.days) x.days
 
--- x is of the best week within the first i records, or says that there is none
-pub record BestUpTo (s : List ℕ) (i : ℕ) (x : Best) : Type 0 where
-  pub none : x.found ≡ false → (j : ℕ) → j + week_days ≤ i → is_week s j ≡ false
-  pub best : x.found ≡ true → IsBest s i x.at
-  pub sum : x.found ≡ true → x.total ≡ week_total s x.at
+-- x is of the best week within the first i records, or there is none
+abbrev pub BestUpTo : List ℕ → ℕ → Option Best → Type 0
+BestUpTo s i None = (j : ℕ) → j + week_days ≤ i → is_week s j ≡ false
+BestUpTo s i (Some x) = IsBest s i x.at × (x.total ≡ week_total s x.at)
 
--- x, or the week from a on with total t, where x has none or t is lower
-unfoldable pub take_week : Best → ℕ → ℤ → Best
-take_week x a t =
-    when (x.found && not (lt_z t x.total)) (λ _. x) (λ _. record { found = true; at = a; total = t })
+-- x, or the week from a on with total t, where there is no x or t is lower
+unfoldable pub take_week : Option Best → ℕ → ℤ → Option Best
+take_week None a t = Some (record { at = a; total = t })
+take_week (Some x) a t = when (lt_z t x.total) (λ _. Some (record { at = a; total = t })) (λ _. Some x)

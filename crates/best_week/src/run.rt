@@ -2,22 +2,18 @@
 ghost use Rattle.std.specs.Prelude.{◌≡◌, ◌+◌, ◌*◌, ◌^◌, ◌<◌, ◌≤◌, length};
 ghost use Rattle.base.specs.Limits.{record_length};
 ghost use Rattle.base.specs.Loop.{first_in};
+ghost use Rattle.base.specs.Refusal.{number_of};
 ghost use Rattle.best_week.specs.Run.{day, par, moves, rest, filled, falls, run_refusal};
 ghost use Rattle.best_week.specs.BestWeek.{over_par};
 ghost use Rattle.best_week.specs.Walk.{Inside};
 
 use base::limits;
+use base::refusal::Refusal;
 
 // The records of the longest run, and its bytes.
 const RUN_RECORDS: usize = 4096;
 
 const RUN_BYTES: usize = RUN_RECORDS * limits::RECORD_LENGTH;
-
-// A run that is no whole records, too long, or has a non-zero byte that must be 0.
-const MALFORMED_RUN: u64 = 20;
-
-// A day that is not above the one before.
-const DAYS_NOT_RISING: u64 = 21;
 
 // The day of record i.
 pub fn day(run: &[u8], i: usize) -> u64
@@ -66,14 +62,12 @@ fn first_filled(run: &[u8], n: usize) -> usize
     requires { record_length * n ≤ length run.now }
     ensures { result ≡ first_in (filled run.now) 0 n }
 {
-    let mut i = 0;
-    while i < n {
+    for i in 0..n {
         if rest(run, i) != 0 {
             return i;
         }
-        i += 1;
     }
-    i
+    n
 }
 
 // The first of n records, from the second on, whose day is not above the one before; n or more where there is none.
@@ -81,33 +75,32 @@ fn first_fall(run: &[u8], n: usize) -> usize
     requires { record_length * n ≤ length run.now }
     ensures { result ≡ first_in (falls run.now) 1 n }
 {
-    let mut i = 1;
-    while i < n {
+    for i in 1..n {
         if day(run, i) <= day(run, i - 1) {
             return i;
         }
-        i += 1;
     }
-    i
+    n.max(1)
 }
 
-// The refusal of a run, 0 where it is accepted.
-pub fn run_refusal(run: &[u8]) -> u64
-    ensures { result ≡ run_refusal run.now }
+// Whether a run is accepted: else it is no whole records, too long, or has a non-zero byte that must be 0; or a day is
+// not above the one before.
+pub fn run_refusal(run: &[u8]) -> Result<(), Refusal>
+    ensures { number_of result ≡ run_refusal run.now }
 {
     let len = run.len();
     if RUN_BYTES < len {
-        return MALFORMED_RUN;
+        return Err(Refusal::Run);
     }
     if record::odd_bytes(len) != 0 {
-        return MALFORMED_RUN;
+        return Err(Refusal::Run);
     }
     let n = record::number_of(len);
     if first_filled(run, n) < n {
-        return MALFORMED_RUN;
+        return Err(Refusal::Run);
     }
     if first_fall(run, n) < n {
-        return DAYS_NOT_RISING;
+        return Err(Refusal::Days);
     }
-    0
+    Ok(())
 }

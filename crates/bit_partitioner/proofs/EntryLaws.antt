@@ -6,6 +6,10 @@ use native.Mathlib.Omega.{arith}
 use mathlib.Core.List.{List, [], ◌∷◌}
 use mathlib.Core.Bool.{true}
 use lib.ListN.{length, get_or, take, replicate}
+use Rattle.std.specs.Prelude.{Result, Err}
+use Rattle.base.specs.declared.refusal.Refusal.{Refusal}
+use Rattle.base.specs.Refusal.{refusal_number, number_of, value_of}
+use Rattle.base.proofs.RefusalLaws.{number_not}
 use Rattle.base.specs.Put.{padded}
 use Rattle.record.specs.Tree.{IsBytes}
 use Rattle.record.specs.Fields.{width}
@@ -87,34 +91,35 @@ module _ (s : List ℕ) where
 
 -- ---- the call
 
-module _ (s : List ℕ) (len : ℕ) {n : ℕ} {out : List ℕ} (door : Gives (open_outcome 16448 s len) len n [] out) where
-  -- refused at the front door
-  pub call_shut : (n ≡ 0 → ⊥) → Gives (compute_partitions s len) len n (0 ∷ []) out
-  unfolding compute_partitions refusal_of numbers_of written_of
-  call_shut ne =
-      rw (shut partitions_outcome 16448 s len n door.number ne)
-      record { number = refl; beside = refl; written = open_zeros 16448 s len n out door }
+-- refused at the front door
+pub call_shut : (s : List ℕ) (len : ℕ) {e : Refusal} {out : List ℕ}
+    → Gives (open_outcome 16448 s len) len (refusal_number e) [] out → {r : Result ℕ Refusal} → r ≡ Err e
+    → Gives (compute_partitions s len) len (number_of r) (value_of r ∷ []) out
+unfolding compute_partitions refusal_of numbers_of written_of
+call_shut s len {e} {out} door is =
+    rw (is, shut partitions_outcome 16448 s len (refusal_number e) door.number (number_not e))
+    record { number = refl; beside = refl; written = open_zeros 16448 s len (refusal_number e) out door }
 
-  module _ (z : n ≡ 0) where
-    pub call_open : Opened 16448 s len
-    call_open = (opened partitions_outcome 16448 s len n door.number z).0
+module _ (s : List ℕ) (len : ℕ) {out : List ℕ} (door : Gives (open_outcome 16448 s len) len 0 [] out) where
+  pub call_open : Opened 16448 s len
+  call_open = (opened partitions_outcome 16448 s len 0 door.number refl).0
 
-    pub call_zeros : out ≡ padded 16448 []
-    call_zeros =
-        open_zeros 16448 s len n out door
-        ∙ ap (λ (k : ℕ). replicate k 0) call_open.sliced
-        ∙ padded_nil 16448
+  pub call_zeros : out ≡ padded 16448 []
+  call_zeros =
+      open_zeros 16448 s len 0 out door
+      ∙ ap (λ (k : ℕ). replicate k 0) call_open.sliced
+      ∙ padded_nil 16448
 
-    -- let in: the classes of the form
-    pub call_given : {after : List ℕ} {r : ℕ} → FormPlaced s after r
-        → Gives (compute_partitions s len) len 0 (r ∷ []) after
-    unfolding compute_partitions partitions_outcome refusal_of numbers_of written_of
-    call_given {after} {r} h =
-        rw (
-          (opened partitions_outcome 16448 s len n door.number z).1 ∙ partitions_retired (decode_form s),
-          call_open.sliced,
-        )
-        record { number = refl; beside = ap (λ (k : ℕ). k ∷ []) h.number; written = h.words }
+  -- let in: the classes of the form
+  pub call_given : {after : List ℕ} {r : ℕ} → FormPlaced s after r
+      → Gives (compute_partitions s len) len 0 (r ∷ []) after
+  unfolding compute_partitions partitions_outcome refusal_of numbers_of written_of
+  call_given {after} {r} h =
+      rw (
+        (opened partitions_outcome 16448 s len 0 door.number refl).1 ∙ partitions_retired (decode_form s),
+        call_open.sliced,
+      )
+      record { number = refl; beside = ap (λ (k : ℕ). k ∷ []) h.number; written = h.words }
 
 -- ---- what the words say
 

@@ -25,6 +25,7 @@ use Rattle.profile.specs.Profile.{moved_word, WordsMoved}
 use Rattle.bit_partitioner.specs.Places.{form_rows, PlacesJoined, PlacedNext, AllPlaced}
 use Rattle.partition_laws.proofs.PartitionLaws.{classes_length}
 use Rattle.partition_laws.proofs.ProfileLaws.{profile_length, profile_at}
+use Rattle.profile.specs.declared.index.AtomFacts.{AtomFacts}
 use Rattle.profile.proofs.EdgesLaws.{word_still, edge_start}
 use Rattle.classes.proofs.ClassWordsLaws.{class_inside, length_add_place, join_number, number_lt}
 use Rattle.classes.proofs.JoinLaws.{classes_old}
@@ -45,7 +46,7 @@ module _ (f : List ℕ) (w : ℕ) where
       profile_at w p 0 (form_rows f) i (omega (arith, rows_length f (after_atoms f)))
       ∙ ap₂ (profile_word w p) (zero-add i) (rows_tree f (after_atoms f) i)
 
-  module _ (index : List ℕ) (r : IndexReadable f index) (hw : w ≤ 64) where
+  module _ (index : List AtomFacts) (r : IndexReadable f index) (hw : w ≤ 64) where
     -- no edge at p + 1: the word is that of p
     same_word : (p i : ℕ) → suc p < w → i < length (atom_trees f) → bit_at (atom_edges (tree_of f i)) (suc p) ≡ 0
         → profile_word w p i (tree_of f i) ≡ profile_word w (suc p) i (tree_of f i)
@@ -74,7 +75,7 @@ module _ (f : List ℕ) (w : ℕ) where
             ∙ same_word p i hp h (omega (arith, bit_lt (atom_edges (tree_of f i)) (suc p)))
 
   -- no atom has an edge at p + 1: the profile is that of p
-  pub profile_still : (index : List ℕ) (edges : ℕ) → AtomsIndexed f index edges → w ≤ 64 → (p : ℕ) → suc p < w
+  pub profile_still : (index : List AtomFacts) (edges : ℕ) → AtomsIndexed f index edges → w ≤ 64 → (p : ℕ) → suc p < w
       → bit_at edges (suc p) ≡ 0 → profile_of p ≡ profile_of (suc p)
   profile_still index edges x hw p hp z =
       ext_get_or 0 (profile_of p) (profile_of (suc p)) (length_profile p ∙ sym (length_profile (suc p)))
@@ -100,12 +101,12 @@ last_class w rows q (suc p) l e =
     let z : suc p - 1 ≡ p = omega arith in
     rw (e ∙ ap (λ (k : ℕ). profile_from w k 0 rows) z) (number_lt (profile_from w p 0 rows) p (classes_f p w rows))
 
-module _ (f : List ℕ) (w : ℕ) (x : Places) (before out : List ℕ) (h : PlacesJoined f w x before out) where
+module _ (f : List ℕ) (w : ℕ) (x : Places) (p : ℕ) (before out : List ℕ) (h : PlacesJoined f w x p before out) where
   -- there are at most as many classes as places, so that there is room for one more
-  pub count_place : x.count ≤ x.place
-  count_place = omega (arith, h.classes.count, classes_length w (form_rows f) x.place)
+  pub count_place : x.count ≤ p
+  count_place = omega (arith, h.classes.count, classes_length w (form_rows f) p)
 
-  pub room_next : x.place < 64 → 64 * (length before + 1) ≤ length out
+  pub room_next : p < 64 → 64 * (length before + 1) ≤ length out
       → (x.count + 1) * (length before + 1) ≤ length out
   room_next l room =
       let m : (x.count + 1) * (length before + 1) ≤ 64 * (length before + 1) =
@@ -113,23 +114,21 @@ module _ (f : List ℕ) (w : ℕ) (x : Places) (before out : List ℕ) (h : Plac
       omega arith
 
   -- the class of the place before is one of the classes
-  pub class_lt : 0 < x.place → x.class < x.count
+  pub class_lt : 0 < p → x.class < x.count
   class_lt l =
-      omega (arith, h.classes.count, h.class l, last_class w (form_rows f) before x.place l (h.last l))
+      omega (arith, h.classes.count, h.class l, last_class w (form_rows f) before p l (h.last l))
 
   -- the next place has this profile and this class
-  next_of : {profile after : List ℕ} {c k : ℕ} → length after ≡ length out → profile ≡ profile_of f w x.place
-      → ClassesIn (length profile) after k (join_class x.place profile (classes_f x.place w (form_rows f)))
-      → c ≡ class_number profile (classes_f x.place w (form_rows f))
-      → PlacedNext f w x (record { place = x.place + 1; class = c; count = k }) profile out after
+  next_of : {profile after : List ℕ} {c k : ℕ} → length after ≡ length out → profile ≡ profile_of f w p
+      → ClassesIn (length profile) after k (join_class p profile (classes_f p w (form_rows f)))
+      → c ≡ class_number profile (classes_f p w (form_rows f))
+      → PlacedNext f w p (record { class = c; count = k }) profile out after
   next_of {profile} long e classes class =
-      let p : ℕ = x.place in
       let l : List PartitionClass = classes_f p w (form_rows f) in
       let next : classes_f (p + 1) w (form_rows f) ≡ join_class p profile l =
       classes_next w (form_rows f) p ∙ ap (λ (q : List ℕ). join_class p q l) (sym e) in
       let z : p ≡ p + 1 - 1 = omega arith in
       record {
-        next = refl;
         long = long;
         placed =
             record {
@@ -141,12 +140,12 @@ module _ (f : List ℕ) (w : ℕ) (x : Places) (before out : List ℕ) (h : Plac
       }
 
   -- where no atom has an edge, the place joins the class of the place before
-  module _ (index : List ℕ) (edges : ℕ) (ix : AtomsIndexed f index edges) (some : 0 < length (atom_trees f))
-      (hp : x.place < w) (hw : w ≤ 64) (z : bit_at edges x.place ≡ 0) where
-    pub still_pos : 0 < x.place
-    still_pos = go (ℕ_discrete x.place 0)
+  module _ (index : List AtomFacts) (edges : ℕ) (ix : AtomsIndexed f index edges) (some : 0 < length (atom_trees f))
+      (hp : p < w) (hw : w ≤ 64) (z : bit_at edges p ≡ 0) where
+    pub still_pos : 0 < p
+    still_pos = go (ℕ_discrete p 0)
       where
-        go : Dec (x.place ≡ 0) → 0 < x.place
+        go : Dec (p ≡ 0) → 0 < p
         go (yes e) = absurd (omega (arith, ix.start some, sym (ap (bit_at edges) e) ∙ z))
         go (no d) = omega arith
 
@@ -158,30 +157,30 @@ module _ (f : List ℕ) (w : ℕ) (x : Places) (before out : List ℕ) (h : Plac
           room_next (omega arith) room,
         )
 
-    pub placed_still : {after : List ℕ} → after ≡ add_place (x.class * (length before + 1)) x.place out
-        → PlacedNext f w x (record { place = x.place + 1; class = x.class; count = x.count }) before out after
+    pub placed_still : {after : List ℕ} → after ≡ add_place (x.class * (length before + 1)) p out
+        → PlacedNext f w p (record { class = x.class; count = x.count }) before out after
     placed_still ha =
-        let s : suc (x.place - 1) ≡ x.place = omega (arith, still_pos) in
-        let e : before ≡ profile_of f w x.place =
+        let s : suc (p - 1) ≡ p = omega (arith, still_pos) in
+        let e : before ≡ profile_of f w p =
         h.last still_pos
-        ∙ profile_still f w index edges ix hw (x.place - 1) (omega arith) (ap (bit_at edges) s ∙ z)
+        ∙ profile_still f w index edges ix hw (p - 1) (omega arith) (ap (bit_at edges) s ∙ z)
         ∙ ap (profile_of f w) s in
-        let n = ap length ha ∙ length_add_place (x.class * (length before + 1)) x.place out in
+        let n = ap length ha ∙ length_add_place (x.class * (length before + 1)) p out in
         next_of n e
-        (classes_old before out x.count x.place (classes_f x.place w (form_rows f)) h.classes
+        (classes_old before out x.count p (classes_f p w (form_rows f)) h.classes
         (h.class still_pos) (class_lt still_pos) ha)
         (h.class still_pos)
 
   -- and else that of its profile
-  pub placed_joined : (index : List ℕ) → IndexReadable f index → x.place < w → w ≤ 64 → {profile : List ℕ}
-      → WordsMoved f w x.place before profile
-      → {after : List ℕ} {r : ℕ} → Joins x.place profile out x.count after r
+  pub placed_joined : (index : List AtomFacts) → IndexReadable f index → p < w → w ≤ 64 → {profile : List ℕ}
+      → WordsMoved f w p before profile
+      → {after : List ℕ} {r : ℕ} → Joins p profile out x.count after r
       → {k : ℕ} → k ≡ count_after x.count r
-      → PlacedNext f w x (record { place = x.place + 1; class = r; count = k }) profile out after
+      → PlacedNext f w p (record { class = r; count = k }) profile out after
   placed_joined index rd hp hw {profile} m j {k} hk =
-      let l : List PartitionClass = classes_f x.place w (form_rows f) in
+      let l : List PartitionClass = classes_f p w (form_rows f) in
       let here : ClassesIn (length profile) out x.count l = rw m.long h.classes in
-      next_of j.long (profile_moved f w index rd hw x.place hp h.long h.last m) (rw hk (j.classes l here))
+      next_of j.long (profile_moved f w index rd hw p hp h.long h.last m) (rw hk (j.classes l here))
       (j.class l here)
 
 module _ (k r : ℕ) where
@@ -196,7 +195,7 @@ module _ (k r : ℕ) where
 -- ---- the loop
 
 pub placed_none : (f : List ℕ) (w : ℕ) (profile out : List ℕ) → length profile ≡ length (atom_trees f)
-    → out ≡ padded (length out) [] → PlacesJoined f w (record { place = 0; class = 0; count = 0 }) profile out
+    → out ≡ padded (length out) [] → PlacesJoined f w (record { class = 0; count = 0 }) 0 profile out
 unfolding classes_f EachClass class_words
 placed_none f w profile out n z =
     record {
@@ -206,13 +205,10 @@ placed_none f w profile out n z =
       class = λ l. absurd (omega arith);
     }
 
-pub placed_all : (f : List ℕ) (w : ℕ) (x : Places) (profile before after : List ℕ) → PlacesJoined f w x profile after
-    → x.place ≤ w → w ≤ x.place → length after ≡ length before → AllPlaced f w before after x.count
-placed_all f w x profile before after h l m n =
-    let e : x.place ≡ w = omega arith in
+pub placed_all : (f : List ℕ) (w : ℕ) (x : Places) (profile before after : List ℕ) → PlacesJoined f w x w profile after
+    → length after ≡ length before → AllPlaced f w before after x.count
+placed_all f w x profile before after h n =
     record {
-      number = h.classes.count ∙ ap (λ (p : ℕ). length (classes_f p w (form_rows f))) e;
-      words =
-          h.classes.words
-          ∙ ap₂ (λ (k p : ℕ). padded k (class_words (classes_f p w (form_rows f)))) n e;
+      number = h.classes.count;
+      words = h.classes.words ∙ ap (λ (k : ℕ). padded k (class_words (classes_f w w (form_rows f)))) n;
     }

@@ -4,57 +4,29 @@ use Prim.Native.Nat.{ℕ, ◌≤◌, ◌<◌}
 use native.Mathlib.Decide.{ℕ_discrete}
 use native.Mathlib.Omega.{arith}
 use mathlib.Core.List.{List}
-use mathlib.Core.Bool.{Bool, true, false, not, ◌&&◌, ◌||◌, or-true}
+use mathlib.Core.Bool.{Bool, true, false, not, ◌&&◌, ◌||◌}
 use lib.Dec.{eqb}
 use lib.ListN.{length}
+use Rattle.std.specs.Prelude.{Some, None}
+use Rattle.std.proofs.lemmas.Option.{none-some, same_Some}
 use borrow.Author.Tests.{eqb-true, eq-eqb, ne_eqb, not-true, not-false}
 use Rattle.base.specs.Choice.{when}
 use Rattle.record.specs.Fields.{kind, amount, arity}
 use Rattle.record.specs.Span.{body, left, right}
 use Rattle.record.specs.Tree.Tree.{Unary, Binary}
 use Rattle.record.specs.Decode.{leaf, decode}
-use Rattle.record.proofs.SpanLaws.{fold_none, fold_leaf, fold_one, fold_two, body_shorter, right_shorter}
+use Rattle.record.proofs.SpanLaws.{fold_leaf, fold_one, fold_two, body_shorter, right_shorter}
 use Rattle.base.proofs.BoolLaws.{false_true, and_true}
 use Rattle.record.proofs.FieldsLaws.{kind_of_arity_zero, arity_zero_of_lt}
 use Rattle.bitwise.specs.declared.Checked.{Checked}
 use Rattle.expr_refusal.specs.Refusal.{lowest, root_refusal, tree_refusal}
 use Rattle.expr_utils.specs.Utils.{is_arith, has_kind, has_arith, has_var_dep}
-use Rattle.expr.specs.Hash.{mix_hash, tag_hash, structural_hash}
-use Rattle.bitwise.specs.Bitwise.{bitwise_ok, refused, passing, checked, last_child, root_ok, leaf_checked}
+use Rattle.expr.specs.Hash.{structural_hash}
+use Rattle.bitwise.specs.Bitwise.{bitwise_ok, passing, checked, last_child, root_ok, leaf_checked}
 use Rattle.bitwise.specs.Bitwise.{one_checked, two_checked}
-use Rattle.expr_refusal.proofs.RefusalLaws.{lowest_zero, lowest_none, accepted_big, accepted_root, zero_of_root}
-use Rattle.expr_refusal.proofs.RefusalLaws.{accepted_body, accepted_left, accepted_right}
+use Rattle.expr_refusal.proofs.RefusalLaws.{lowest_zero, accepted_big, accepted_root, zero_of_root}
 
--- ---- a root over what was found of its children; each number is given by what it is equal to
-
-pub one_shut : (k a : ℕ) (x : Checked) → x.ok ≡ false → refused ≡ one_checked k a x
-unfolding one_checked
-one_shut k a x e = simp e
-
-pub one_open : (k a : ℕ) (x : Checked) {g h : ℕ} → x.ok ≡ true → g ≡ tag_hash k a → h ≡ mix_hash g x.hash
-    → passing x.variable h ≡ one_checked k a x
-unfolding one_checked
-one_open k a x e p q = simp (e, q, p)
-
-pub two_shut_left : (k : ℕ) (x y : Checked) → x.ok ≡ false → refused ≡ two_checked k x y
-unfolding two_checked
-two_shut_left k x y e = simp e
-
-pub two_shut_right : (k : ℕ) (x y : Checked) → x.ok ≡ true → y.ok ≡ false → refused ≡ two_checked k x y
-unfolding two_checked
-two_shut_right k x y e f = simp (e, f)
-
-pub two_open : (k : ℕ) (x y : Checked) {v : Bool} {g h : ℕ} → x.ok ≡ true → y.ok ≡ true
-    → v ≡ x.variable || y.variable → g ≡ mix_hash k x.hash → h ≡ mix_hash g y.hash
-    → passing v h ≡ two_checked k x y
-unfolding two_checked
-two_open k x y e f p q r = simp (e, f, p, r, q)
-
-pub one_alike : {k l a b : ℕ} {x y : Checked} → k ≡ l → a ≡ b → x ≡ y → one_checked k a x ≡ one_checked l b y
-one_alike p q r = rw (p, q, r)
-
-pub two_alike : {k l : ℕ} {x y u v : Checked} → k ≡ l → x ≡ u → y ≡ v → two_checked k x y ≡ two_checked l u v
-two_alike p q r = rw (p, q, r)
+-- ---- a root
 
 pub root_refused : (w : ℕ) (t : List ℕ) → (root_refusal w t ≡ 0 → ⊥) → false ≡ root_ok w t
 unfolding root_ok
@@ -85,22 +57,31 @@ module _ (s : List ℕ) where
 -- ---- a tree
 
 -- what the walk says, of a tree that is all right and of one that is not
-pub checked_ok : (w : ℕ) (t : List ℕ) → (checked w t).ok ≡ bitwise_ok w t
-unfolding checked refused
-checked_ok w t = go (bitwise_ok w t) refl
-  where
-    go : (b : Bool) → bitwise_ok w t ≡ b → (checked w t).ok ≡ bitwise_ok w t
-    go true e = simp e
-    go false e = simp e
-
-shut : (w : ℕ) (t : List ℕ) → bitwise_ok w t ≡ false → checked w t ≡ refused
+pub shut : (w : ℕ) (t : List ℕ) → bitwise_ok w t ≡ false → checked w t ≡ None
 unfolding checked
 shut w t e = simp e
 
 pub passes : (w : ℕ) (t : List ℕ) → bitwise_ok w t ≡ true
-    → checked w t ≡ passing (has_var_dep (decode t)) (structural_hash (decode t))
+    → checked w t ≡ Some (passing (has_var_dep (decode t)) (structural_hash (decode t)))
 unfolding checked
 passes w t e = simp e
+
+-- and back
+pub found_none : (w : ℕ) (t : List ℕ) → checked w t ≡ None → bitwise_ok w t ≡ false
+found_none w t n = go (bitwise_ok w t) refl
+  where
+    go : (b : Bool) → bitwise_ok w t ≡ b → bitwise_ok w t ≡ false
+    go true e = absurd (none-some _ (sym n ∙ passes w t e))
+    go false e = e
+
+pub found_some : (w : ℕ) (t : List ℕ) (x : Checked) → checked w t ≡ Some x
+    → (bitwise_ok w t ≡ true) × (x ≡ passing (has_var_dep (decode t)) (structural_hash (decode t)))
+found_some w t x n = go (bitwise_ok w t) refl
+  where
+    go : (b : Bool) → bitwise_ok w t ≡ b
+        → (bitwise_ok w t ≡ true) × (x ≡ passing (has_var_dep (decode t)) (structural_hash (decode t)))
+    go true e = (e, same_Some _ _ (sym n ∙ passes w t e))
+    go false e = absurd (none-some _ (sym (shut w t e) ∙ n))
 
 fails : (w : ℕ) (t : List ℕ) → (tree_refusal w t ≡ 0 → ⊥) → bitwise_ok w t ≡ false
 unfolding bitwise_ok
@@ -114,7 +95,7 @@ arith_fails : (w : ℕ) (t : List ℕ) → has_arith (decode t) ≡ true → bit
 unfolding bitwise_ok
 arith_fails w t e = and_false (eqb (tree_refusal w t) 0) (not (has_arith (decode t))) (ap not e)
 
-pub checked_none : (w : ℕ) (t : List ℕ) → length t < 16 → checked w t ≡ refused
+pub checked_none : (w : ℕ) (t : List ℕ) → length t < 16 → checked w t ≡ None
 checked_none w t h = shut w t (fails w t (λ e. absurd (omega (arith, accepted_big w t e))))
 
 lowest_left : (x : ℕ) → lowest 0 x ≡ x
@@ -162,11 +143,11 @@ module _ (w : ℕ) (t : List ℕ) (big : 16 ≤ length t) where
         ne_eqb (kind t) 8 (λ e. absurd (omega arith)),
       )
 
-  pub checked_root : root_ok w t ≡ false → checked w t ≡ refused
+  pub checked_root : root_ok w t ≡ false → checked w t ≡ None
   unfolding root_ok
   checked_root e = go (ℕ_discrete (tree_refusal w t) 0) (ℕ_discrete (arity (kind t)) 0)
     where
-      go : Dec (tree_refusal w t ≡ 0) → Dec (arity (kind t) ≡ 0) → checked w t ≡ refused
+      go : Dec (tree_refusal w t ≡ 0) → Dec (arity (kind t) ≡ 0) → checked w t ≡ None
       go (no p) d = shut w t (fails w t p)
       go (yes z) (yes a) =
           let r = zero_of_root w t (accepted_root w t z) in
@@ -183,7 +164,7 @@ module _ (w : ℕ) (t : List ℕ) (big : 16 ≤ length t) where
     root_plain : is_arith (kind t) ≡ false
     root_plain = (root_parts w t e).1
 
-    pub checked_leaf : arity (kind t) ≡ 0 → leaf_checked t ≡ checked w t
+    pub checked_leaf : arity (kind t) ≡ 0 → Some (leaf_checked t) ≡ checked w t
     unfolding checked bitwise_ok leaf_checked leaf has_kind has_arith
     checked_leaf a =
         let z : tree_refusal w t ≡ 0 = fold_leaf _ _ _ _ t big a ∙ root_zero in
@@ -192,9 +173,9 @@ module _ (w : ℕ) (t : List ℕ) (big : 16 ≤ length t) where
         rw d (go z low (ℕ_discrete (kind t) 0))
       where
         go : tree_refusal w t ≡ 0 → kind t < 2 → Dec (kind t ≡ 0)
-            → leaf_checked t
+            → Some (leaf_checked t)
             ≡ when (eqb (tree_refusal w t) 0 && not (has_arith (leaf t)))
-            (λ _. passing (has_var_dep (leaf t)) (structural_hash (leaf t))) (λ _. refused)
+            (λ _. Some (passing (has_var_dep (leaf t)) (structural_hash (leaf t)))) (λ _. None)
         go z low (yes k) = simp (eq-eqb (tree_refusal w t) 0 z, k)
         go z low (no k) =
             let one : kind t ≡ 1 = omega arith in
@@ -217,22 +198,19 @@ module _ (w : ℕ) (t : List ℕ) (big : 16 ≤ length t) where
           ap has_arith one_tree ∙ ap (λ b. b || has_arith (decode (body t))) root_plain in
           ap₂ (λ n b. eqb n 0 && not b) z h
 
-      pub checked_one : one_checked (kind t) (amount t) (checked w (body t)) ≡ checked w t
-      unfolding one_checked refused has_kind structural_hash
-      checked_one = go (bitwise_ok w (body t)) refl
-        where
-          v : has_var_dep (decode t) ≡ has_var_dep (decode (body t))
-          v =
-              ap has_var_dep one_tree
-              ∙ ap (λ b. b || has_var_dep (decode (body t))) (no_variable (λ z. absurd (omega arith)))
+      pub one_none : checked w (body t) ≡ None → None ≡ checked w t
+      one_none n = sym (shut w t (one_ok ∙ found_none w (body t) n))
 
-          go : (b : Bool) → bitwise_ok w (body t) ≡ b
-              → one_checked (kind t) (amount t) (checked w (body t)) ≡ checked w t
-          go true e =
-              ap (one_checked (kind t) (amount t)) (passes w (body t) e)
-              ∙ sym (passes w t (one_ok ∙ e) ∙ ap₂ passing v (ap structural_hash one_tree))
-          go false e =
-              ap (one_checked (kind t) (amount t)) (shut w (body t) e) ∙ sym (shut w t (one_ok ∙ e))
+      pub one_some : (x : Checked) → checked w (body t) ≡ Some x
+          → Some (one_checked (kind t) (amount t) x) ≡ checked w t
+      unfolding one_checked has_kind structural_hash
+      one_some x n =
+          let f = found_some w (body t) x n in
+          let v : has_var_dep (decode t) ≡ has_var_dep (decode (body t)) =
+          ap has_var_dep one_tree
+          ∙ ap (λ b. b || has_var_dep (decode (body t))) (no_variable (λ z. absurd (omega arith))) in
+          ap (λ (y : Checked). Some (one_checked (kind t) (amount t) y)) f.1
+          ∙ sym (passes w t (one_ok ∙ f.0) ∙ ap Some (ap₂ passing v (ap structural_hash one_tree)))
 
     module _ (p : arity (kind t) ≡ 0 → ⊥) (q : arity (kind t) ≡ 1 → ⊥) where
       two_tree : decode t ≡ Binary (kind t) (decode (left t)) (decode (right t))
@@ -251,23 +229,29 @@ module _ (w : ℕ) (t : List ℕ) (big : 16 ≤ length t) where
           ∙ ap (λ b. b && not (has_arith (decode (left t)) || has_arith (decode (right t)))) (lowest_eqb x y)
           ∙ both (eqb x 0) (eqb y 0) (has_arith (decode (left t))) (has_arith (decode (right t)))
 
-      pub checked_two : two_checked (kind t) (checked w (left t)) (checked w (right t)) ≡ checked w t
-      unfolding two_checked refused has_kind structural_hash
-      checked_two = go (bitwise_ok w (left t)) (bitwise_ok w (right t)) refl refl
-        where
-          v : has_var_dep (decode t) ≡ has_var_dep (decode (left t)) || has_var_dep (decode (right t))
-          v =
-              ap has_var_dep two_tree
-              ∙ ap (λ b. b || (has_var_dep (decode (left t)) || has_var_dep (decode (right t)))) (no_variable p)
+      pub two_none_left : checked w (left t) ≡ None → None ≡ checked w t
+      two_none_left n =
+          sym (shut w t (two_ok ∙ ap (λ b. b && bitwise_ok w (right t)) (found_none w (left t) n)))
 
-          go : (a b : Bool) → bitwise_ok w (left t) ≡ a → bitwise_ok w (right t) ≡ b
-              → two_checked (kind t) (checked w (left t)) (checked w (right t)) ≡ checked w t
-          go true true e f =
-              ap₂ (two_checked (kind t)) (passes w (left t) e) (passes w (right t) f)
-              ∙ sym (passes w t (two_ok ∙ ap₂ ◌&&◌ e f) ∙ ap₂ passing v (ap structural_hash two_tree))
-          go true false e f =
-              ap₂ (two_checked (kind t)) (passes w (left t) e) (shut w (right t) f)
-              ∙ sym (shut w t (two_ok ∙ ap₂ ◌&&◌ e f))
-          go false b e f =
-              ap (λ x. two_checked (kind t) x (checked w (right t))) (shut w (left t) e)
-              ∙ sym (shut w t (two_ok ∙ ap₂ ◌&&◌ e f))
+      pub two_none_right : checked w (right t) ≡ None → None ≡ checked w t
+      two_none_right n = sym (shut w t (two_ok ∙ and_false (bitwise_ok w (left t)) _ (found_none w (right t) n)))
+
+      pub two_some : (x y : Checked) → checked w (left t) ≡ Some x → checked w (right t) ≡ Some y
+          → Some (two_checked (kind t) x y) ≡ checked w t
+      unfolding two_checked has_kind structural_hash
+      two_some x y n m =
+          let f = found_some w (left t) x n in
+          let g = found_some w (right t) y m in
+          let v : has_var_dep (decode t) ≡ has_var_dep (decode (left t)) || has_var_dep (decode (right t)) =
+          ap has_var_dep two_tree
+          ∙ ap (λ b. b || (has_var_dep (decode (left t)) || has_var_dep (decode (right t)))) (no_variable p) in
+          ap₂ (λ (a b : Checked). Some (two_checked (kind t) a b)) f.1 g.1
+          ∙ sym (passes w t (two_ok ∙ ap₂ ◌&&◌ f.0 g.0) ∙ ap Some (ap₂ passing v (ap structural_hash two_tree)))
+
+    -- a last child that is not all right
+    pub last_none : (arity (kind t) ≡ 0 → ⊥) → checked w (last_child t) ≡ None → None ≡ checked w t
+    last_none p n = go (ℕ_discrete (arity (kind t)) 1)
+      where
+        go : Dec (arity (kind t) ≡ 1) → None ≡ checked w t
+        go (yes a) = one_none a (ap (checked w) (sym (last_one t a)) ∙ n)
+        go (no q) = two_none_right p q (ap (checked w) (sym (last_two t q)) ∙ n)

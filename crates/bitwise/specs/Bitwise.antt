@@ -1,6 +1,6 @@
 -- What one walk finds of a tree that should have no Add, Mul and Neg: its refusals, its variables and its hash together
 -- (the tests of an atom's tree, document 01, "The sheet").
-use Rattle.std.specs.Prelude.{ℕ, List, Bool, true, false, not, ◌&&◌, ◌||◌, eqb}
+use Rattle.std.specs.Prelude.{ℕ, List, Option, Some, None, Bool, not, ◌&&◌, ◌||◌, eqb}
 use Rattle.base.specs.Choice.{when}
 use Rattle.record.specs.Fields.{kind, arity}
 use Rattle.record.specs.Span.{body, right}
@@ -14,15 +14,12 @@ use Rattle.expr.specs.Hash.{mix_hash, tag_hash, structural_hash}
 unfoldable pub bitwise_ok : ℕ → List ℕ → Bool
 bitwise_ok w t = eqb (tree_refusal w t) 0 && not (has_arith (decode t))
 
-unfoldable pub refused : Checked
-refused = record { ok = false; variable = false; hash = 0 }
-
 abbrev pub passing : Bool → ℕ → Checked
-passing v h = record { ok = true; variable = v; hash = h }
+passing v h = record { variable = v; hash = h }
 
-unfoldable pub checked : ℕ → List ℕ → Checked
+unfoldable pub checked : ℕ → List ℕ → Option Checked
 checked w t =
-    when (bitwise_ok w t) (λ _. passing (has_var_dep (decode t)) (structural_hash (decode t))) (λ _. refused)
+    when (bitwise_ok w t) (λ _. Some (passing (has_var_dep (decode t)) (structural_hash (decode t)))) (λ _. None)
 
 -- ---- step by step
 
@@ -37,12 +34,7 @@ unfoldable pub leaf_checked : List ℕ → Checked
 leaf_checked t = passing (eqb (kind t) 1) (structural_hash (leaf t))
 
 unfoldable pub one_checked : ℕ → ℕ → Checked → Checked
-one_checked k a x =
-    when x.ok (λ _. passing x.variable (mix_hash (tag_hash k a) x.hash)) (λ _. refused)
+one_checked k a x = passing x.variable (mix_hash (tag_hash k a) x.hash)
 
 unfoldable pub two_checked : ℕ → Checked → Checked → Checked
-two_checked k x y =
-    when x.ok
-    (λ _. when y.ok
-    (λ _. passing (x.variable || y.variable) (mix_hash (mix_hash k x.hash) y.hash)) (λ _. refused))
-    (λ _. refused)
+two_checked k x y = passing (x.variable || y.variable) (mix_hash (mix_hash k x.hash) y.hash)

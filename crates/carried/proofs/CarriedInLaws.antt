@@ -1,10 +1,9 @@
 -- Laws of the coefficients with their bits in two lent arrays (specs/Coalescing.antt): one bit joined to its
 -- coefficient, as the code does it.
-use Rattle.std.proofs.Common.{◌≡◌, ℕ, zero, suc, ◌+◌, ◌*◌, ◌%◌, ◌^◌, ◌<◌, ◌≤◌, true, false, List, [], ◌∷◌, ◌++◌, length, get_or, take, drop, set, sym, refl, ap, ◌∙◌, subst, ap₂, arith, length-drop, length-set, length-take-le, drop-cons, get_or-take, take-suc, take-take, pow_mono, shl_exact, le-ltb, lt-ltb, eq-eqb, ne_eqb}
+use Rattle.std.proofs.Common.{◌≡◌, ℕ, zero, suc, ◌+◌, ◌*◌, ◌%◌, ◌^◌, ◌<◌, ◌≤◌, true, List, [], ◌∷◌, ◌++◌, length, get_or, take, drop, set, sym, refl, ap, ◌∙◌, subst, ap₂, arith, length-drop, length-set, length-take-le, drop-cons, get_or-take, take-suc, take-take, pow_mono, shl_exact, le-ltb, lt-ltb, eq-eqb, ne_eqb}
 use lib.Seq.{split_at, set_split, take-set-lt}
-use Rattle.views.specs.declared.bases.Slot.{Slot}
 use Rattle.views.specs.Bases.{insert_at}
-use Rattle.group.specs.Bucket.{IsPlace}
+use Rattle.group.specs.Bucket.{IsThere, GoesAt}
 use Rattle.views.proofs.InsertLaws.{take_insert, length_insert}
 use Rattle.group.proofs.KeysLaws.{place_first}
 use Rattle.structure_laws.specs.Carried.{Carried, carry}
@@ -102,11 +101,8 @@ module _ (c p : ℕ) where
       carry_joined c p (carried x y) (pairs a b) (eq-eqb x c e)
       ∙ ap (λ (z : ℕ). carried z (y + 2 ^ p) ∷ pairs a b) (sym e)
 
-module _ (c p n : ℕ) (carried bits : List ℕ) (lc : n < length carried) (lb : n < length bits) {r : Slot}
-    (s : IsPlace c n carried r) where
-  abbrev k : ℕ
-  k = r.at
-
+module _ (c p n : ℕ) (carried bits : List ℕ) (lc : n < length carried) (lb : n < length bits) (k : ℕ)
+    (le : k ≤ n) (below : (j : ℕ) → j < k → get_or carried j 0 < c) where
   abbrev a : List ℕ
   a = take n carried
 
@@ -121,24 +117,24 @@ module _ (c p n : ℕ) (carried bits : List ℕ) (lc : n < length carried) (lb :
 
   fronts : length (take k a) ≡ length (take k b)
   fronts =
-      length-take-le k a (omega (arith, len_a, s.at_le)) ∙ sym (length-take-le k b (omega (arith, len_b, s.at_le)))
+      length-take-le k a (omega (arith, len_a, le)) ∙ sym (length-take-le k b (omega (arith, len_b, le)))
 
   parted : carry c p (carried_in n carried bits)
       ≡ pairs (take k a) (take k b) ++ carry c p (pairs (drop k a) (drop k b))
   unfolding carried_in
   parted =
-      carry_past c p a b (len_a ∙ sym len_b) k (omega (arith, len_a, s.at_le))
-      (λ j lt. subst (λ (x : ℕ). x < c) (sym (get_or-take n carried j 0 (omega (arith, s.at_le)))) (s.below j lt))
+      carry_past c p a b (len_a ∙ sym len_b) k (omega (arith, len_a, le))
+      (λ j lt. subst (λ (x : ℕ). x < c) (sym (get_or-take n carried j 0 (omega (arith, le)))) (below j lt))
 
-  module _ (e : r.found ≡ true) where
+  module _ (s : IsThere c n carried k) where
     joined_are : (y : ℕ) → y ≡ get_or bits k 0 + 2 ^ p
         → carried_in n carried (set bits k y) ≡ carry c p (carried_in n carried bits)
     unfolding carried_in
     joined_are y ey =
-        let lt : k < n = (s.there e).0 in
+        let lt : k < n = s.within in
         let x : ℕ = get_or a k 0 in
         let old : ℕ = get_or b k 0 in
-        let is_c : x ≡ c = get_or-take n carried k 0 lt ∙ (s.there e).1 in
+        let is_c : x ≡ c = get_or-take n carried k 0 lt ∙ s.is_c in
         let new : y ≡ old + 2 ^ p =
         ey ∙ ap (λ (z : ℕ). z + 2 ^ p) (sym (get_or-take n bits k 0 lt)) in
         let left : a ≡ take k a ++ x ∷ drop (suc k) a = split_at a k 0 (omega (arith, len_a, lt)) in
@@ -168,12 +164,11 @@ module _ (c p n : ℕ) (carried bits : List ℕ) (lc : n < length carried) (lb :
         }
 
   -- or it is put in
-  pub carry_new : r.found ≡ false → {carried' bits' : List ℕ} (y : ℕ) → y ≡ 2 ^ p
+  pub carry_new : GoesAt c n carried k → {carried' bits' : List ℕ} (y : ℕ) → y ≡ 2 ^ p
       → carried' ≡ insert_at k n c carried → bits' ≡ insert_at k n y bits
       → IsCarried (carry c p (carried_in n carried bits)) carried bits carried' bits' (n + 1)
   unfolding carried_in pairs
-  carry_new e {carried'} {bits'} y ey ec eb =
-      let le : k ≤ n = s.at_le in
+  carry_new s {carried'} {bits'} y ey ec eb =
       let left : take (n + 1) carried' ≡ take k a ++ c ∷ drop k a =
       ap (take (n + 1)) ec
       ∙ take_insert k n c carried le lc
@@ -184,7 +179,7 @@ module _ (c p n : ℕ) (carried bits : List ℕ) (lc : n < length carried) (lb :
       ∙ ap (λ (l : List ℕ). l ++ y ∷ drop k b) (sym (take-take k n bits le)) in
       let behind : length (drop k a) ≡ length (drop k b) =
       length-drop k a ∙ omega (arith, len_a, len_b, length-drop k b) in
-      let first : 0 < length (drop k a) → c < get_or (drop k a) 0 0 = place_first c n carried (omega arith) s e in
+      let first : 0 < length (drop k a) → c < get_or (drop k a) 0 0 = place_first c n carried (omega arith) s in
       let are : carried_in (n + 1) carried' bits' ≡ carry c p (carried_in n carried bits) =
       ap₂ pairs left right
       ∙ pairs_append (take k a) (take k b) fronts (c ∷ drop k a) (y ∷ drop k b)

@@ -1,5 +1,6 @@
 -- Laws of the new terms of a group (specs/Coalescing.antt): rows that pass a limit go on passing it, rows do not get fewer,
 -- and steps follow each other.
+use Rattle.made.specs.declared.Made.{Made}
 use Rattle.bare.proofs.ShowsLaws.{shows_shown}
 use Rattle.std.proofs.Common.{◌≡◌, ℕ, ◌+◌, ◌-◌, ◌^◌, ◌<◌, ◌≤◌, Bool, true, false, eqb, ltb, List, [], ◌∷◌, ◌++◌, length, get_or, sym, refl, ap, ◌∙◌, arith, length-set, ltb-true, eq-eqb, ne_eqb}
 use Rattle.base.specs.Choice.{when}
@@ -10,7 +11,7 @@ use Rattle.base.proofs.LoopLaws.{when_both}
 use Rattle.semilinear.specs.Form.{Row, new_row, eq_tree, fits_table}
 use Rattle.atom_table.specs.Terms.{coeffs_of}
 use Rattle.made.specs.Rows.{create_row, masked_tree, create_masked, add_coeff}
-use Rattle.made.specs.Made.{table_of, Room, Grew}
+use Rattle.made.specs.Made.{Room, Grew}
 use Rattle.group.specs.Gathered.{add_word}
 use Rattle.made.proofs.CoeffsLaws.{length_create, create_past, coeffs_create, fits_length, fits_less}
 use Rattle.group.proofs.SettleLaws.{add_length}
@@ -153,8 +154,8 @@ module _ (w : ℕ) (t : Tree) where
       )
 
 -- a full table is left as it is
-pub coalesced_full : {w m n : ℕ} {F : List Row → List Row} {made out coeffs : List ℕ} → Room made out
-    → (table_of made).full ≡ true → ((l : List Row) → fits_table l ≡ false → fits_table (F l) ≡ false)
+pub coalesced_full : {w m n : ℕ} {F : List Row → List Row} {made : Made} {out coeffs : List ℕ} → Room made out
+    → made.table.full ≡ true → ((l : List Row) → fits_table l ≡ false → fits_table (F l) ≡ false)
     → Coalesced w m n F made out coeffs made out coeffs
 coalesced_full room full keeps =
     record {
@@ -167,7 +168,7 @@ coalesced_full room full keeps =
     }
 
 pub coalesced_then : {w m a b : ℕ} {F G : List Row → List Row}
-    {made out coeffs made' out' coeffs' made'' out'' coeffs'' : List ℕ}
+    {made : Made} {out coeffs : List ℕ} {made' : Made} {out' coeffs' : List ℕ} {made'' : Made} {out'' coeffs'' : List ℕ}
     → ((l : List Row) → m ≤ length l → m ≤ length (F l)) → Coalesced w m a F made out coeffs made' out' coeffs'
     → Coalesced w m b G made' out' coeffs' made'' out'' coeffs''
     → Coalesced w m (a + b) (λ l. G (F l)) made out coeffs made'' out'' coeffs''
@@ -181,7 +182,7 @@ coalesced_then {F = F} longer p q =
     }
 
 -- the same turn under another name, and said for fewer rows
-pub coalesced_as : {w m n m' n' : ℕ} {F G : List Row → List Row} {made out coeffs made' out' coeffs' : List ℕ}
+pub coalesced_as : {w m n m' n' : ℕ} {F G : List Row → List Row} {made : Made} {out coeffs : List ℕ} {made' : Made} {out' coeffs' : List ℕ}
     → m ≤ m' → n ≤ n' → ((l : List Row) → F l ≡ G l) → Coalesced w m n F made out coeffs made' out' coeffs'
     → Coalesced w m' n' G made out coeffs made' out' coeffs'
 coalesced_as lm ln e p =
@@ -200,8 +201,8 @@ add_wide : (w c j : ℕ) (coeffs : List ℕ) {coeffs' : List ℕ} → coeffs' �
 unfolding add_word
 add_wide w c j coeffs e = ap length e ∙ length-set coeffs j _
 
-module _ (w c m : ℕ) (t : Tree) (hw : w ≤ 64) {made out coeffs made' out' coeffs' : List ℕ}
-    (more : (table_of made).full ≡ false) where
+module _ (w c m : ℕ) (t : Tree) (hw : w ≤ 64) {made : Made} {out coeffs : List ℕ} {made' : Made} {out' coeffs' : List ℕ}
+    (more : made.table.full ≡ false) where
   pub term_bare : (r : ℕ) → m ≡ 2 ^ w - 1 → BareFound w t r made out made' out' → coeffs' ≡ add_word w c r coeffs
       → Coalesced w 0 1 (carried_row w t c m) made out coeffs made' out' coeffs'
   term_bare r em found e =
@@ -220,7 +221,7 @@ module _ (w c m : ℕ) (t : Tree) (hw : w ≤ 64) {made out coeffs made' out' co
       }
 
   pub term_masked : (m ≡ 2 ^ w - 1 → ⊥) → Grew w 1 (create_masked w t m) made out made' out'
-      → coeffs' ≡ add_word w c (get_or made 4 0) coeffs
+      → coeffs' ≡ add_word w c made.rows coeffs
       → Coalesced w 0 1 (carried_row w t c m) made out coeffs made' out' coeffs'
   unfolding create_masked
   term_masked nm g e =
@@ -228,7 +229,7 @@ module _ (w c m : ℕ) (t : Tree) (hw : w ≤ 64) {made out coeffs made' out' co
         room = g.room;
         rows_le = g.later.rows_le;
         long = g.long;
-        wide = add_wide w c (get_or made 4 0) coeffs e;
+        wide = add_wide w c made.rows coeffs e;
         shows = λ l _ s.
             let h = s.shown more in
             let at_row = e ∙ ap (λ (j : ℕ). add_word w c j coeffs) h.held.rows in
@@ -241,14 +242,14 @@ module _ (w c m : ℕ) (t : Tree) (hw : w ≤ 64) {made out coeffs made' out' co
 
 -- ---- the new terms in turn
 
-module _ (w : ℕ) (t : Tree) (carried bits : List ℕ) {made₀ out₀ coeffs₀ : List ℕ} where
+module _ (w : ℕ) (t : Tree) (carried bits : List ℕ) {made₀ : Made} {out₀ coeffs₀ : List ℕ} where
   pub terms_none : Room made₀ out₀
       → Coalesced w 0 0 (carried_rows w t (carried_in 0 carried bits)) made₀ out₀ coeffs₀ made₀ out₀ coeffs₀
   unfolding carried_in pairs carried_rows
   terms_none room =
       record { room = room; rows_le = omega arith; long = refl; wide = refl; shows = λ l _ s. s }
 
-  pub terms_next : (k : ℕ) → k < length carried → k < length bits → {made out coeffs made' out' coeffs' : List ℕ}
+  pub terms_next : (k : ℕ) → k < length carried → k < length bits → {made : Made} {out coeffs : List ℕ} {made' : Made} {out' coeffs' : List ℕ}
       → Coalesced w 0 k (carried_rows w t (carried_in k carried bits)) made₀ out₀ coeffs₀ made out coeffs
       → Coalesced w 0 1 (carried_row w t (get_or carried k 0) (get_or bits k 0)) made out coeffs made' out' coeffs'
       → Coalesced w 0 (k + 1) (carried_rows w t (carried_in (k + 1) carried bits)) made₀ out₀ coeffs₀ made' out' coeffs'
@@ -258,7 +259,7 @@ module _ (w : ℕ) (t : Tree) (carried bits : List ℕ) {made₀ out₀ coeffs�
       ∙ rows_last w t (carried_in k carried bits) _ l))
       (coalesced_then (λ l le. omega arith) p q)
 
-  pub terms_done : (k n : ℕ) → k ≤ n → n ≤ k → {made out coeffs : List ℕ}
+  pub terms_done : (k n : ℕ) → k ≤ n → n ≤ k → {made : Made} {out coeffs : List ℕ}
       → Coalesced w 0 k (carried_rows w t (carried_in k carried bits)) made₀ out₀ coeffs₀ made out coeffs
       → Coalesced w 0 n (carried_rows w t (carried_in n carried bits)) made₀ out₀ coeffs₀ made out coeffs
   terms_done k n a b p = let e : n ≡ k = omega arith in rw e p

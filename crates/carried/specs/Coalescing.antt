@@ -1,6 +1,7 @@
 -- How coalescing goes through the groups (src/lib.rt, coalesce/src/lib.rt): the coefficients with the bits that carry them
 -- in two lent arrays, and what a turn makes of the table, the coefficients and the bytes, said for all rows that they
 -- show.
+use Rattle.made.specs.declared.Made.{Made}
 use Rattle.std.specs.Prelude.{◌≡◌, ℕ, ◌+◌, ◌-◌, ◌^◌, ◌<◌, ◌≤◌, List, [], ◌∷◌, length, take, ◌==◌, slice_index, slice_index_or}
 use Rattle.base.specs.Choice.{when}
 use Rattle.record.specs.Tree.{Tree}
@@ -12,7 +13,7 @@ use Rattle.structure_laws.specs.RecoverStructure.{row_with, with_bare}
 use Rattle.structure_laws.specs.Carried.{Carried}
 use Rattle.structure_laws.specs.CoalesceTerms.{coalesce_all}
 use Rattle.bare.specs.Showing.{Shows}
-use Rattle.base.specs.Limits.{atom_limit, group_entries}
+use Rattle.base.specs.Limits.{atom_limit}
 
 -- ---- the two arrays
 
@@ -32,10 +33,9 @@ pub record CarryReady (p count : ℕ) (carried bits : List ℕ) : Type 0 where
   pub bits_room : count < length bits
   pub below : (k : ℕ) → k < count → slice_index bits k < 2 ^ p
 
--- n entries, and room in both for what all bits carry
-pub record CarriedReady (w n : ℕ) (carried bits : List ℕ) : Type 0 where
+-- room in both for what all bits carry
+pub record CarriedReady (w : ℕ) (carried bits : List ℕ) : Type 0 where
   pub width : w ≤ 64
-  pub few : n ≤ group_entries
   pub carried_long : length carried ≡ 64
   pub bits_long : length bits ≡ 64
 
@@ -49,7 +49,7 @@ pub record IsCarried (l : List Carried) (carried bits carried' bits' : List ℕ)
 -- ---- the table
 
 -- atoms over the basis b can be made for the first `count` of both arrays
-pub record PutReady (w count hash : ℕ) (carried bits b made out : List ℕ) : Type 0 where
+pub record PutReady (w count hash : ℕ) (carried bits b : List ℕ) (made : Made) (out : List ℕ) : Type 0 where
   pub makes : Makes w count hash b made out
   pub carried_room : count ≤ length carried
   pub bits_room : count ≤ length bits
@@ -61,15 +61,15 @@ carried_row w b c m rows =
     (λ _. add_coeff w c (length rows) (create_masked w b m rows))
 
 -- a turn: F on the rows, of which there are m or more, and at most n more then
-pub record Coalesced (w m n : ℕ) (F : List Row → List Row) (made out coeffs made' out' coeffs' : List ℕ) : Type 0 where
+pub record Coalesced (w m n : ℕ) (F : List Row → List Row) (made : Made) (out coeffs : List ℕ) (made' : Made) (out' coeffs' : List ℕ) : Type 0 where
   pub room : Room made' out'
-  pub rows_le : slice_index_or made' 4 0 ≤ slice_index made 4 + n
+  pub rows_le : made'.rows ≤ made.rows + n
   pub long : length out' ≡ length out
   pub wide : length coeffs' ≡ length coeffs
   pub shows : (l : List Row) → m ≤ length l → Shows w made out coeffs l → Shows w made' out' coeffs' (F l)
 
 -- the rows of a form coalesced, for a table that holds them
-pub record RowsCoalesced (w : ℕ) (rows : List Row) (made out made' out' coeffs' : List ℕ) : Type 0 where
+pub record RowsCoalesced (w : ℕ) (rows : List Row) (made : Made) (out : List ℕ) (made' : Made) (out' coeffs' : List ℕ) : Type 0 where
   pub room : Room made' out'
   pub long : length out' ≡ length out
   pub wide : length coeffs' ≡ atom_limit

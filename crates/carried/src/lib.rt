@@ -8,33 +8,25 @@ ghost use Rattle.structure_laws.specs.Carried.{bit_coeff, carry, carry_at, carri
 ghost use Rattle.structure_laws.specs.CoalesceTerms.{carried_rows};
 ghost use Rattle.carried.specs.Coalescing.{carried_in, CarryReady, CarriedReady, IsCarried};
 ghost use Rattle.carried.specs.Coalescing.{PutReady, carried_row, Coalesced};
-ghost use Rattle.base.specs.Limits.{group_entries};
 
-use base::limits;
+use entries::Entry;
 use group::{keys, settle};
+use made::Made;
 use views::bases;
 
-// The sum of the coefficients, of n, whose masks have the bit p. It is cut only in the end. Each
-// coefficient is added before the test, which then chooses between two numbers and needs no jump: the
-// bits of masks may be like random ones.
-fn bit_coeff<'a>(
-    coeffs: &'a [u64; limits::GROUP_ENTRIES],
-    masks: &'a [u64; limits::GROUP_ENTRIES],
-    n: usize,
-    p: u32,
-    w: u32,
-) -> u64
-    requires { (n ≤ group_entries) × (p < 64) × (w ≤ 64) }
-    ensures { result ≡ bit_coeff w coeffs.now masks.now n p }
+// The sum of the coefficients whose masks have the bit p. It is cut only in the end. Each coefficient
+// is added before the test, which then chooses between two numbers and needs no jump: the bits of masks
+// may be like random ones.
+fn bit_coeff(entries: &[Entry], p: u32, w: u32) -> u64
+    requires { (p < 64) × (w ≤ 64) }
+    ensures { result ≡ bit_coeff w entries.now p }
 {
     let mut sum = 0;
-    let mut i = 0;
-    while i < n {
-        let more = std::num::wrapping_add_u64(sum, coeffs[i]);
-        if (masks[i] >> p) & 1 == 1 {
+    for e in entries {
+        let more = std::num::wrapping_add_u64(sum, e.coeff);
+        if (e.mask >> p) & 1 == 1 {
             sum = more;
         }
-        i += 1;
     }
     sum & arith::bitmask(w)
 }
@@ -45,35 +37,35 @@ fn carry(carried: &mut [u64], bits: &mut [u64], count: usize, c: u64, p: u32) ->
     ensures { IsCarried (carry c p (carried_in count carried.old bits.old))
         carried.old bits.old carried.new bits.new result }
 {
-    let slot = keys::place_of(carried, count, c);
-    let k = slot.at;
     let bit = 1 << p;
-    if slot.found {
-        bits[k] += bit;
-        return count;
+    match keys::place_of(carried, count, c) {
+        Ok(k) => {
+            bits[k] += bit;
+            count
+        }
+        Err(k) => {
+            bases::insert_at(carried, k, count, c);
+            bases::insert_at(bits, k, count, bit);
+            count + 1
+        }
     }
-    bases::insert_at(carried, k, count, c);
-    bases::insert_at(bits, k, count, bit);
-    count + 1
 }
 
 // The same for the coefficient of the bit p in a group; 0 carries nothing.
-fn carry_at<'a>(
-    coeffs: &'a [u64; limits::GROUP_ENTRIES],
-    masks: &'a [u64; limits::GROUP_ENTRIES],
-    n: usize,
+fn carry_at(
+    entries: &[Entry],
     w: u32,
     p: u32,
     carried: &mut [u64],
     bits: &mut [u64],
     count: usize,
 ) -> usize
-    requires { (n ≤ group_entries) × (w ≤ 64) × CarryReady p count carried.old bits.old }
-    ensures { IsCarried (carry_at w coeffs.now masks.now n p
+    requires { (w ≤ 64) × CarryReady p count carried.old bits.old }
+    ensures { IsCarried (carry_at w entries.now p
         (carried_in count carried.old bits.old))
         carried.old bits.old carried.new bits.new result }
 {
-    let c = bit_coeff(coeffs, masks, n, p, w);
+    let c = bit_coeff(entries, p, w);
     if c == 0 {
         return count;
     }
@@ -81,23 +73,14 @@ fn carry_at<'a>(
 }
 
 // Each coefficient of a bit, by rising coefficient, and the bits that carry it: at most w.
-pub fn carried_of<'a>(
-    coeffs: &'a [u64; limits::GROUP_ENTRIES],
-    masks: &'a [u64; limits::GROUP_ENTRIES],
-    n: usize,
-    w: u32,
-    carried: &mut [u64],
-    bits: &mut [u64],
-) -> usize
-    requires { CarriedReady w n carried.old bits.old }
-    ensures { IsCarried (carried_of w coeffs.now masks.now n)
+pub fn carried_of(entries: &[Entry], w: u32, carried: &mut [u64], bits: &mut [u64]) -> usize
+    requires { CarriedReady w carried.old bits.old }
+    ensures { IsCarried (carried_of w entries.now)
         carried.old bits.old carried.new bits.new result }
 {
     let mut count = 0;
-    let mut p = 0;
-    while p < w {
-        count = carry_at(coeffs, masks, n, w, p, carried, bits, count);
-        p += 1;
+    for p in 0..w {
+        count = carry_at(entries, w, p, carried, bits, count);
     }
     count
 }
@@ -109,7 +92,7 @@ fn put_term(
     b: &[u8],
     hash: u64,
     w: u8,
-    made: &mut [u64],
+    made: &mut Made,
     coeffs: &mut [u64],
     out: &mut [u8],
 )
@@ -118,17 +101,18 @@ fn put_term(
         made.old out.old coeffs.old
         made.new out.new coeffs.new }
 {
-    if made[3] == 1 {
+    if made.table.full {
         return;
     }
-    if m == arith::bitmask(w as u32) {
+    let width = u32::from(w);
+    if m == arith::bitmask(width) {
         let row = bare::find_or_create_bare(made, out, b, hash, w);
-        settle::add_word(coeffs, row, c, w as u32);
+        settle::add_word(coeffs, row, c, width);
         return;
     }
-    let row = made[4];
+    let row = made.rows;
     made::create_masked(made, out, b, hash, m, w);
-    settle::add_word(coeffs, row, c, w as u32);
+    settle::add_word(coeffs, row, c, width);
 }
 
 // The new terms: the first `count` coefficients with their bits.
@@ -139,7 +123,7 @@ pub fn put_carried(
     b: &[u8],
     hash: u64,
     w: u8,
-    made: &mut [u64],
+    made: &mut Made,
     coeffs: &mut [u64],
     out: &mut [u8],
 )
@@ -149,9 +133,7 @@ pub fn put_carried(
         made.old out.old coeffs.old
         made.new out.new coeffs.new }
 {
-    let mut k = 0;
-    while k < count {
+    for k in 0..count {
         put_term(carried[k], bits[k], b, hash, w, made, coeffs, out);
-        k += 1;
     }
 }

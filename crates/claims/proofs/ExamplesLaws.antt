@@ -29,7 +29,7 @@ use Rattle.semilinear.specs.Valid.{is_semilinear, length_refused}
 use Rattle.semilinear.specs.DecodeForm.{has_term, coeff_at, after_term, row_at, rows_f, rows_of, decode_form}
 use Rattle.semilinear.specs.DecodeForm.{retired_rows}
 use Rattle.compaction.specs.Compact.{used_rows, compact_form, compact_atom_table}
-use Rattle.group.specs.Group.{at, put_entry, empty_group, push_entry, is_live, consumed, work, on_group}
+use Rattle.group.specs.Group.{first_entries, at, put_entry, empty_group, push_entry, is_live, consumed, work, on_group}
 use Rattle.made.specs.Rows.{create_row}
 use Rattle.made.specs.Rows.{masked_tree, create_masked}
 use Rattle.views.specs.Grouping.{view_row, any_basis, variable_basis, insert_basis, bases_of}
@@ -75,7 +75,7 @@ opened : Unit {0}
 unfolding count_trailing_zeros ones_in bit_at effective_mask reduce_mask can_change_coefficient_to bitmask mod_add mod_sub
     mod_mul mod_neg eq_list size_of record_bytes variable_bytes encode mix_hash tag_hash var_hash structural_hash has_kind is_arith
     has_arith unary binary value next_var support_f support same_vars under_mask decompose_and decompose_atom
-    term_count atom_bytes atoms_bytes term_bytes terms_bytes sum_bytes encode_form eq_tree tree_records fits_table at put_entry
+    term_count atom_bytes atoms_bytes term_bytes terms_bytes sum_bytes encode_form eq_tree tree_records fits_table first_entries at put_entry
     empty_group push_entry is_live consumed work on_group create_row masked_tree create_masked view_row any_basis variable_basis
     insert_basis bases_of group_of ungrouped add_coeff settle_at settle turns_f for_in first_f first_in form_outcome limit_outcome
     join_collected collect_atom collect_constant is_not operand collect_not is_masked_not collect_and and_coeff collect_masked

@@ -8,16 +8,15 @@ use lib.ListN.{length, get_or, take}
 use Rattle.record.specs.Tree.{IsBytes}
 use Rattle.base.specs.Put.{padded}
 use Rattle.base.proofs.PutLaws.{take_padded}
-use Rattle.semilinear.specs.declared.outcome.Answer.{Answer}
 use Rattle.base.specs.Outcome.{Outcome, accepted, refused, numbers_of, written_of}
-use Rattle.semilinear.specs.Answers.{GivesForm}
+use Rattle.semilinear.specs.Answers.{InNumbers, GivesNumbers}
 use Rattle.normalizer_laws.specs.Normalize.{normalize_to_semilinear}
 use Rattle.normalizer_laws.proofs.NormalizeLaws.{normalize_form, normalize_value}
 use Rattle.normalizer_laws.proofs.UsedLaws.{used_normalize}
 use Rattle.claims.specs.Normalized.{FormOf}
 
-module _ (s : List ℕ) (h : IsBytes s) (len : ℕ) (r : Answer) (out : List ℕ)
-    (given : GivesForm (normalize_to_semilinear s len) len r out) (zero : r.refusal ≡ 0) where
+module _ (s : List ℕ) (h : IsBytes s) (len : ℕ) (r : InNumbers) (out : List ℕ)
+    (given : GivesNumbers (normalize_to_semilinear s len) len r out) (zero : r.refusal ≡ 0) where
   -- the numbers beside the refusal, by the outcome
   numbers_of_lem : {o : Outcome} → normalize_to_semilinear s len ≡ o
       → (r.used ≡ get_or (take 3 (numbers_of 3 o)) 0 0) × (r.terms ≡ get_or (take 3 (numbers_of 3 o)) 1 0)

@@ -6,11 +6,13 @@ use native.Mathlib.Omega.{arith}
 use native.Mathlib.Decide.{dec_lt}
 use native.Mathlib.Nat.{mul-le-mul_right, zero-add, suc-add}
 use mathlib.Core.List.{List, [], ◌∷◌, ◌++◌, append_assoc, append-nil}
-use mathlib.Core.Bool.{Bool, true, false}
+use mathlib.Core.Bool.{Bool, true, false, ◌&&◌}
 use lib.ListN.{length, get_or, take, drop, set, replicate, length-append, length-set, get_or-append}
 use lib.Seq.{get_or-append-add, set-append_left}
 use lib.Bits.{bit_or}
 use lib.Pow.{shl_exact}
+use lib.Dec.{eqb}
+use lib.Pointwise.{pointwise}
 use Rattle.base.specs.Choice.{when}
 use Rattle.base.specs.Lists.{eq_list}
 use Rattle.base.specs.Put.{padded}
@@ -34,6 +36,14 @@ pub profile_read : (q out : List ℕ) (j from : ℕ) {b : Bool} → from ≡ j *
 profile_read q out j from e h =
     let n : length q ≡ from + length q - from = omega arith in
     sym (h ∙ rw (← n, e))
+
+-- `==` on slices is `eq_list`
+pub same_slices : (l m : List ℕ) → pointwise eqb l m ≡ eq_list l m
+unfolding eq_list
+same_slices [] [] = refl
+same_slices [] (y ∷ m) = refl
+same_slices (x ∷ l) [] = refl
+same_slices (x ∷ l) (y ∷ m) = ap (λ (b : Bool). eqb x y && b) (same_slices l m)
 
 pub one_shl : (p : ℕ) → p < 64 → 1 * 2 ^ p % 2 ^ 64 ≡ 2 ^ p
 one_shl p h = shl_exact 1 p 64 (omega arith) (omega arith) ∙ omega arith

@@ -1,45 +1,25 @@
-// The classes in the words of the result: for each its mask, then its profile.
+// The classes in the words of the result: for each its mask, then its profile. They stay words at
+// computed places: the C interface fixes the result slice.
 #![tactic(auto)]
 
-ghost use Rattle.std.specs.Prelude.{◌≡◌, ℕ, ◌+◌, ◌*◌, ◌<◌, ◌≤◌, length};
-ghost use Rattle.base.specs.Lists.{eq_list};
+ghost use Rattle.std.specs.Prelude.{MatchOption, ◌≡◌, ℕ, ◌+◌, ◌*◌, ◌<◌, ◌≤◌, length};
 ghost use Rattle.base.specs.Loop.{first_in};
 ghost use Rattle.partition_laws.specs.Classes.{has_profile, add_place, Joins};
 
-// Whether a and b hold the same words.
-fn same_words(a: &[u64], b: &[u64]) -> bool
-    ensures { result ≡ eq_list a.now b.now }
-{
-    if a.len() != b.len() {
-        return false;
-    }
-    let mut i = 0;
-    while i < a.len() {
-        if a[i] != b[i] {
-            return false;
-        }
-        i += 1;
-    }
-    true
-}
-
-// The first of k classes with this profile, or k.
-fn find_class(profile: &[u64], k: usize, out: &[u64]) -> usize
+// The first of k classes with this profile.
+fn find_class(profile: &[u64], k: usize, out: &[u64]) -> Option<usize>
     requires { k * (length profile.now + 1) ≤ length out.now }
-    ensures { result ≡ first_in (has_profile out.now profile.now) 0 k }
+    ensures { MatchOption result (first_in (has_profile out.now profile.now) 0 k ≡ k)
+        (λ j. (j ≡ first_in (has_profile out.now profile.now) 0 k) × (j < k)) }
 {
     let n = profile.len();
-    let mut from = 1;
-    let mut j = 0;
-    while j < k {
-        let to = from + n;
-        if same_words(&out[from..to], profile) {
-            return j;
+    for j in 0..k {
+        let from = j * (n + 1) + 1;
+        if &out[from..from + n] == profile {
+            return Some(j);
         }
-        from = to + 1;
-        j += 1;
     }
-    k
+    None
 }
 
 // Place p is put into the class whose words start at index `at`.
@@ -56,13 +36,13 @@ pub fn join_class(profile: &[u64], p: u32, k: usize, out: &mut [u64]) -> usize
     requires { ((k + 1) * (length profile.now + 1) ≤ length out.old) × (p < 64) }
     ensures { Joins p profile.now out.old k out.new result }
 {
-    let class = find_class(profile, k, out);
-    let at = class * (profile.len() + 1);
-    if class < k {
-        add_place(at, p, out);
+    let width = profile.len() + 1;
+    if let Some(class) = find_class(profile, k, out) {
+        add_place(class * width, p, out);
         return class;
     }
-    base::write::put_words(out, at, &[1 << p]);
-    base::write::put_words(out, at + 1, profile);
-    class
+    let at = k * width;
+    base::write::put(out, at, &[1 << p]);
+    base::write::put(out, at + 1, profile);
+    k
 }

@@ -1,5 +1,6 @@
 -- Laws of a group coalesced in turn (specs/Coalescing.antt): it is settled or rewritten, and the groups follow each other.
-use mathlib.Core.Path.{◌≡◌, refl, ap, sym, subst, ◌∙◌}
+use Rattle.made.specs.declared.Made.{Made}
+use mathlib.Core.Path.{◌≡◌, refl, ap, sym, subst, ◌∙◌, ap₂}
 use Prim.Native.Nat.{ℕ, ◌+◌, ◌≤◌, ◌<◌}
 use native.Mathlib.Omega.{arith}
 use mathlib.Core.List.{List, [], ◌∷◌}
@@ -7,18 +8,19 @@ use mathlib.Core.Bool.{false, ◌||◌}
 use lib.ListN.{length, drop}
 use lib.Dec.{ltb, leb}
 use borrow.Author.Tests.{lt-ltb, le-ltb, le-leb, lt-leb}
+use Rattle.std.specs.Prelude.{Option}
 use Rattle.record.specs.Tree.{Tree}
 use Rattle.base.proofs.LoopLaws.{when_both}
 use Rattle.semilinear.specs.Form.{Row, fits_table}
 use Rattle.group.specs.declared.Group.{Group}
-use Rattle.group.specs.Group.{at, empty_group, group_of, settle}
+use Rattle.group.specs.Group.{Entry, used, at, empty_group, group_of, settle}
 use Rattle.views.specs.Grouping.{variable_basis}
 use Rattle.made.specs.Made.{Room}
 use Rattle.views.specs.declared.View.{View}
 use Rattle.group.specs.Gathered.{gathered, add_word, settle_words}
 use Rattle.lone.specs.Lone.{lone_group}
 use Rattle.group.proofs.GatherLaws.{gathered_atoms}
-use Rattle.group.proofs.SettleWordsLaws.{length_settle}
+use Rattle.group.proofs.SettleWordsLaws.{length_words}
 use Rattle.group.proofs.ShownLaws.{settle_fits, settle_length, shown_settle}
 use Rattle.group.specs.Turns.{in_turn, EachAllowed}
 use Rattle.group.proofs.TurnsLaws as turns
@@ -34,7 +36,7 @@ use Rattle.carried.proofs.NewTermsLaws.{rows_past, rows_longer, coalesced_as}
 
 module _ (w : ℕ) (t : Tree) (g : Group) where
   abbrev own : List Carried
-  own = carried_of w g.coeffs g.masks g.len
+  own = carried_of w (used g)
 
   abbrev entries : ℕ
   entries = length own
@@ -73,21 +75,20 @@ module _ (w : ℕ) (t : Tree) (g : Group) where
 
     pub carried_count : r ≤ 64
     unfolding carried_of
-    carried_count = omega (arith, count_is, carried_few w g.coeffs g.masks g.len w)
+    carried_count = omega (arith, count_is, carried_few w (used g) w)
 
-  module _ (made out coeffs : List ℕ) (hw : w ≤ 64) (n : ℕ) (below : (k : ℕ) → k < g.len → (at g k).atom < n)
+  module _ (made : Made) (out coeffs : List ℕ) (hw : w ≤ 64) (n : ℕ) (below : (k : ℕ) → k < g.len → (at g k).atom < n)
       (room : Room made out) where
     -- the group is settled
-    settled_turn : {coeffs' : List ℕ} → coeffs' ≡ settle_words w g.coeffs g.atoms g.marks g.len coeffs
+    settled_turn : {coeffs' : List ℕ} → coeffs' ≡ settle_words w (used g) coeffs
         → ((l : List Row) → coalesce_group w t g l ≡ settle w g l)
         → Coalesced w n 64 (coalesce_group w t g) made out coeffs made out coeffs'
-    unfolding settle_words
     settled_turn e is =
         record {
           room = room;
           rows_le = omega arith;
           long = refl;
-          wide = ap length e ∙ length_settle w g.coeffs g.atoms g.marks g.len coeffs;
+          wide = ap length e ∙ length_words w (used g) coeffs;
           shows = λ l le s.
               rw (is l)
               (record {
@@ -98,18 +99,18 @@ module _ (w : ℕ) (t : Tree) (g : Group) where
               });
         }
 
-    pub short_turn : {coeffs' : List ℕ} → coeffs' ≡ settle_words w g.coeffs g.atoms g.marks g.len coeffs
+    pub short_turn : {coeffs' : List ℕ} → coeffs' ≡ settle_words w (used g) coeffs
         → g.len < 2 → Coalesced w n 64 (coalesce_group w t g) made out coeffs made out coeffs'
     short_turn e h = settled_turn e (short_settled h)
 
     module _ (two : 2 ≤ g.len) {carried₀ bits₀ carried bits : List ℕ} {r : ℕ}
         (c : IsCarried own carried₀ bits₀ carried bits r) where
-      pub many_turn : {coeffs' : List ℕ} → coeffs' ≡ settle_words w g.coeffs g.atoms g.marks g.len coeffs
+      pub many_turn : {coeffs' : List ℕ} → coeffs' ≡ settle_words w (used g) coeffs
           → g.len ≤ r → Coalesced w n 64 (coalesce_group w t g) made out coeffs made out coeffs'
       many_turn e h = settled_turn e (many_settled two (omega (arith, count_is hw c, h)))
 
       -- or rewritten
-      pub rewritten_turn : r < g.len → {made' out' coeffs' : List ℕ}
+      pub rewritten_turn : r < g.len → {made' : Made} {out' coeffs' : List ℕ}
           → Coalesced w 0 r (carried_rows w t (carried_in r carried bits)) made out coeffs made' out' coeffs'
           → Coalesced w n 64 (coalesce_group w t g) made out coeffs made' out' coeffs'
       rewritten_turn h p =
@@ -118,13 +119,13 @@ module _ (w : ℕ) (t : Tree) (g : Group) where
           ∙ sym (rewritten two (omega (arith, count_is hw c, h)) l)) p
 
 -- the group that was gathered
-module _ (f views : List ℕ) (hash : ℕ) (b : List ℕ) (n : ℕ) {g : Group} (e : g ≡ gathered f views hash b n)
+module _ (f : List ℕ) (views : List (Option View)) (hash : ℕ) (b : List ℕ) (n : ℕ) {g : Group} (e : g ≡ gathered f views hash b n)
     (most : n ≤ 256) where
   pub atoms_below : (k : ℕ) → k < g.len → (at g k).atom < n
   atoms_below = rw e (gathered_atoms f views hash b n most)
 
   -- where it is that of one row alone, its coefficient is added to that row
-  module _ (w : ℕ) (t : Tree) (v : View) (i : ℕ) (hw : w ≤ 64) {made out coeffs coeffs' : List ℕ} where
+  module _ (w : ℕ) (t : Tree) (v : View) (i : ℕ) (hw : w ≤ 64) {made : Made} {out coeffs coeffs' : List ℕ} where
     pub lone_turn : Room made out → g ≡ lone_group v i → coeffs' ≡ add_word w v.coeff i coeffs
         → Coalesced w n 64 (coalesce_group w t g) made out coeffs made out coeffs'
     lone_turn room lone p =
@@ -132,12 +133,20 @@ module _ (f views : List ℕ) (hash : ℕ) (b : List ℕ) (n : ℕ) {g : Group} 
         short_turn w t g made out coeffs hw n atoms_below room
         (p
         ∙ sym (settle_lone v i w coeffs)
-        ∙ ap (λ (q : Group). settle_words w q.coeffs q.atoms q.marks 1 coeffs) (sym lone)
-        ∙ ap (λ (k : ℕ). settle_words w g.coeffs g.atoms g.marks k coeffs) (sym one))
+        ∙ ap (λ (q : Group). settle_words w (used q) coeffs) (sym lone))
         (omega (arith, one))
 
+-- what is known of lent entries is known of the group
+module _ {w v : ℕ} {es : List Entry} (g : Group) (ew : v ≡ w) (ee : es ≡ used g) where
+  pub carried_at : {carried₀ bits₀ carried bits : List ℕ} {r : ℕ}
+      → IsCarried (carried_of v es) carried₀ bits₀ carried bits r → IsCarried (carried_of w (used g)) carried₀ bits₀ carried bits r
+  carried_at h = rw (ew, ee) at h
+
+  pub settled_at : (coeffs : List ℕ) → settle_words v es coeffs ≡ settle_words w (used g) coeffs
+  settled_at coeffs = ap₂ (λ (k : ℕ) (l : List Entry). settle_words k l coeffs) ew ee
+
 -- the same of the group by its name
-pub coalesced_of : (w m n : ℕ) (t : Tree) {g h : Group} {made out coeffs made' out' coeffs' : List ℕ} → g ≡ h
+pub coalesced_of : (w m n : ℕ) (t : Tree) {g h : Group} {made : Made} {out coeffs : List ℕ} {made' : Made} {out' coeffs' : List ℕ} → g ≡ h
     → Coalesced w m n (coalesce_group w t g) made out coeffs made' out' coeffs'
     → Coalesced w m n (coalesce_group w t h) made out coeffs made' out' coeffs'
 coalesced_of w m n t {made = made} {out} {coeffs} {made'} {out'} {coeffs'} e p =
@@ -146,7 +155,7 @@ coalesced_of w m n t {made = made} {out} {coeffs} {made'} {out'} {coeffs'} e p =
 -- ---- the groups in turn
 
 -- at least n rows are shown
-pub record ShowsMany (w n : ℕ) (made out coeffs : List ℕ) (l : List Row) : Type 0 where
+pub record ShowsMany (w n : ℕ) (made : Made) (out coeffs : List ℕ) (l : List Row) : Type 0 where
   pub many : n ≤ length l
   pub shows : Shows w made out coeffs l
 
@@ -159,7 +168,7 @@ abbrev Any : Tree → List Row → Type 0
 Any b l = Unit {0}
 
 -- the loop of group/proofs/TurnsLaws.antt
-abbrev pub Going : (w : ℕ) (before : List Row) (bases : List Tree) (n k : ℕ) (made₀ out₀ coeffs₀ made out coeffs : List ℕ)
+abbrev pub Going : (w : ℕ) (before : List Row) (bases : List Tree) (n k : ℕ) (made₀ : Made) (out₀ coeffs₀ : List ℕ) (made : Made) (out coeffs : List ℕ)
     → Type 0
 Going w before bases n = turns.Going (coalesce_turn w before) Any (ShowsMany w n) 64 bases
 
@@ -174,12 +183,12 @@ module _ (w : ℕ) (hw : w ≤ 64) (before : List Row) where
   any_all [] l = tt
   any_all (b ∷ a) l = (tt, any_all a (coalesce_turn w before b l))
 
-  module _ (bases : List Tree) (n : ℕ) {made₀ out₀ coeffs₀ : List ℕ} where
+  module _ (bases : List Tree) (n : ℕ) {made₀ : Made} {out₀ coeffs₀ : List ℕ} where
     pub all_none : Room made₀ out₀ → Going w before bases n 0 made₀ out₀ coeffs₀ made₀ out₀ coeffs₀
     all_none = turns.turns_start (coalesce_turn w before) Any (ShowsMany w n) 64 bases made₀ out₀ coeffs₀
 
-    module _ (k : ℕ) {made out coeffs : List ℕ} (p : Going w before bases n k made₀ out₀ coeffs₀ made out coeffs) where
-      pub all_next : {b : Tree} {g : Group} {made' out' coeffs' : List ℕ} → drop k bases ≡ b ∷ drop (k + 1) bases
+    module _ (k : ℕ) {made : Made} {out coeffs : List ℕ} (p : Going w before bases n k made₀ out₀ coeffs₀ made out coeffs) where
+      pub all_next : {b : Tree} {g : Group} {made' : Made} {out' coeffs' : List ℕ} → drop k bases ≡ b ∷ drop (k + 1) bases
           → g ≡ group_of variable_basis w b 0 before empty_group
           → Coalesced w n 64 (coalesce_group w b g) made out coeffs made' out' coeffs'
           → Going w before bases n (k + 1) made₀ out₀ coeffs₀ made' out' coeffs'

@@ -1,7 +1,7 @@
 // Coalescing the terms of one variable by the coefficient of each bit.
 #![tactic(auto)]
 
-ghost use Rattle.std.specs.Prelude.{◌≡◌, true, false, [], ◌*◌, length};
+ghost use Rattle.std.specs.Prelude.{◌≡◌, ◌≤◌, true, false, [], ◌*◌, length};
 ghost use Rattle.base.specs.Put.{padded};
 ghost use Rattle.record.specs.Decode.{decode};
 ghost use Rattle.semilinear.specs.Items.{atom_count, after_atoms};
@@ -12,18 +12,19 @@ ghost use Rattle.semilinear.specs.PassOutcome.{limit_outcome};
 ghost use Rattle.views.specs.Grouping.{variable_basis, bases_of};
 ghost use Rattle.views.specs.Views.{view_at, basis_bytes};
 ghost use Rattle.group.specs.Gathered.{gathered};
-ghost use Rattle.group.specs.Ready.{FormReady, RowsReady, AllReady, AtReady, GroupReady};
+ghost use Rattle.group.specs.Ready.{FormReady, AllReady, AtReady, GroupReady};
 ghost use Rattle.structure_laws.specs.CoalesceTerms.{coalesce_group, coalesce_all};
 ghost use Rattle.structure_laws.specs.CoalesceTerms.{coalesce_form, coalesce_terms};
 ghost use Rattle.carried.specs.Coalescing.{Coalesced, RowsCoalesced};
-ghost use Rattle.base.specs.Limits.{atom_limit, form_bytes, group_entries, short_atoms};
+ghost use Rattle.base.specs.Limits.{atom_limit, form_bytes, group_entries};
 
 use atom_table::{pass, read};
 use base::limits;
+use base::refusal::Refusal;
 use group::{Group, settle};
-use semilinear::outcome;
+use made::Made;
 use semilinear::outcome::Answer;
-use views::bases;
+use views::{View, bases};
 
 // One group: the rows, of n, that have the basis b with this hash are gathered, and rewritten where
 // that leaves strictly fewer terms. Where the table is full, what is left to do does not matter.
@@ -31,10 +32,10 @@ fn coalesce_group(
     hash: u64,
     b: &[u8],
     n: usize,
-    views: &[u64],
+    views: &[Option<View>],
     f: &[u8],
     w: u8,
-    made: &mut [u64],
+    made: &mut Made,
     coeffs: &mut [u64],
     out: &mut [u8],
 )
@@ -44,20 +45,19 @@ fn coalesce_group(
         made.old out.old coeffs.old
         made.new out.new coeffs.new }
 {
-    if made[3] == 1 {
+    if made.table.full {
         return;
     }
     let g = Group::gather(n, hash, b, views, f);
-    let len = g.len;
-    if len < 2 {
-        settle::settle(&g.coeffs, &g.atoms, &g.marks, len, coeffs, w as u32);
+    if g.len < 2 {
+        settle::settle(g.used(), coeffs, u32::from(w));
         return;
     }
     let mut carried = [0u64; 64];
     let mut bits = [0u64; 64];
-    let count = carried::carried_of(&g.coeffs, &g.masks, len, w as u32, &mut carried, &mut bits);
-    if len <= count {
-        settle::settle(&g.coeffs, &g.atoms, &g.marks, len, coeffs, w as u32);
+    let count = carried::carried_of(g.used(), u32::from(w), &mut carried, &mut bits);
+    if g.len <= count {
+        settle::settle(g.used(), coeffs, u32::from(w));
         return;
     }
     carried::put_carried(&carried, &bits, count, b, hash, w, made, coeffs, out);
@@ -67,10 +67,10 @@ fn coalesce_group(
 fn coalesce_at(
     first: usize,
     n: usize,
-    views: &[u64],
+    views: &[Option<View>],
     f: &[u8],
     w: u8,
-    made: &mut [u64],
+    made: &mut Made,
     coeffs: &mut [u64],
     out: &mut [u8],
 )
@@ -82,26 +82,25 @@ fn coalesce_at(
         made.old out.old coeffs.old
         made.new out.new coeffs.new }
 {
-    let v = views::VIEW_WORDS * first;
-    let hash = views[v + 1];
-    let start = views[v + 2] as usize;
-    let end = views[v + 3] as usize;
-    if lone::is_lone(first, n, hash, &f[start..end], views, f) {
-        settle::add_word(coeffs, first as u64, views[v], w as u32);
+    let v = views[first].unwrap();
+    let b = &f[v.start..v.end];
+    if lone::is_lone(first, n, v.hash, b, views, f) {
+        settle::add_word(coeffs, first as u64, v.coeff, w as u32);
         return;
     }
-    coalesce_group(hash, &f[start..end], n, views, f, w, made, coeffs, out);
+    coalesce_group(v.hash, b, n, views, f, w, made, coeffs, out);
 }
 
-// The groups in turn; the first `count` of the words in `bases` name their bases.
+// The groups in turn; the first `count` of `bases` name their bases.
+// A twin of refine_all and recover_all (term_refiner says why it is one).
 fn coalesce_all(
     count: usize,
-    bases: &[u64],
+    bases: &[usize],
     n: usize,
-    views: &[u64],
+    views: &[Option<View>],
     f: &[u8],
     w: u8,
-    made: &mut [u64],
+    made: &mut Made,
     coeffs: &mut [u64],
     out: &mut [u8],
 )
@@ -112,77 +111,38 @@ fn coalesce_all(
         made.old out.old coeffs.old
         made.new out.new coeffs.new }
 {
-    let mut k = 0;
-    while k < count {
-        let first = bases[k] as usize;
-        coalesce_at(first, n, views, f, w, made, coeffs, out);
-        k += 1;
+    for first in &bases[..count] {
+        coalesce_at(*first, n, views, f, w, made, coeffs, out);
     }
 }
 
-// The rows of f, whose terms begin at `terms`; `views` and `bases` are room to work in.
-fn coalesce_rows(
+// The rows of f, of at most N atoms, whose terms begin at `terms`.
+fn coalesce_sized<const N: usize>(
     f: &[u8],
     terms: usize,
     w: u8,
-    views: &mut [u64],
-    bases: &mut [u64],
-    made: &mut [u64],
+    made: &mut Made,
     coeffs: &mut [u64],
     out: &mut [u8],
 )
-    requires { RowsReady w f.now terms views.old bases.old coeffs.old made.old out.old }
+    requires { (N ≤ atom_limit) × FormReady w N f.now terms coeffs.old made.old out.old }
     ensures { RowsCoalesced w (read_rows 0 f.now (after_atoms f.now))
         made.old out.old made.new out.new coeffs.new }
 {
-    let n = views::read_views(f, terms, w, true, views, coeffs);
-    let count = bases::find_bases(views, n, f, bases);
-    coalesce_all(count, bases, n, views, f, w, made, coeffs, out);
+    let mut views = [None; N];
+    let mut bases = [0; N];
+    let n = views::read_views(f, terms, w, true, &mut views, coeffs);
+    let count = bases::find_bases(&views, n, f, &mut bases);
+    coalesce_all(count, &bases, n, &views, f, w, made, coeffs, out);
 }
 
-// The same for at most 16 atoms. Most forms are so short, and clearing long arrays costs.
-fn coalesce_short(
-    f: &[u8],
-    terms: usize,
-    w: u8,
-    made: &mut [u64],
-    coeffs: &mut [u64],
-    out: &mut [u8],
-)
-    requires { FormReady w short_atoms f.now terms coeffs.old made.old out.old }
-    ensures { RowsCoalesced w (read_rows 0 f.now (after_atoms f.now))
-        made.old out.old made.new out.new coeffs.new }
-{
-    let mut views = [0u64; views::SHORT_VIEWS];
-    let mut bases = [0u64; limits::SHORT_ATOMS];
-    coalesce_rows(f, terms, w, &mut views, &mut bases, made, coeffs, out);
-}
-
-// The same for at most 256 atoms.
-fn coalesce_long(
-    f: &[u8],
-    terms: usize,
-    w: u8,
-    made: &mut [u64],
-    coeffs: &mut [u64],
-    out: &mut [u8],
-)
-    requires { FormReady w atom_limit f.now terms coeffs.old made.old out.old }
-    ensures { RowsCoalesced w (read_rows 0 f.now (after_atoms f.now))
-        made.old out.old made.new out.new coeffs.new }
-{
-    let mut views = [0u64; views::LONG_VIEWS];
-    let mut bases = [0u64; limits::ATOM_LIMIT];
-    coalesce_rows(f, terms, w, &mut views, &mut bases, made, coeffs, out);
-}
-
-// The same for `count` atoms.
+// The same for `count` atoms. Most forms are short, and clearing long arrays costs.
 fn coalesce_table(
     f: &[u8],
     terms: usize,
     count: u64,
     w: u8,
-    made: &mut [u64],
+    made: &mut Made,
     coeffs: &mut [u64],
     out: &mut [u8],
 )
@@ -192,14 +152,14 @@ fn coalesce_table(
         made.old out.old made.new out.new coeffs.new }
 {
     if count <= limits::SHORT_ATOMS_U64 {
-        coalesce_short(f, terms, w, made, coeffs, out);
+        coalesce_sized::<{ limits::SHORT_ATOMS }>(f, terms, w, made, coeffs, out);
         return;
     }
-    coalesce_long(f, terms, w, made, coeffs, out);
+    coalesce_sized::<{ limits::ATOM_LIMIT }>(f, terms, w, made, coeffs, out);
 }
 
 // Coalesces a form into a slice of 57,360 bytes, which is all zeros.
-fn coalesce_form(s: &[u8], out: &mut [u8]) -> Answer
+fn coalesce_form(s: &[u8], out: &mut [u8]) -> Result<Answer, Refusal>
     requires { (is_semilinear s.now ≡ true) × (out.old ≡ padded form_bytes []) }
     ensures { GivesForm (limit_outcome (coalesce_form (read_form s.now)) false) form_bytes result out.new }
 {
@@ -208,7 +168,11 @@ fn coalesce_form(s: &[u8], out: &mut [u8]) -> Answer
     let tab = pass::copy_atoms(s, out);
     let terms = tab.at;
     let count = tab.count;
-    let mut made = [terms as u64, count, tab.records, 0, count, constant];
+    let mut made = Made {
+        table: tab,
+        rows: count,
+        constant,
+    };
     let mut coeffs = [0u64; limits::ATOM_LIMIT];
     coalesce_table(
         record::body(s),
@@ -219,17 +183,15 @@ fn coalesce_form(s: &[u8], out: &mut [u8]) -> Answer
         &mut coeffs,
         out,
     );
-    pass::finish(made::load(&made), &coeffs, 1, constant, w, false, out)
+    pass::finish(made.table, &coeffs, 1, constant, w, false, out)
 }
 
 // The form s with its terms coalesced, written to out; or a refusal: 1, 2, 9 or 10.
-pub fn coalesce_terms(s: &[u8], out: &mut [u8]) -> Answer
+// Each pass has its own such function: two lines, and a clause of its own.
+pub fn coalesce_terms(s: &[u8], out: &mut [u8]) -> Result<Answer, Refusal>
     ensures { GivesForm (coalesce_terms s.now (length out.old))
         (length out.old) result out.new }
 {
-    let number = read::open_bytes(s, out);
-    if number != 0 {
-        return outcome::refusal(number);
-    }
+    read::open_bytes(s, out)?;
     coalesce_form(s, out)
 }

@@ -1,20 +1,20 @@
 -- Laws of the links between entries (specs/Links.antt): how they are put, from the last entry down.
 use mathlib.Core.Path.{◌≡◌, ap, sym, subst, ◌∙◌}
-use Prim.Native.Nat.{ℕ, ◌+◌, ◌-◌, ◌/◌, ◌^◌, ◌≤◌, ◌<◌}
+use Prim.Native.Nat.{ℕ, ◌+◌, ◌/◌, ◌^◌, ◌≤◌, ◌<◌}
 use native.Mathlib.Omega.{arith}
 use native.Mathlib.Decide.{ℕ_discrete}
 use mathlib.Core.List.{List}
-use mathlib.Core.Bool.{true, false, not}
+use mathlib.Core.Bool.{true, false}
 use lib.ListN.{length, get_or, set, replicate, get_or-replicate}
 use lib.Seq.{get_or-set_same, get_or-set_other}
 use lib.Bits.{bit_and, bit_xor, and_mask}
-use lib.Dec.{eqb}
 use borrow.Author.Tests.{eq-eqb, ne_eqb}
 use Rattle.base.specs.Loop.{first_in}
 use Rattle.base.proofs.BoolLaws.{false_true}
 use Rattle.base.proofs.LoopLaws.{first_le, first_next, first_here, first_end}
 use Rattle.group.specs.declared.Group.{Group}
-use Rattle.collapse_search.specs.Links.{fold_of, apart_of, apart_at, link_fits, Linked}
+use Rattle.group.specs.Group.{at}
+use Rattle.collapse_search.specs.Links.{fold_of, apart_at, link_fits, Linked}
 
 fold_lt : (c : ℕ) → fold_of c < 1024
 unfolding fold_of
@@ -29,17 +29,6 @@ fold_lt c =
 pub fold_below : {h : ℕ} (c : ℕ) → h ≡ fold_of c → h < 1024
 fold_below c e = rw e (fold_lt c)
 
--- ---- the ways through `apart`
-
-module _ (u m p : ℕ) where
-  pub apart_shared : (bit_and m p ≡ 0 → ⊥) → false ≡ apart_of u m p
-  unfolding apart_of
-  apart_shared h = simp (ne_eqb (bit_and m p) 0 h)
-
-  pub apart_live : bit_and m p ≡ 0 → not (eqb u 1) ≡ apart_of u m p
-  unfolding apart_of
-  apart_live h = sym (simp (eq-eqb (bit_and m p) 0 h))
-
 -- ---- the links are put
 
 module _ (g : Group) (m : ℕ) where
@@ -47,13 +36,13 @@ module _ (g : Group) (m : ℕ) where
   unfolding link_fits
   link_none h k e = simp e
 
-  link_here : (h k : ℕ) → apart_at g m k ≡ true → h ≡ fold_of (get_or g.coeffs k 0) → link_fits g m h k ≡ true
+  link_here : (h k : ℕ) → apart_at g m k ≡ true → h ≡ fold_of (at g k).coeff → link_fits g m h k ≡ true
   unfolding link_fits
-  link_here h k e f = simp (e, eq-eqb (fold_of (get_or g.coeffs k 0)) h (sym f))
+  link_here h k e f = simp (e, eq-eqb (fold_of (at g k).coeff) h (sym f))
 
-  link_other : (h k : ℕ) → (fold_of (get_or g.coeffs k 0) ≡ h → ⊥) → apart_at g m k ≡ true → link_fits g m h k ≡ false
+  link_other : (h k : ℕ) → (fold_of (at g k).coeff ≡ h → ⊥) → apart_at g m k ≡ true → link_fits g m h k ≡ false
   unfolding link_fits
-  link_other h k f e = simp (e, ne_eqb (fold_of (get_or g.coeffs k 0)) h f)
+  link_other h k f e = simp (e, ne_eqb (fold_of (at g k).coeff) h f)
 
   pub linked_none : {a : ℕ} → a ≡ g.len → {first next : List ℕ} → first ≡ replicate 1024 g.len
       → Linked g m a first next
@@ -80,11 +69,11 @@ module _ (g : Group) (m : ℕ) where
         }
       where
         go : (x : ℕ) → k ≤ x → x < g.len → apart_at g m x ≡ true → Dec (x ≡ k)
-            → get_or next x 0 ≡ first_in (link_fits g m (fold_of (get_or g.coeffs x 0))) (x + 1) g.len
+            → get_or next x 0 ≡ first_in (link_fits g m (fold_of (at g x).coeff)) (x + 1) g.len
         go x le u a (yes q) = false_true (sym e ∙ ap (apart_at g m) (sym q) ∙ a)
         go x le u a (no q) = p.links x (omega arith) u a
 
-    pub linked_put : {h : ℕ} → h ≡ fold_of (get_or g.coeffs k 0) → apart_at g m k ≡ true → length first ≡ 1024
+    pub linked_put : {h : ℕ} → h ≡ fold_of (at g k).coeff → apart_at g m k ≡ true → length first ≡ 1024
         → k < length next → Linked g m k (set first h k) (set next k (get_or first h 0))
     linked_put {h} f e lf ln =
         record {
@@ -93,7 +82,7 @@ module _ (g : Group) (m : ℕ) where
         }
       where
         lh : h < 1024
-        lh = fold_below (get_or g.coeffs k 0) f
+        lh = fold_below (at g k).coeff f
 
         head : (x : ℕ) → x < 1024 → Dec (x ≡ h) → get_or (set first h k) x 0 ≡ first_in (link_fits g m x) k g.len
         head x u (yes q) =
@@ -110,7 +99,7 @@ module _ (g : Group) (m : ℕ) where
 
         link : (x : ℕ) → k ≤ x → x < g.len → apart_at g m x ≡ true → Dec (x ≡ k)
             → get_or (set next k (get_or first h 0)) x 0
-            ≡ first_in (link_fits g m (fold_of (get_or g.coeffs x 0))) (x + 1) g.len
+            ≡ first_in (link_fits g m (fold_of (at g x).coeff)) (x + 1) g.len
         link x le u a (yes q) =
             rw q
             (get_or-set_same next k (get_or first h 0) 0 ln

@@ -1,13 +1,13 @@
 -- Laws of the search for the third entry of a collapse along the links (specs/Links.antt).
 use mathlib.Core.Path.{◌≡◌, refl, ap, sym, ◌∙◌}
-use Prim.Native.Nat.{ℕ, ◌+◌, ◌-◌, ◌≤◌, ◌<◌}
+use Prim.Native.Nat.{ℕ, ◌+◌, ◌≤◌, ◌<◌}
 use native.Mathlib.Omega.{arith}
 use mathlib.Core.List.{List}
 use mathlib.Core.Bool.{Bool, true, false, not, ◌&&◌}
 use lib.ListN.{get_or}
 use lib.Bits.{bit_and}
 use lib.Dec.{eqb}
-use borrow.Author.Tests.{eq-eqb, ne_eqb, eqb-true}
+use borrow.Author.Tests.{eq-eqb, eqb-true}
 use Rattle.arith.specs.Width.{mod_add}
 use Rattle.base.specs.Loop.{first_in}
 use Rattle.base.proofs.BoolLaws.{and_true}
@@ -18,26 +18,6 @@ use Rattle.group.specs.Collapse.{third_fits, find_third}
 use Rattle.collapse_search.specs.Links.{fold_of, apart_of, apart_at, link_fits, Linked, rest_of, third_in}
 use Rattle.group.proofs.SearchLaws.{first_implied}
 use Rattle.collapse_search.proofs.LinksLaws.{fold_below}
-
--- the ways through `third_fits`
-module _ (k i j d c m p : ℕ) where
-  pub rest_coeff : (d ≡ c → ⊥) → false ≡ rest_of k i j d c m p
-  unfolding rest_of
-  rest_coeff h = simp (ne_eqb d c h)
-
-  module _ (hd : d ≡ c) where
-    pub rest_shared : (bit_and m p ≡ 0 → ⊥) → false ≡ rest_of k i j d c m p
-    unfolding rest_of
-    rest_shared h = simp (eq-eqb d c hd, ne_eqb (bit_and m p) 0 h)
-
-    module _ (hp : bit_and m p ≡ 0) where
-      pub rest_first : k ≡ i → false ≡ rest_of k i j d c m p
-      unfolding rest_of
-      rest_first h = simp (eq-eqb d c hd, eq-eqb (bit_and m p) 0 hp, eq-eqb k i h)
-
-      pub rest_second : (k ≡ i → ⊥) → not (eqb k j) ≡ rest_of k i j d c m p
-      unfolding rest_of
-      rest_second h = sym (simp (eq-eqb d c hd, eq-eqb (bit_and m p) 0 hp, ne_eqb k i h))
 
 -- the definition's tests in the code's order
 rest_order : (a b e y : Bool) → (not a && (not b && (e && y))) ≡ (e && (y && (not a && not b)))
@@ -54,21 +34,21 @@ rest_order false false true true = refl
 module _ (w : ℕ) (g : Group) (i j : ℕ) where
   -- the mask of i, and the sum of the coefficients
   abbrev mask_of : ℕ → ℕ
-  mask_of k = get_or g.masks k 0
+  mask_of k = (at g k).mask
 
   abbrev sum : ℕ
-  sum = mod_add (get_or g.coeffs i 0) (get_or g.coeffs j 0) w
+  sum = mod_add (at g i).coeff (at g j).coeff w
 
   -- a third entry is linked at the fold of the sum
   third_linked : (k : ℕ) → third_fits w g i j k ≡ true → link_fits g (mask_of i) (fold_of sum) k ≡ true
-  unfolding third_fits link_fits apart_of is_live at
+  unfolding third_fits link_fits apart_of
   third_linked k t =
       let p = and_true (not (eqb k i)) _ t in
       let q = and_true (not (eqb k j)) _ p.1 in
-      let r = and_true (not (eqb (get_or g.marks k 0) 1)) _ q.1 in
-      let s = and_true (eqb (get_or g.coeffs k 0) sum) _ r.1 in
+      let r = and_true (is_live (at g k)) _ q.1 in
+      let s = and_true (eqb (at g k).coeff sum) _ r.1 in
       let u = and_true (eqb (bit_and (mask_of i) (mask_of k)) 0) _ s.1 in
-      simp (r.0, u.0, eq-eqb (fold_of (get_or g.coeffs k 0)) (fold_of sum) (ap fold_of (eqb-true _ _ s.0)))
+      simp (r.0, u.0, eq-eqb (fold_of (at g k).coeff) (fold_of sum) (ap fold_of (eqb-true _ _ s.0)))
 
   pub third_apart : (k : ℕ) → third_fits w g i j k ≡ true → apart_at g (mask_of i) k ≡ true
   unfolding link_fits
@@ -76,29 +56,29 @@ module _ (w : ℕ) (g : Group) (i j : ℕ) where
 
   -- what is left to ask of a linked entry
   third_rest : (k : ℕ) → apart_at g (mask_of i) k ≡ true
-      → third_fits w g i j k ≡ rest_of k i j (get_or g.coeffs k 0) sum (mask_of j) (mask_of k)
-  unfolding third_fits apart_of rest_of is_live at
+      → third_fits w g i j k ≡ rest_of k i j (at g k) sum (mask_of j)
+  unfolding third_fits apart_of rest_of
   third_rest k e =
-      let p = and_true (eqb (bit_and (mask_of i) (mask_of k)) 0) (not (eqb (get_or g.marks k 0) 1)) e in
+      let p = and_true (eqb (bit_and (mask_of i) (mask_of k)) 0) (is_live (at g k)) e in
       rw (p.0, p.1)
-      (rest_order (eqb k i) (eqb k j) (eqb (get_or g.coeffs k 0) sum) (eqb (bit_and (mask_of j) (mask_of k)) 0))
+      (rest_order (eqb k i) (eqb k j) (eqb (at g k).coeff sum) (eqb (bit_and (mask_of j) (mask_of k)) 0))
 
-  pub third_dead : get_or g.marks j 0 ≡ 1 → g.len ≡ third_in w g i j
-  unfolding third_in is_live at
-  third_dead e = simp (eq-eqb (get_or g.marks j 0) 1 e)
+  pub third_dead : is_live (at g j) ≡ false → g.len ≡ third_in w g i j
+  unfolding third_in
+  third_dead e = sym (simp e)
 
-  third_live : (get_or g.marks j 0 ≡ 1 → ⊥) → third_in w g i j ≡ find_third w g i j
-  unfolding third_in is_live at
-  third_live e = simp (ne_eqb (get_or g.marks j 0) 1 e)
+  third_live : is_live (at g j) ≡ true → third_in w g i j ≡ find_third w g i j
+  unfolding third_in
+  third_live e = simp e
 
 -- the search for a third entry has come to k, along the links of the fold h
 pub record Chased (w : ℕ) (g : Group) (i j h k : ℕ) : Type 0 where
   pub within : k ≤ g.len
   pub rest : third_in w g i j ≡ first_in (third_fits w g i j) k g.len
-  pub sum_fold : h ≡ fold_of (mod_add (get_or g.coeffs i 0) (get_or g.coeffs j 0) w)
-  pub linked : k < g.len → link_fits g (get_or g.masks i 0) h k ≡ true
+  pub sum_fold : h ≡ fold_of (mod_add (at g i).coeff (at g j).coeff w)
+  pub linked : k < g.len → link_fits g (at g i).mask h k ≡ true
 
-module _ (w : ℕ) (g : Group) (i j : ℕ) {first next : List ℕ} (p : Linked g (get_or g.masks i 0) 0 first next) where
+module _ (w : ℕ) (g : Group) (i j : ℕ) {first next : List ℕ} (p : Linked g (at g i).mask 0 first next) where
   -- the search from a on goes on at the first linked entry
   chase_from : {h k : ℕ} (a : ℕ) → a ≤ g.len → h ≡ fold_of (sum w g i j)
       → third_in w g i j ≡ first_in (third_fits w g i j) a g.len
@@ -114,7 +94,7 @@ module _ (w : ℕ) (g : Group) (i j : ℕ) {first next : List ℕ} (p : Linked g
         linked = λ l. ap links q ∙ first_true links a g.len (rw (← q) l);
       }
 
-  pub chase_start : {c h k : ℕ} → (get_or g.marks j 0 ≡ 1 → ⊥) → c ≡ sum w g i j → h ≡ fold_of c → k ≡ get_or first h 0
+  pub chase_start : {c h k : ℕ} → is_live (at g j) ≡ true → c ≡ sum w g i j → h ≡ fold_of c → k ≡ get_or first h 0
       → Chased w g i j h k
   unfolding find_third
   chase_start {c} {h} live e f q =
@@ -124,7 +104,7 @@ module _ (w : ℕ) (g : Group) (i j : ℕ) {first next : List ℕ} (p : Linked g
 
   module _ {h k : ℕ} (s : Chased w g i j h k) (l : k < g.len) where
     -- what the link says
-    parts : (apart_at g (mask_of w g i j i) k ≡ true) × (eqb (fold_of (get_or g.coeffs k 0)) h ≡ true)
+    parts : (apart_at g (mask_of w g i j i) k ≡ true) × (eqb (fold_of (at g k).coeff) h ≡ true)
     unfolding link_fits
     parts = and_true (apart_at g (mask_of w g i j i) k) _ (s.linked l)
 
@@ -140,11 +120,11 @@ module _ (w : ℕ) (g : Group) (i j : ℕ) {first next : List ℕ} (p : Linked g
     chase_less = omega (arith, next_is, first_from (link_fits g (mask_of w g i j i) h) (k + 1) g.len)
 
     module _ {b : Bool} {c : ℕ} (e : c ≡ sum w g i j)
-        (t : b ≡ rest_of k i j (get_or g.coeffs k 0) c (get_or g.masks j 0) (get_or g.masks k 0)) where
+        (t : b ≡ rest_of k i j (at g k) c (at g j).mask) where
       fits_is : third_fits w g i j k ≡ b
       fits_is =
           third_rest w g i j k parts.0
-          ∙ ap (λ (x : ℕ). rest_of k i j (get_or g.coeffs k 0) x (get_or g.masks j 0) (get_or g.masks k 0)) (sym e)
+          ∙ ap (λ (x : ℕ). rest_of k i j (at g k) x (at g j).mask) (sym e)
           ∙ sym t
 
       pub chase_here : b ≡ true → k ≡ third_in w g i j

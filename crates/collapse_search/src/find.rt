@@ -1,20 +1,20 @@
 // The three entries of a collapse.
-ghost use Rattle.std.specs.Prelude.{◌+◌, ◌<◌, ◌≤◌};
+ghost use Rattle.std.specs.Prelude.{◌<◌, ◌≤◌, length};
 ghost use Rattle.collapse_search.specs.Links.{lent, FoundTwo, FoundThree};
 ghost use Rattle.base.specs.Limits.{group_entries};
 
 use crate::links;
 use base::limits;
-use entries::CONSUMED;
+use entries::Entry;
 
-// The second and the third entry of a collapse; the group's length where there is none.
+// The second and the third entry of a collapse.
 #[derive(Drop)]
 pub struct Two {
     pub second: usize,
     pub third: usize,
 }
 
-// The three entries of a collapse; the group's length where there are none.
+// The three entries of a collapse.
 #[derive(Drop)]
 pub struct Three {
     pub first: usize,
@@ -23,87 +23,43 @@ pub struct Three {
 }
 
 // The first entry after i that has a third, and its first third entry.
-pub fn find_second<'a>(
-    coeffs: &'a [u64; limits::GROUP_ENTRIES],
-    masks: &'a [u64; limits::GROUP_ENTRIES],
-    marks: &'a [u8; limits::GROUP_ENTRIES],
-    n: usize,
-    w: u32,
-    i: usize,
-) -> Two
-    requires { (n ≤ group_entries) × (i < n) }
-    ensures { FoundTwo w
-        (lent coeffs.now masks.now marks.now n) i result }
+pub fn find_second(entries: &[Entry], w: u32, i: usize) -> Option<Two>
+    requires { (length entries.now ≤ group_entries) × (i < length entries.now) }
+    ensures { FoundTwo w (lent entries.now) i result }
 {
-    if marks[i] == CONSUMED {
-        return Two {
-            second: n,
-            third: n,
-        };
+    let e = &entries[i];
+    if !e.is_live() || !links::any_apart(entries, e.mask) {
+        return None;
     }
-    let m = masks[i];
-    if !links::any_apart(masks, marks, n, m) {
-        return Two {
-            second: n,
-            third: n,
-        };
-    }
+    let n = entries.len();
     let none = n as u16;
     let mut first = [none; links::FOLDS];
     let mut next = [0u16; limits::GROUP_ENTRIES];
-    links::put_links(coeffs, masks, marks, n, m, &mut first, &mut next);
-    let mut j = i + 1;
-    while j < n {
-        let k = links::third_for(coeffs, masks, marks, &first, &next, n, i, j, w);
-        if k < n {
-            return Two {
-                second: j,
-                third: k,
-            };
+    links::put_links(entries, e.mask, &mut first, &mut next);
+    for j in i + 1..n {
+        if let Some(third) = links::third_for(entries, &first, &next, i, j, w) {
+            return Some(Two { second: j, third });
         }
-        j += 1;
     }
-    Two {
-        second: n,
-        third: n,
-    }
+    None
 }
 
 // The first entry that has a second and a third, its first second, and the first third of both.
-pub fn find_three<'a>(
-    coeffs: &'a [u64; limits::GROUP_ENTRIES],
-    masks: &'a [u64; limits::GROUP_ENTRIES],
-    marks: &'a [u8; limits::GROUP_ENTRIES],
-    n: usize,
-    w: u32,
-) -> Three
-    requires { n ≤ group_entries }
-    ensures { FoundThree w
-        (lent coeffs.now masks.now marks.now n) result }
+pub fn find_three(entries: &[Entry], w: u32) -> Option<Three>
+    requires { length entries.now ≤ group_entries }
+    ensures { FoundThree w (lent entries.now) result }
 {
-    if n < 3 {
-        return Three {
-            first: n,
-            second: n,
-            third: n,
-        };
+    if entries.len() < 3 {
+        return None;
     }
-    let mut i = 0;
-    while i < n {
-        let two = find_second(coeffs, masks, marks, n, w, i);
-        let second = two.second;
-        if second < n {
-            return Three {
-                first: i,
-                second: second,
+    for first in 0..entries.len() {
+        if let Some(two) = find_second(entries, w, first) {
+            return Some(Three {
+                first,
+                second: two.second,
                 third: two.third,
-            };
+            });
         }
-        i += 1;
     }
-    Three {
-        first: n,
-        second: n,
-        third: n,
-    }
+    None
 }

@@ -1,77 +1,39 @@
 -- Compacting: a row that is copied or left, and the copy on its way.
 use mathlib.Core.Path.{◌≡◌, refl, ap, sym, subst, ◌∙◌}
-use Prim.Native.Nat.{ℕ, ◌+◌, ◌≤◌}
+use Prim.Native.Nat.{ℕ, ◌+◌}
 use native.Mathlib.Omega.{arith}
 use mathlib.Core.List.{List, [], ◌∷◌, ◌++◌}
 use mathlib.Core.Bool.{Bool, true, false}
-use lib.ListN.{length, drop}
+use lib.ListN.{drop}
 use borrow.Author.Tests.{ne_eqb}
 use Rattle.base.specs.Choice.{when}
-use Rattle.base.specs.Put.{put}
 use Rattle.record.specs.Tree.{IsBytes}
 use Rattle.record.specs.Decode.{decode}
-use Rattle.compaction.specs.declared.Copying.{Copying}
 use Rattle.semilinear.specs.Form.{Row, new_row, atoms_bytes, term_bytes, terms_bytes}
-use Rattle.semilinear.specs.Items.{front_word, is_atom, is_term, atom_length, tree_span}
+use Rattle.semilinear.specs.Items.{front_word, is_atom, is_term, tree_span}
 use Rattle.semilinear.specs.Items.{after_atom, atom_count}
 use Rattle.semilinear.specs.Valid.{atom_ok, terms_ok}
 use Rattle.semilinear.specs.DecodeForm.{has_term, coeff_at, after_term, row_at, read_rows}
 use Rattle.compaction.specs.Compact.{used_rows, renumber}
-use Rattle.compaction.specs.Copying.{used_bytes, RowCopied}
 use Rattle.semilinear.proofs.ItemsLaws.{fold_atom, fold_done, atoms_ind}
 use Rattle.semilinear.proofs.ItemsLaws.{has_term_is, after_some, after_none}
 use Rattle.semilinear.proofs.ValidLaws.{terms_first, terms_later, term_parts}
 use Rattle.semilinear.proofs.RetiredLaws.{read_rows_atom, read_rows_end}
 use Rattle.atom_table.specs.Table.{atom_span}
-use Rattle.atom_table.proofs.TableLaws.{length_atom_span}
-use Rattle.atom_table.proofs.SpansLaws.{length_span, span_atom}
-use Rattle.atom_table.proofs.TermLengthLaws.{put_none}
+use Rattle.atom_table.proofs.SpansLaws.{span_atom}
 use Rattle.compaction.proofs.RenumberLaws.{renumber_term, renumber_end}
-use Rattle.semilinear_value.proofs.SumLaws.{passed_without, passed_with}
 
--- ---- one turn
-module _ (w : ℕ) (f : List ℕ) (x : Copying) (ha : x.at ≤ length f) (hn : x.next ≤ length f)
-    (e : is_atom (drop x.at f) ≡ true)
-    {r q : List ℕ} (er : r ≡ drop x.at f) (eq : q ≡ drop x.next f) {n : ℕ} (en : n ≡ atom_length r) where
-  abbrev used : List ℕ
-  used = used_bytes w x.number (drop x.at f) (drop x.next f)
+-- the atom r of that number as a new one where it has a term among q, else nothing
+pub used_bytes : ℕ → ℕ → List ℕ → List ℕ → List ℕ
+used_bytes w number r q = when (has_term number q) (λ _. atom_span w (tree_span r)) (λ _. [])
 
-  used_without : has_term x.number q ≡ false → used ≡ []
-  unfolding used_bytes
-  used_without h = let h' : has_term x.number (drop x.next f) ≡ false = rw eq at h in simp h'
+pub bytes_none : (w i : ℕ) (r q : List ℕ) → has_term i q ≡ false → used_bytes w i r q ≡ []
+unfolding used_bytes
+bytes_none w i r q h = simp h
 
-  used_with : has_term x.number q ≡ true → used ≡ atom_span w (tree_span r)
-  unfolding used_bytes
-  used_with h =
-      let h' : has_term x.number (drop x.next f) ≡ true = rw eq at h in
-      simp h' (rw er)
-
-  length_used_with : has_term x.number q ≡ true → length used ≡ n
-  length_used_with h = ap length (used_with h) ∙ length_span w r (rw er e) ∙ sym en
-
-  -- the room that the copy asks for
-  pub room_with : has_term x.number q ≡ true → {len : ℕ} → x.to + length used ≤ len
-      → x.to + 16 + length (tree_span r) ≤ len
-  room_with h l = omega (arith, l, ap length (used_with h), length_atom_span w (tree_span r))
-
-  pub copied_without : has_term x.number q ≡ false → (out : List ℕ)
-      → RowCopied w f x (record { at = x.at + n; next = x.next; number = x.number + 1; to = x.to }) out out
-  copied_without h out =
-      record {
-        passed = passed_without f x.at x.next x.number ha hn e er eq en h;
-        place = omega (arith, ap length (used_without h));
-        written = rw (used_without h) (put_none out x.to);
-      }
-
-  pub copied_with : has_term x.number q ≡ true → (before after : List ℕ) → after ≡ put before x.to (atom_span w (tree_span r))
-      → RowCopied w f x (record { at = x.at + n; next = x.next + 16; number = x.number + 1; to = x.to + n })
-      before after
-  copied_with h before after p =
-      record {
-        passed = passed_with f x.at x.next x.number ha hn e er eq en h;
-        place = omega (arith, length_used_with h);
-        written = p ∙ ap (put before x.to) (sym (used_with h));
-      }
+pub bytes_some : (w i : ℕ) (r q : List ℕ) → has_term i q ≡ true → used_bytes w i r q ≡ atom_span w (tree_span r)
+unfolding used_bytes
+bytes_some w i r q h = simp h
 
 -- ---- the rows that are left
 

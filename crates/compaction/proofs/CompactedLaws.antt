@@ -15,7 +15,7 @@ use Rattle.record.specs.Tree.{IsBytes}
 use Rattle.record.specs.Span.{body}
 use Rattle.base.proofs.PutLaws.{put_padded_at, length_padded}
 use Rattle.expr.specs.Value.{value}
-use Rattle.semilinear.specs.declared.outcome.Answer.{Answer}
+use Rattle.std.specs.Prelude.{Ok}
 use Rattle.atom_table.specs.declared.table.Written.{Written}
 use Rattle.base.proofs.BoolLaws.{and_true}
 use lib.Dec.{eqb}
@@ -25,7 +25,7 @@ use Rattle.semilinear.specs.Items.{after_atoms}
 use Rattle.semilinear.specs.Valid.{is_semilinear}
 use Rattle.semilinear.specs.DecodeForm.{decode_form, read_form, read_rows}
 use Rattle.semilinear.specs.Outcome.{form_outcome}
-use Rattle.semilinear.specs.Answers.{GivesForm}
+use Rattle.semilinear.specs.Answers.{InNumbers, GivesForm}
 use Rattle.compaction.specs.Compact.{used_rows, compact_form, FrontCopied, compact_atom_table}
 use Rattle.semilinear.proofs.FormLaws.{form_parts, parts_form, rows_cons, good_row, length_form_le}
 use Rattle.semilinear.proofs.RetiredLaws.{read_valid}
@@ -111,7 +111,7 @@ pub compacted : (s : List ℕ) {w c : ℕ} → w ≡ width s → c ≡ literal s
     (r : Written) → FrontCopied w 57360 (read_rows 0 f (after_atoms f)) out r
     → out' ≡ put out r.used (sum_bytes w c)
     → GivesForm (form_outcome (compact_form (read_form s)) false) 57360
-    (record { refusal = 0; used = r.used + 16; terms = r.terms; flag = false }) out'
+    (Ok (record { used = r.used + 16; terms = r.terms; flag = false })) out'
 unfolding compact_form decode_form encode_form
 compacted s {w} {c} ew ec {f} ef out out' r k p =
     let rows : List Row = used_rows (read_rows 0 (body s) (after_atoms (body s))) in
@@ -120,7 +120,7 @@ compacted s {w} {c} ew ec {f} ef out out' r k p =
     let k' : FrontCopied (width s) 57360 (read_rows 0 (body s) (after_atoms (body s))) out r = rw (ew, ef) at k in
     let used : r.used + 16 ≡ length (front ++ z) =
     omega (arith, k'.place, length-append front z, length_sum (width s) (literal s)) in
-    let answer : ◌≡◌ {A = Answer} (record { refusal = 0; used = r.used + 16; terms = r.terms; flag = false })
+    let answer : ◌≡◌ {A = InNumbers} (record { refusal = 0; used = r.used + 16; terms = r.terms; flag = false })
     (record { refusal = 0; used = length (front ++ z); terms = term_count rows; flag = false }) =
     ap₂ (λ (u n : ℕ). record { refusal = 0; used = u; terms = n; flag = false }) used k'.count in
     gives_form (compact_form (read_form s)) false 57360 _ out' answer

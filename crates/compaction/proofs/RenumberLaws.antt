@@ -1,18 +1,20 @@
 -- Laws of `renumber`: the terms of the rows that have one, in their order.
 use Rattle.atom_table.proofs.TermLengthLaws.{length_term, put_none}
 use mathlib.Core.Path.{◌≡◌, refl, ap, ap₂, sym, ◌∙◌}
-use Prim.Native.Nat.{ℕ, zero, suc, ◌+◌, ◌*◌, ◌≤◌}
+use Prim.Native.Nat.{ℕ, zero, suc, ◌+◌, ◌*◌, ◌^◌, ◌≤◌, ◌<◌}
 use native.Mathlib.Omega.{arith}
 use native.Mathlib.Nat.{le_refl}
 use mathlib.Core.List.{List, [], ◌++◌, append_assoc, append-nil}
 use mathlib.Core.Bool.{Bool, true, false}
 use lib.ListN.{length, drop, length-append, length-drop}
-use lib.Seq.{drop-drop}
 use Rattle.base.specs.Choice.{when}
 use Rattle.base.specs.Put.{put}
 use Rattle.base.proofs.PutLaws.{put_then, length_put}
 use Rattle.semilinear.specs.Form.{term_bytes}
 use Rattle.semilinear.specs.Items.{front_word, is_term}
+use Rattle.atom_table.specs.declared.table.Written.{Written}
+use Rattle.semilinear.specs.declared.items.Term.{Term}
+use Rattle.semilinear.specs.Atoms.{FrontTerm}
 use Rattle.compaction.specs.Compact.{renumber_f, renumber, TermsCopied}
 use Rattle.semilinear.proofs.ItemsLaws.{term_big}
 
@@ -60,80 +62,68 @@ pub renumber_end : (w j : ℕ) (q : List ℕ) → is_term q ≡ false → renumb
 unfolding renumber renumber_f
 renumber_end w j q e = renumber_f_enough (length q) (suc (length q)) w j q (le_refl _) (omega arith) ∙ simp e
 
--- the terms before `at` are put, `number` of them
-pub record Renumbered (w to : ℕ) (q before : List ℕ) (at number : ℕ) (after : List ℕ) : Type 0 where
-  pub inside : at ≤ length q
-  pub bytes : at ≡ 16 * number
+-- the terms before those that r has left are put, as x says
+pub record Renumbered (w to : ℕ) (q before : List ℕ) (x : Written) (after r : List ℕ) : Type 0 where
+  pub inside : x.used + length r ≡ to + length q
+  pub bytes : x.used ≡ to + 16 * x.terms
   pub done : List ℕ
-  pub all : done ++ renumber w number (drop at q) ≡ renumber w 0 q
-  pub length_done : length done ≡ at
+  pub all : done ++ renumber w x.terms r ≡ renumber w 0 q
+  pub length_done : x.used ≡ to + length done
   pub written : after ≡ put before to done
   pub same_length : length after ≡ length before
 
--- a term that stands at `at` has room among the terms q and in the bytes d, and its number is small
-pub record TermRoom (to : ℕ) (q d : List ℕ) (at number : ℕ) : Type 0 where
-  pub fits : at + 16 ≤ length q
-  pub few : 16 * number ≤ 57344
-  pub room : to + length q ≤ length d
-
 module _ (w to : ℕ) (q before : List ℕ) (room : to + length q ≤ length before) where
-  pub renumbered_start : Renumbered w to q before 0 0 before
+  pub renumbered_start : Renumbered w to q before (record { used = to; terms = 0 }) before q
   renumbered_start =
       record {
-        inside = omega arith;
+        inside = refl;
         bytes = omega arith;
         done = [];
         all = refl;
-        length_done = refl;
+        length_done = omega arith;
         written = put_none before to;
         same_length = refl;
       }
 
-  pub term_room : length q ≤ 57360 → (at number : ℕ) (d : List ℕ) → Renumbered w to q before at number d → {r : List ℕ}
-      → r ≡ drop at q → is_term r ≡ true → TermRoom to q d at number
-  term_room short at number d h {r} er t =
-      let fits : at + 16 ≤ length q = omega (arith, term_big r t, ap length er, length-drop at q, h.inside) in
-      record { fits = fits; few = omega (arith, fits, short, h.bytes); room = omega (arith, room, h.same_length) }
+  module _ (x : Written) (d : List ℕ) {r t : List ℕ} {a : Term} (h : Renumbered w to q before x d r) (g : FrontTerm r a t) where
+    -- the term has room, and its number is small
+    pub term_room : (x.used + 16 ≤ length d) × (length q ≤ 57360 → x.terms < 2 ^ 16)
+    term_room = (
+      omega (arith, term_big r g.stands, h.inside, h.same_length, room),
+      λ short. omega (arith, term_big r g.stands, h.inside, h.bytes, short),
+    )
 
-  pub renumbered_term : (at number : ℕ) (d : List ℕ) → Renumbered w to q before at number d → {r : List ℕ}
-      → r ≡ drop at q → is_term r ≡ true → (e : List ℕ) → {c : ℕ} → c ≡ front_word r
-      → e ≡ put d (to + at) (term_bytes w number c)
-      → Renumbered w to q before (at + 16) (number + 1) e
-  renumbered_term at number d h {r} er t e {c} ec p =
-      let big : 16 ≤ length r = term_big r t in
-      let fits : at + 16 ≤ length q = omega (arith, big, ap length er, length-drop at q, h.inside) in
-      let x : List ℕ = term_bytes w number c in
-      let lx : length x ≡ 16 = length_term w number c in
-      let w' : e ≡ put before to (h.done ++ x) =
-      p ∙ ap (λ (y : List ℕ). put y (to + at) x) h.written
-      ∙ put_then before to h.done x (to + at) (omega (arith, h.length_done, h.inside))
-      (omega (arith, h.length_done)) in
-      let ld : length (h.done ++ x) ≡ at + 16 = omega (arith, length-append h.done x, h.length_done) in
-      let step : renumber w number (drop at q) ≡ x ++ renumber w (number + 1) (drop (at + 16) q) =
-      ap (renumber w number) (sym er)
-      ∙ renumber_term w number r t
-      ∙ ap₂ (λ (a b : List ℕ). a ++ b) (ap (term_bytes w number) (sym ec))
-      (ap (renumber w (number + 1)) (ap (drop 16) er ∙ drop-drop 16 at q)) in
-      record {
-        inside = fits;
-        bytes = omega (arith, h.bytes);
-        done = h.done ++ x;
-        all = append_assoc h.done x _ ∙ ap (λ (y : List ℕ). h.done ++ y) (sym step) ∙ h.all;
-        length_done = ld;
-        written = w';
-        same_length =
-            ap length w' ∙ length_put before to (h.done ++ x) (omega (arith, ld, fits));
-      }
+    pub renumbered_term : (e : List ℕ) → e ≡ put d x.used (term_bytes w x.terms a.coeff)
+        → Renumbered w to q before (record { used = x.used + 16; terms = x.terms + 1 }) e t
+    renumbered_term e p =
+        let y : List ℕ = term_bytes w x.terms a.coeff in
+        let ly : length y ≡ 16 = length_term w x.terms a.coeff in
+        let w' : e ≡ put before to (h.done ++ y) =
+        p ∙ ap (λ (z : List ℕ). put z x.used y) h.written
+        ∙ put_then before to h.done y x.used (omega (arith, h.length_done, h.inside, room)) (sym h.length_done) in
+        let ld : x.used + 16 ≡ to + length (h.done ++ y) = omega (arith, length-append h.done y, h.length_done) in
+        let step : renumber w x.terms r ≡ y ++ renumber w (x.terms + 1) t =
+        renumber_term w x.terms r g.stands
+        ∙ ap₂ (λ (a b : List ℕ). a ++ b) (ap (term_bytes w x.terms) (sym g.coeff))
+        (ap (renumber w (x.terms + 1)) (sym g.rest)) in
+        record {
+          inside = omega (arith, h.inside, ap length g.rest, length-drop 16 r, term_big r g.stands);
+          bytes = omega (arith, h.bytes);
+          done = h.done ++ y;
+          all = append_assoc h.done y _ ∙ ap (λ (z : List ℕ). h.done ++ z) (sym step) ∙ h.all;
+          length_done = ld;
+          written = w';
+          same_length =
+              ap length w' ∙ length_put before to (h.done ++ y) (omega (arith, ld, term_room.0, h.same_length));
+        }
 
-  pub renumbered_end : (at number : ℕ) (d : List ℕ) → Renumbered w to q before at number d → {r : List ℕ}
-      → r ≡ drop at q → is_term r ≡ false → TermsCopied w to q before d (record { used = to + at; terms = number })
-  renumbered_end at number d h {r} er t =
-      let none : renumber w number (drop at q) ≡ [] = ap (renumber w number) (sym er) ∙ renumber_end w number r t in
-      let all : h.done ≡ renumber w 0 q =
-      sym (append-nil h.done) ∙ ap (λ (y : List ℕ). h.done ++ y) (sym none) ∙ h.all in
-      let len : length (renumber w 0 q) ≡ at = sym (ap length all) ∙ h.length_done in
+  pub renumbered_end : (x : Written) (d : List ℕ) {r : List ℕ} → Renumbered w to q before x d r → is_term r ≡ false
+      → TermsCopied w to q before d x
+  renumbered_end x d {r} h e =
+      let same : h.done ≡ renumber w 0 q =
+      sym (append-nil h.done) ∙ ap (λ (z : List ℕ). h.done ++ z) (sym (renumber_end w x.terms r e)) ∙ h.all in
       record {
-        place = omega (arith, len);
-        count = omega (arith, len, h.bytes);
-        written = h.written ∙ ap (put before to) all;
+        place = omega (arith, h.length_done, ap length same);
+        count = omega (arith, h.length_done, h.bytes, ap length same);
+        written = h.written ∙ ap (put before to) same;
       }

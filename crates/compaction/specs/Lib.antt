@@ -1,3 +1,2 @@
 -- Compacting the atom table (semilinear.rs 292-318).
 pub mod Compact
-pub mod Copying

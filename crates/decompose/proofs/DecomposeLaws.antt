@@ -11,7 +11,7 @@ use lib.Seq.{take-length}
 use lib.Bits.{bit_and, and_comm}
 use lib.Pow.{pow_pos}
 use lib.Dec.{eqb}
-use borrow.Author.Tests.{eqb-true, eqb-false, eq-eqb, ne_eqb, not-true, not-false}
+use borrow.Author.Tests.{eq-eqb, ne_eqb, not-true, not-false}
 use Rattle.arith.specs.Width.{bitmask}
 use Rattle.arith.proofs.WidthLaws.{bitmask_ones}
 use Rattle.arith.proofs.MaskLaws.{and_assoc, and_below, and_full}
@@ -33,7 +33,12 @@ use Rattle.expr.specs.Value.{value}
 use Rattle.expr.proofs.ValueLaws.{value_lt}
 use Rattle.decompose.specs.declared.Basis.{Basis}
 use Rattle.decompose.specs.Decompose.{Decomposed, no_basis, masked, under_mask, decompose_and, decompose_atom}
-use Rattle.decompose.specs.Basis.{basis_span, view_of, IsDecomposed, rest_of, Splitting, Splits}
+use Rattle.decompose.specs.declared.Side.{Side}
+use Rattle.decompose.specs.declared.Side.TheVariants.{Left, Right}
+use Rattle.std.specs.Prelude.{None, Some}
+use Rattle.std.proofs.lemmas.Option.{none-some, same_Some}
+use Rattle.base.specs.Choice.{when}
+use Rattle.decompose.specs.Basis.{basis_span, free_side, BasisOf, Part, SplitTo, Splits, unsplit_view}
 
 -- ---- the view of a span, by its root's kind
 
@@ -116,45 +121,30 @@ module _ (w : ℕ) (s : List ℕ) (ok : sized s ≡ true) where
 
 -- ---- a split on its way
 
-abbrev none : Basis
-none = record { valid = false; start = 0; end = 0; mask = 0 }
-
 under_under : (m v : ℕ) (t l : Tree) (d : Decomposed) → under_mask m t (under_mask v l d) ≡ under_mask (bit_and m v) l d
 unfolding under_mask
 under_under m v t l no_basis = refl
 under_under m v t l (masked b n) = ap (masked b) (sym (and_assoc m v n))
 
--- a variable under a mask
-variable_masked : (w : ℕ) (s : List ℕ) (m : ℕ) → sized s ≡ true → kind s ≡ 1 → m < 2 ^ w
-    → under_mask m (decode s) (decompose_atom w (decode s)) ≡ masked (decode s) m
-unfolding under_mask decompose_atom
-variable_masked w s m ok hk lt =
-    rw (decoded_variable w s ok hk) (ap (masked (Variable (var_index s))) (and_full w m lt))
+is_left : Side → Bool
+is_left Left = true
+is_left Right = false
 
--- what is left to see, and what x sees, with a mask and without
-module _ (w : ℕ) (s : List ℕ) (x : Basis) where
-  rest_masked : x.valid ≡ true
-      → rest_of w s x ≡ under_mask x.mask (decode (basis_span s x)) (decompose_atom w (decode (basis_span s x)))
-  unfolding rest_of
-  rest_masked e = simp e
+sides_differ : Left ≡ Right → ⊥
+unfolding is_left
+sides_differ e = false_true (sym (ap is_left e))
 
-  rest_open : x.valid ≡ false → rest_of w s x ≡ decompose_atom w (decode (basis_span s x))
-  unfolding rest_of
-  rest_open e = simp e
+-- x is a split of s on its way: its part, under its mask, has the view of s
+pub record Splitting (w : ℕ) (s : List ℕ) (x : Basis) : Type 0 where
+  pub part : Part w s x
+  pub view : under_mask x.mask (decode (basis_span s x)) (decompose_atom w (decode (basis_span s x)))
+      ≡ decompose_atom w (decode s)
 
-  view_masked : x.valid ≡ true → view_of s x ≡ masked (decode (basis_span s x)) x.mask
-  unfolding view_of
-  view_masked e = simp e
-
-  view_open : x.valid ≡ false → view_of s x ≡ no_basis
-  unfolding view_of
-  view_open e = simp e
-
--- it begins with the whole tree, under the full mask where that is a variable
-module _ (w : ℕ) (s : List ℕ) (hw : w ≤ 64) (ok : sized s ≡ true) (hv : has_var_dep (decode s) ≡ true) {k m : ℕ}
-    (ek : k ≡ kind s) (em : m ≡ bitmask w) where
+-- the whole tree, under the full mask
+module _ (w : ℕ) (s : List ℕ) (hw : w ≤ 64) (ok : sized s ≡ true) (hv : has_var_dep (decode s) ≡ true) {m : ℕ}
+    (em : m ≡ bitmask w) where
   abbrev whole : Basis
-  whole = record { valid = eqb k 1; start = 0; end = length s; mask = m }
+  whole = record { start = 0; end = length s; mask = m }
 
   ones : m ≡ 2 ^ w - 1
   ones = em ∙ bitmask_ones w hw
@@ -163,168 +153,210 @@ module _ (w : ℕ) (s : List ℕ) (hw : w ≤ 64) (ok : sized s ≡ true) (hv : 
   unfolding basis_span
   all = rw sub-zero (take-length s)
 
-  begins : (b : Bool) → eqb k 1 ≡ b → rest_of w s whole ≡ decompose_atom w (decode s)
-  unfolding decompose_atom
-  begins false e = rest_open w s whole e ∙ ap (λ (l : List ℕ). decompose_atom w (decode l)) all
-  begins true e =
-      let hk : kind s ≡ 1 = sym ek ∙ eqb-true k 1 e in
-      rest_masked w s whole e
-      ∙ ap (λ (l : List ℕ). under_mask m (decode l) (decompose_atom w (decode l))) all
-      ∙ variable_masked w s m ok hk (omega (arith, ones, pow_pos w))
-      ∙ ap (masked (decode s)) ones
-      ∙ rw (decoded_variable w s ok hk) refl
-
-  pub splitting_whole : Splitting w s whole
-  splitting_whole =
+  pub whole_part : Part w s whole
+  whole_part =
       record {
-        view = begins (eqb k 1) refl;
         start_le = omega arith;
         end_le = omega arith;
         ok = rw all ok;
         accepted = λ e. rw all e;
         variable = rw all hv;
         mask_lt = omega (arith, ones, pow_pos w);
-        full = λ _. ones;
-        other = λ e h. eqb-false k 1 e (ek ∙ sym (ap kind all) ∙ h);
       }
 
-module _ (w : ℕ) (s : List ℕ) (x : Basis) (h : Splitting w s x) where
+  -- a variable
+  pub whole_variable : kind s ≡ 1 → BasisOf w s whole
+  unfolding decompose_atom
+  whole_variable hk =
+      record {
+        view = rw all (rw (decoded_variable w s ok hk) (ap (masked (Variable (var_index s))) (sym ones)));
+        start_le = omega arith;
+        end_le = omega arith;
+        ok = rw all ok;
+        accepted = λ e. rw all e;
+      }
+
+  -- no variable, and no mask
+  pub whole_none : (kind s ≡ 1 → ⊥) → Splits w s whole None → decompose_atom w (decode s) ≡ no_basis
+  unfolding unsplit_view
+  whole_none n h =
+      let h' : decompose_atom w (decode s) ≡ when (eqb (kind s) 1) (λ _. masked (decode s) (2 ^ w - 1)) (λ _. no_basis) = rw all at h in
+      h' ∙ simp (ne_eqb (kind s) 1 n)
+
+  pub whole_some : (y : Basis) → SplitTo w s whole y → Splitting w s y
+  whole_some y h =
+      record {
+        part = h.part;
+        view =
+            ap (λ (n : ℕ). under_mask n (decode (basis_span s y)) (decompose_atom w (decode (basis_span s y))))
+            (h.mask ∙ ap (λ (n : ℕ). bit_and n h.by) ones ∙ and_comm (2 ^ w - 1) h.by ∙ and_full w h.by h.by_lt)
+            ∙ sym h.view
+            ∙ ap (λ (l : List ℕ). decompose_atom w (decode l)) all;
+      }
+
+module _ (w : ℕ) (s : List ℕ) (x : Basis) where
   abbrev b : List ℕ
   b = basis_span s x
 
-  b_length : length b ≡ x.end - x.start
-  unfolding basis_span
-  b_length = length-take (x.end - x.start) (drop x.start s) ∙ omega (arith, length-drop x.start s, h.end_le)
-
-  pub basis_big : 16 ≤ length b
-  basis_big = sized_big b h.ok
-
-  pub span_end : 16 ≤ x.end
-  span_end = omega (arith, b_length, basis_big)
-
   -- one mask more
-  rest_under : (v : ℕ) (t : Tree) → v < 2 ^ w → decompose_atom w (decode b) ≡ under_mask v t (decompose_atom w t)
-      → under_mask (bit_and x.mask v) t (decompose_atom w t) ≡ decompose_atom w (decode s)
-  rest_under v t lt e = go x.valid refl ∙ h.view
-    where
-      go : (y : Bool) → x.valid ≡ y → under_mask (bit_and x.mask v) t (decompose_atom w t) ≡ rest_of w s x
-      go true ex =
-          sym
-          (rest_masked w s x ex
-          ∙ ap (under_mask x.mask (decode b)) e
-          ∙ under_under x.mask v (decode b) t (decompose_atom w t))
-      go false ex =
-          ap (λ (n : ℕ). under_mask n t (decompose_atom w t))
-          (ap (λ (n : ℕ). bit_and n v) (h.full ex) ∙ and_comm (2 ^ w - 1) v ∙ and_full w v lt)
-          ∙ sym (rest_open w s x ex ∙ e)
-
-  -- the end: what is left is seen as itself
-  at_end : view_of s x ≡ rest_of w s x → IsDecomposed w s x
-  at_end e =
+  pub split_on : (y : Basis) → Splitting w s x → SplitTo w s x y → Splitting w s y
+  split_on y h t =
       record {
-        view = e ∙ h.view;
-        start_le = h.start_le;
-        end_le = h.end_le;
-        ok = λ _. h.ok;
-        accepted = λ _. h.accepted;
+        part = t.part;
+        view =
+            ap (λ (n : ℕ). under_mask n (decode (basis_span s y)) (decompose_atom w (decode (basis_span s y)))) t.mask
+            ∙ sym (under_under x.mask t.by (decode b) (decode (basis_span s y)) (decompose_atom w (decode (basis_span s y))))
+            ∙ ap (under_mask x.mask (decode b)) (sym t.view)
+            ∙ h.view;
       }
 
-  end_none : decompose_atom w (decode b) ≡ no_basis → IsDecomposed w s x
-  unfolding under_mask
-  end_none e = at_end (go x.valid refl)
+  -- no more: what is left is the basis
+  pub split_end : Splitting w s x → Splits w s x None → BasisOf w s x
+  unfolding unsplit_view under_mask
+  split_end h e =
+      record {
+        view = sym h.view ∙ ap (under_mask x.mask (decode b)) e ∙ go (eqb (kind b) 1) refl;
+        start_le = h.part.start_le;
+        end_le = h.part.end_le;
+        ok = h.part.ok;
+        accepted = h.part.accepted;
+      }
     where
-      go : (y : Bool) → x.valid ≡ y → view_of s x ≡ rest_of w s x
-      go true ex = view_masked w s x ex ∙ sym (rest_masked w s x ex ∙ ap (under_mask x.mask (decode b)) e)
-      go false ex = view_open w s x ex ∙ sym (rest_open w s x ex ∙ e)
+      go : (y : Bool) → eqb (kind b) 1 ≡ y
+          → under_mask x.mask (decode b) (when (eqb (kind b) 1) (λ _. masked (decode b) (2 ^ w - 1)) (λ _. no_basis))
+          ≡ masked (decode b) x.mask
+      go true k = simp k (ap (masked (decode b)) (and_full w x.mask h.part.mask_lt))
+      go false k = simp k
 
-  end_variable : kind b ≡ 1 → IsDecomposed w s x
-  end_variable hk = at_end (go x.valid refl)
-    where
-      go : (y : Bool) → x.valid ≡ y → view_of s x ≡ rest_of w s x
-      go false ex = absurd (h.other ex hk)
-      go true ex =
-          view_masked w s x ex
-          ∙ sym (rest_masked w s x ex ∙ variable_masked w b x.mask h.ok hk h.mask_lt)
+module _ (w : ℕ) (s : List ℕ) (x : Basis) (h : Part w s x) where
+  abbrev c : List ℕ
+  c = basis_span s x
 
-  stops : IsDecomposed w s x → Splits w s x none
-  stops d = record { more = λ e. false_true e; less = λ e. false_true e; done = λ _. d }
+  c_length : length c ≡ x.end - x.start
+  unfolding basis_span
+  c_length = length-take (x.end - x.start) (drop x.start s) ∙ omega (arith, length-drop x.start s, h.end_le)
+
+  pub basis_big : 16 ≤ length c
+  basis_big = sized_big c h.ok
+
+  pub span_end : 16 ≤ x.end
+  span_end = omega (arith, c_length, basis_big)
 
   -- no And
-  pub split_other : (kind b ≡ 4 → ⊥) → Splits w s x none
-  split_other q = stops (go (ℕ_discrete (kind b) 1))
+  pub split_other : (kind c ≡ 4 → ⊥) → Splits w s x None
+  unfolding unsplit_view decompose_atom
+  split_other q = go (ℕ_discrete (kind c) 1)
     where
-      go : Dec (kind b ≡ 1) → IsDecomposed w s x
-      go (yes e) = end_variable e
-      go (no p) = end_none (view_other w b h.ok p q)
+      go : Dec (kind c ≡ 1) → decompose_atom w (decode c) ≡ when (eqb (kind c) 1) (λ _. masked (decode c) (2 ^ w - 1)) (λ _. no_basis)
+      go (yes e) = simp (eq-eqb (kind c) 1 e) (rw (decoded_variable w c h.ok e) refl)
+      go (no p) = simp (ne_eqb (kind c) 1 p) (view_other w c h.ok p q)
 
-  module _ (hk : kind b ≡ 4) where
-    pub split_sized : (sized (left b) ≡ true) × (sized (right b) ≡ true)
-    split_sized = sized_sides w b h.ok hk
+  module _ (hk : kind c ≡ 4) where
+    pub split_sized : (sized (left c) ≡ true) × (sized (right c) ≡ true)
+    split_sized = sized_sides w c h.ok hk
 
-    pub split_neither : is_constant_subtree (decode (left b)) ≡ false → is_constant_subtree (decode (right b)) ≡ false
-        → Splits w s x none
-    split_neither hl hr = stops (end_none (view_neither w b h.ok hk hl hr))
+    -- what the free side says
+    free_none : free_side (decode (left c)) (decode (right c)) ≡ None
+        → (is_constant_subtree (decode (left c)) ≡ false) × (is_constant_subtree (decode (right c)) ≡ false)
+    unfolding free_side
+    free_none e = go (is_constant_subtree (decode (left c))) (is_constant_subtree (decode (right c))) refl refl
+      where
+        go : (y z : Bool) → is_constant_subtree (decode (left c)) ≡ y → is_constant_subtree (decode (right c)) ≡ z
+            → (is_constant_subtree (decode (left c)) ≡ false) × (is_constant_subtree (decode (right c)) ≡ false)
+        go true z p q = absurd (none-some Left (sym e ∙ simp p))
+        go false true p q = absurd (none-some Right (sym e ∙ simp (p, q)))
+        go false false p q = (p, q)
+
+    free_left : free_side (decode (left c)) (decode (right c)) ≡ Some Left → is_constant_subtree (decode (left c)) ≡ true
+    unfolding free_side
+    free_left e = go (is_constant_subtree (decode (left c))) (is_constant_subtree (decode (right c))) refl refl
+      where
+        go : (y z : Bool) → is_constant_subtree (decode (left c)) ≡ y → is_constant_subtree (decode (right c)) ≡ z
+            → is_constant_subtree (decode (left c)) ≡ true
+        go true z p q = p
+        go false true p q = absurd (sides_differ (same_Some Left Right (sym e ∙ simp (p, q))))
+        go false false p q = absurd (none-some Left (sym (sym e ∙ simp (p, q))))
+
+    free_right : free_side (decode (left c)) (decode (right c)) ≡ Some Right
+        → (is_constant_subtree (decode (left c)) ≡ false) × (is_constant_subtree (decode (right c)) ≡ true)
+    unfolding free_side
+    free_right e = go (is_constant_subtree (decode (left c))) (is_constant_subtree (decode (right c))) refl refl
+      where
+        go : (y z : Bool) → is_constant_subtree (decode (left c)) ≡ y → is_constant_subtree (decode (right c)) ≡ z
+            → (is_constant_subtree (decode (left c)) ≡ false) × (is_constant_subtree (decode (right c)) ≡ true)
+        go true z p q = absurd (sides_differ (sym (same_Some Right Left (sym e ∙ simp p))))
+        go false true p q = (p, q)
+        go false false p q = absurd (none-some Right (sym (sym e ∙ simp (p, q))))
+
+    pub split_neither : free_side (decode (left c)) (decode (right c)) ≡ None → Splits w s x None
+    unfolding unsplit_view
+    split_neither e =
+        let f = free_none e in
+        view_neither w c h.ok hk f.0 f.1 ∙ sym (simp (ne_eqb (kind c) 1 (λ k. absurd (omega (arith, hk, k)))))
 
     -- where the sides stand in s
-    span_left : (m : ℕ) → basis_span s (record { valid = true; start = x.start; end = x.start + cut b; mask = m })
-        ≡ left b
+    span_left : (m : ℕ) → basis_span s (record { start = x.start; end = x.start + cut c; mask = m }) ≡ left c
     unfolding basis_span left
     span_left m =
         sym
-        (ap (λ (n : ℕ). take n b) (sym (sub-zero (cut b)))
-        ∙ part_part s x.start (x.end - x.start) 0 (cut b) (omega arith) (omega (arith, cut_le b, b_length))
+        (ap (λ (n : ℕ). take n c) (sym (sub-zero (cut c)))
+        ∙ part_part s x.start (x.end - x.start) 0 (cut c) (omega arith) (omega (arith, cut_le c, c_length))
         ∙ rw (add-zero) refl)
 
-    span_right : (m : ℕ) → basis_span s (record { valid = true; start = x.start + cut b; end = x.end - 16; mask = m })
-        ≡ right b
+    span_right : (m : ℕ) → basis_span s (record { start = x.start + cut c; end = x.end - 16; mask = m }) ≡ right c
     unfolding basis_span right
     span_right m =
-        let e : x.start + (length b - 16) ≡ x.end - 16 = omega (arith, b_length, basis_big, h.start_le) in
+        let e : x.start + (length c - 16) ≡ x.end - 16 = omega (arith, c_length, basis_big, h.start_le) in
         sym
-        (part_part s x.start (x.end - x.start) (cut b) (length b - 16) (cut_le b) (omega (arith, b_length))
+        (part_part s x.start (x.end - x.start) (cut c) (length c - 16) (cut_le c) (omega (arith, c_length))
         ∙ rw e refl)
 
     -- a side of the And, under the value v of the other one too
     module _ (side : List ℕ) (start end v : ℕ) where
       abbrev part : Basis
-      part = record { valid = true; start = start; end = end; mask = bit_and x.mask v }
+      part = record { start = start; end = end; mask = bit_and x.mask v }
 
       goes_on : basis_span s part ≡ side → start ≤ end → end ≤ length s → end - start < x.end - x.start
           → sized side ≡ true → is_constant_subtree (decode side) ≡ false → v < 2 ^ w
-          → (tree_refusal w b ≡ 0 → tree_refusal w side ≡ 0)
-          → decompose_atom w (decode b) ≡ under_mask v (decode side) (decompose_atom w (decode side)) → Splits w s x part
+          → (tree_refusal w c ≡ 0 → tree_refusal w side ≡ 0)
+          → decompose_atom w (decode c) ≡ under_mask v (decode side) (decompose_atom w (decode side)) → SplitTo w s x part
       goes_on span le inside less ok var lt accepted e =
-          let more : Splitting w s part
-          = record {
-            view = rest_masked w s part refl ∙ rw span (rest_under v (decode side) lt e);
-            start_le = le;
-            end_le = inside;
-            ok = rw span ok;
-            accepted = λ r. rw span (accepted (h.accepted r));
-            variable = rw span (not-false _ var);
-            mask_lt = and_below w x.mask v lt;
-            full = λ f. false_true (sym f);
-            other = λ f. false_true (sym f);
-          } in
-          record { more = λ _. more; less = λ _. less; done = λ f. false_true (sym f) }
+          record {
+            part =
+                record {
+                  start_le = le;
+                  end_le = inside;
+                  ok = rw span ok;
+                  accepted = λ r. rw span (accepted (h.accepted r));
+                  variable = rw span (not-false _ var);
+                  mask_lt = and_below w x.mask v lt;
+                };
+            less = less;
+            by = v;
+            by_lt = lt;
+            mask = refl;
+            view = rw span e;
+          }
 
-    pub split_left : {c v : ℕ} → is_constant_subtree (decode (left b)) ≡ false
-        → is_constant_subtree (decode (right b)) ≡ true → c ≡ cut b → v ≡ value w [] (decode (right b))
-        → Splits w s x (record { valid = true; start = x.start; end = x.start + c; mask = bit_and x.mask v })
-    split_left {c} {v} hl hr hc hv =
+    pub split_left : {d v : ℕ} → free_side (decode (left c)) (decode (right c)) ≡ Some Right → d ≡ cut c
+        → v ≡ value w [] (decode (right c))
+        → SplitTo w s x (record { start = x.start; end = x.start + d; mask = bit_and x.mask v })
+    split_left {d} {v} f hc hv =
+        let g = free_right f in
         rw (hc, hv)
-        (goes_on (left b) x.start (x.start + cut b) (value w [] (decode (right b))) (span_left _) (omega arith)
-        (omega (arith, cut_le b, b_length, h.start_le, h.end_le)) (omega (arith, cut_le b, b_length, basis_big))
-        split_sized.0 hl (value_lt w [] (decode (right b)))
-        (λ r. (accepted_sides w b h.ok hk r).0) (view_left w b h.ok hk hl hr))
+        (goes_on (left c) x.start (x.start + cut c) (value w [] (decode (right c))) (span_left _) (omega arith)
+        (omega (arith, cut_le c, c_length, h.start_le, h.end_le)) (omega (arith, cut_le c, c_length, basis_big))
+        split_sized.0 g.0 (value_lt w [] (decode (right c)))
+        (λ r. (accepted_sides w c h.ok hk r).0) (view_left w c h.ok hk g.0 g.1))
 
-    pub split_right : {c v : ℕ} → is_constant_subtree (decode (left b)) ≡ true → c ≡ cut b
-        → v ≡ value w [] (decode (left b))
-        → Splits w s x (record { valid = true; start = x.start + c; end = x.end - 16; mask = bit_and x.mask v })
-    split_right {c} {v} hl hc hv =
-        let hr = right_open w b h.ok hk h.variable hl in
+    pub split_right : {d v : ℕ} → free_side (decode (left c)) (decode (right c)) ≡ Some Left → d ≡ cut c
+        → v ≡ value w [] (decode (left c))
+        → SplitTo w s x (record { start = x.start + d; end = x.end - 16; mask = bit_and x.mask v })
+    split_right {d} {v} f hc hv =
+        let hl = free_left f in
+        let hr = right_open w c h.ok hk h.variable hl in
         rw (hc, hv)
-        (goes_on (right b) (x.start + cut b) (x.end - 16) (value w [] (decode (left b))) (span_right _)
-        (omega (arith, cut_le b, b_length, basis_big, h.start_le)) (omega (arith, h.end_le))
-        (omega (arith, cut_le b, b_length, basis_big)) split_sized.1 hr (value_lt w [] (decode (left b)))
-        (λ r. (accepted_sides w b h.ok hk r).1) (view_right w b h.ok hk hl hr))
+        (goes_on (right c) (x.start + cut c) (x.end - 16) (value w [] (decode (left c))) (span_right _)
+        (omega (arith, cut_le c, c_length, basis_big, h.start_le)) (omega (arith, h.end_le))
+        (omega (arith, cut_le c, c_length, basis_big)) split_sized.1 hr (value_lt w [] (decode (left c)))
+        (λ r. (accepted_sides w c h.ok hk r).1) (view_right w c h.ok hk hl hr))

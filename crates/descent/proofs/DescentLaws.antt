@@ -4,17 +4,30 @@ use mathlib.Core.Path.{◌≡◌, ap, sym, ◌∙◌}
 use Prim.Native.Nat.{ℕ, ◌<◌}
 use native.Mathlib.Omega.{arith}
 use mathlib.Core.List.{List}
+use mathlib.Core.Bool.{Bool}
 use Rattle.record.specs.Fields.{size}
 use Rattle.record.specs.Tree.{size_of}
 use Rattle.ways.specs.declared.side.Spot.{Spot}
+use Rattle.descent.specs.declared.collect.Atom.{Atom}
 use Rattle.descent.specs.declared.collect.Descent.{Descent}
 use Rattle.ways.specs.declared.side.Side.{Side}
 use Rattle.ways.specs.Marks.{marks_of}
 use Rattle.ways.specs.Spans.{span_of}
-use Rattle.descent.specs.Spots.{Ready}
+use Rattle.rules_laws.specs.Descend.{descend}
+use Rattle.std.specs.Prelude.{Option}
+use Rattle.descent.specs.Spots.{Collects, Ready}
 use Rattle.ways.specs.Sides.{tree_at, AtSpot, SideAt, side_tree}
 use Rattle.ways.proofs.SpanOfLaws.{size_sized, span_sized}
 use Rattle.descent.proofs.CollectsLaws.{ready_less}
+
+-- all that is collected at the spot x
+abbrev pub AllOf : Bool → ℕ → List ℕ → Spot → List Atom → Descent → List Atom → Option Descent → Type 0
+AllOf nots w file x a d b r =
+    Collects w file (size_of (tree_at file x)) (descend nots w x.coeff (tree_at file x)) a d b r
+
+-- the spot of a side b under a coefficient c
+abbrev pub SpotOf : ℕ → Side → Spot → Type 0
+SpotOf c b y = y ≡ record { coeff = c; start = b.start; end = b.end }
 
 -- a side of the tree of the spot x
 pub record Down (w : ℕ) (file marks : List ℕ) (x : Spot) (b : Side) : Type 0 where
@@ -41,6 +54,6 @@ module _ {w : ℕ} {file marks : List ℕ} {x : Spot} (at : AtSpot w file marks 
       let small = size_sized _ (span_sized down.side.span) in
       rw ey (omega (arith, big, small, down.smaller))
 
-  pub down_ready : {words : List ℕ} {d : Descent} → Ready w (size_of (tree_at file x)) words d
-      → Ready w (size_of (tree_at file y)) words d
+  pub down_ready : {spots : List Atom} {d : Descent} → Ready w (size_of (tree_at file x)) spots d
+      → Ready w (size_of (tree_at file y)) spots d
   down_ready ready = ready_less (size_of (tree_at file y)) (omega (arith, ap size_of down_tree, down.smaller)) ready

@@ -1,8 +1,8 @@
--- The descent from a spot of the file (ways/specs/Sides.antt, WayDown): where it ends, the smaller spots to which it
+-- The descent from a spot of the file (ways/specs/Sides.antt, FirstOf): where it ends, the smaller spots to which it
 -- goes, and that what is collected there makes up what is collected here. `Going` is what the loop of `collect_terms`
 -- keeps.
-use mathlib.Core.Path.{◌≡◌, refl, ap, sym, ◌∙◌}
-use Prim.Native.Nat.{ℕ, ◌^◌, ◌≤◌, ◌<◌}
+use mathlib.Core.Path.{◌≡◌, refl, sym, ◌∙◌}
+use Prim.Native.Nat.{ℕ, ◌≤◌}
 use native.Mathlib.Omega.{arith}
 use mathlib.Core.List.{List, []}
 use mathlib.Core.Bool.{Bool, true, false}
@@ -14,141 +14,93 @@ use Rattle.arith.specs.Width.{mod_add, mod_mul}
 use Rattle.arith.proofs.WidthLaws.{mod_add_lt}
 use Rattle.base.specs.Choice.{when}
 use Rattle.record.specs.Tree.{Tree, size_of}
-use Rattle.base.proofs.BoolLaws.{false_true}
 use Rattle.expr_utils.specs.Utils.{has_var_dep}
 use Rattle.ways.specs.declared.side.Spot.{Spot}
 use Rattle.ways.specs.declared.side.Side.{Side}
-use Rattle.ways.specs.declared.side.Way.{Way}
+use Rattle.descent.specs.declared.collect.Atom.{Atom}
 use Rattle.descent.specs.declared.collect.Descent.{Descent}
 use Rattle.rules_laws.specs.Descend.{descend}
-use Rattle.ways.specs.Spans.{span_of, Accepted}
-use Rattle.descent.specs.Spots.{Collects, Ready, turn_by, collect_end}
-use Rattle.ways.specs.Sides.{tree_at, side_tree, AtSpot, left_side, right_side, WayOf, EndsHere, WayDown}
-use Rattle.ways.specs.Sides.{none, sum, other, collect_literal, collect_whole}
+use Rattle.std.specs.Prelude.{Option, None, Some}
+use Rattle.ways.specs.Spans.{span_of}
+use Rattle.descent.specs.Spots.{Collects, Ready, BesideLiteral, turn_by, collect_end}
+use Rattle.ways.specs.Sides.{tree_at, side_tree, AtSpot, left_side, right_side, EndsHere, Collectable, Goes, Masks}
+use Rattle.ways.specs.Sides.{FirstOf, sum, masks, collect_literal, collect_whole}
 use Rattle.ways.proofs.TermsLaws.{terms_zero, terms_constant}
 use Rattle.expr.specs.Value.{value}
 use Rattle.normalizer_laws.specs.Collect.{linear}
-use Rattle.descent.proofs.DescentLaws.{Down, down_spot, down_falls, down_ready}
+use Rattle.descent.proofs.DescentLaws.{AllOf, SpotOf, Down, down_spot, down_falls, down_ready}
 use Rattle.descent.proofs.AddLaws.{down_left, down_right, ready_right, sum_then, sum_stop}
-use Rattle.descent.proofs.WayOnLaws.{down_way, way_whole, way_goes, way_literal, ready_masked}
+use Rattle.descent.proofs.WayOnLaws.{way_goes, ready_masked}
 use Rattle.descent.proofs.WayOnLaws.{way_masked_stop, way_masked_then}
 
--- all that is collected at the spot x
-abbrev pub AllOf : Bool → ℕ → List ℕ → Spot → List ℕ → Descent → List ℕ → Descent → Type 0
-AllOf nots w file x a d b e =
-    Collects w file (size_of (tree_at file x)) (descend nots w x.coeff (tree_at file x)) a d b e
-
--- the spot of a side b under a coefficient c
-abbrev pub SpotOf : ℕ → Side → Spot → Type 0
-SpotOf c b y = y ≡ record { coeff = c; start = b.start; end = b.end }
-
-module _ {nots : Bool} {w : ℕ} {file marks : List ℕ} {x : Spot} (at : AtSpot w file marks x) {b : Way}
-    (way : WayDown nots w file marks x b) where
+-- first to one child of two
+module _ {nots : Bool} {w : ℕ} {file marks : List ℕ} {x : Spot} (at : AtSpot w file marks x) {b : Side}
+    (way : FirstOf nots w file marks x b) where
   abbrev Here : Type 0
-  Here = WayDown nots w file marks x b
+  Here = FirstOf nots w file marks x b
 
   abbrev k : ℕ
   k = kind (span_of file x.start x.end)
 
-  pub down_ends : b.found ≡ false → EndsHere nots w x.coeff (tree_at file x)
-  down_ends e = go way
+  pub first_down : Down w file marks x b
+  first_down = go way
     where
-      go : Here → EndsHere nots w x.coeff (tree_at file x)
-      go (none f q) = q
-      go (sum two hc hv s places) = false_true (sym e ∙ ap (λ (z : Way). z.found) s)
-      go (other n hc hv o) = λ _ _. way_whole at o e
-
-  pub down_child : b.found ≡ true → Down w file marks x b.child
-  down_child e = go way
-    where
-      go : Here → Down w file marks x b.child
-      go (none f q) = false_true (sym f ∙ e)
-      go (sum two hc hv s places) = down_left at two (ap (λ (z : Way). z.child) s)
-      go (other n hc hv o) = down_way at o e
-
-  -- to the child y, from a Not that is turned with a constant
-  pub down_goes : b.found ≡ true → b.more ≡ false → w ≤ 64 → {y : Spot} → SpotOf b.coeff b.child y
-      → {a : List ℕ} {d : Descent} → Ready w (size_of (tree_at file x)) a d
-      → {t : Descent} → t ≡ turn_by b.turned b.coeff w d → {f : List ℕ} {e : Descent}
-      → AllOf nots w file y a t f e → AllOf nots w file x a d f e
-  down_goes found last hw ey {a} {d} ready et {f} {e} first = go way
-    where
-      go : Here → AllOf nots w file x a d f e
-      go (none g q) = false_true (sym g ∙ found)
-      go (sum two hc hv s places) = false_true (sym last ∙ ap (λ (z : Way). z.more) s)
-      go (other n hc hv o) = way_goes at o found last hw ey ready et first
+      go : Here → Down w file marks x b
+      go (sum two here s places) = down_left at two s
+      go (masks n here m) = record { side = m.side; smaller = m.smaller }
 
   -- what is collected at the child y
-  module _ (found : b.found ≡ true) (hw : w ≤ 64) {y : Spot} (ey : SpotOf b.coeff b.child y)
-      {a : List ℕ} {d : Descent} {f : List ℕ} {e : Descent} (first : AllOf nots w file y a d f e) where
-    module _ (more : b.more ≡ true) where
-      -- y is the left side of a sum
-      left_spot : b ≡ record { found = true; more = true; turned = false; coeff = x.coeff; child = left_side file x }
-          → SpotOf x.coeff b.child y
-      left_spot s =
-          ey ∙ ap (λ (c : ℕ). record { coeff = c; start = b.child.start; end = b.child.end })
-          (ap (λ (z : Way). z.coeff) s)
+  module _ (hw : w ≤ 64) {y : Spot} (ey : SpotOf x.coeff b y) where
+    pub first_stop : {a : List Atom} {d : Descent} {f : List Atom} → AllOf nots w file y a d f None
+        → AllOf nots w file x a d f None
+    first_stop {a} {d} {f} first = go way
+      where
+        go : Here → AllOf nots w file x a d f None
+        go (sum two here s places) = sum_stop at two nots hw s ey here first
+        go (masks n here m) = way_masked_stop x m hw ey first
 
-      pub down_stop : e.linear ≡ false → AllOf nots w file x a d f e
-      down_stop lin = go way
-        where
-          go : Here → AllOf nots w file x a d f e
-          go (none f q) = false_true (sym f ∙ found)
-          go (sum two hc hv s places) =
-              sum_stop at two nots hw (ap (λ (z : Way). z.child) s) (left_spot s) first hc hv lin
-          go (other n hc hv o) = way_masked_stop at o found hw ey first more lin
-
+    module _ {a : List Atom} {d : Descent} {f : List Atom} {e : Descent}
+        (first : AllOf nots w file y a d f (Some e)) where
       -- the And of the child and a literal
       module _ (not-sum : k ≡ 2 → ⊥) where
-        literal_way : WayOf nots w file marks x.start k x.coeff (tree_at file x) b
-        literal_way = go way
+        masks_of : Masks nots w file marks x.start k x.coeff (tree_at file x) b
+        masks_of = go way
           where
-            go : Here → WayOf nots w file marks x.start k x.coeff (tree_at file x) b
-            go (none f q) = false_true (sym f ∙ found)
-            go (sum two hc hv s places) = absurd (not-sum two)
-            go (other n hc hv o) = o
+            go : Here → Masks nots w file marks x.start k x.coeff (tree_at file x) b
+            go (sum two here s places) = absurd (not-sum two)
+            go (masks n here m) = m
 
-        pub record Literal : Type 0 where
-          pub side : Accepted w file b.child.start b.child.end
-          pub value_lt : b.child.value < 2 ^ w
-          pub variable : has_var_dep (side_tree file b.child) ≡ true
+        pub first_literal : Ready w (size_of (tree_at file x)) a d
+            → BesideLiteral w file b.start b.end b.value f e
+        first_literal ready =
+            let m = masks_of in
+            record {
+              span = m.side.span;
+              ready = ready_masked x m hw ey first ready;
+              value_lt = m.value_lt;
+              variable = m.variable;
+            }
 
-        pub down_literal : Literal
-        down_literal =
-            let l = way_literal at literal_way found hw ey first more in
-            record { side = l.side; value_lt = l.value_lt; variable = l.variable }
-
-        pub down_ready_literal : Ready w (size_of (tree_at file x)) a d → e.linear ≡ true → Ready w 1 f e
-        down_ready_literal ready lin = ready_masked at literal_way found hw ey first more ready lin
-
-        pub down_masked : {j : ℕ} → j ≡ k → {g : List ℕ} {r : Descent}
-            → Collects w file 1 (collect_literal w j x.coeff (side_tree file b.child) b.child.value) f e g r
+        pub first_masked : {j : ℕ} → j ≡ k → {g : List Atom} {r : Option Descent}
+            → Collects w file 1 (collect_literal w j x.coeff (side_tree file b) b.value) f e g r
             → AllOf nots w file x a d g r
-        down_masked ek second = way_masked_then at literal_way found hw ey first more (rw ek at second)
+        first_masked ek second = way_masked_then x masks_of hw ey first (rw ek at second)
 
       -- the right side of a sum
       module _ (two : k ≡ 2) {r : Side} (er : r ≡ right_side file marks x) {z : Spot} (ez : SpotOf x.coeff r z) where
-        left_way : (eqb x.coeff 0 ≡ false) × (has_var_dep (tree_at file x) ≡ true)
-            × (b ≡ record { found = true; more = true; turned = false; coeff = x.coeff; child = left_side file x })
-        left_way = go way
+        sum_of : Collectable file x × (b ≡ left_side file x)
+        sum_of = go way
           where
-            go : Here → (eqb x.coeff 0 ≡ false) × (has_var_dep (tree_at file x) ≡ true)
-                × (b ≡ record { found = true; more = true; turned = false; coeff = x.coeff; child = left_side file x })
-            go (none f q) = false_true (sym f ∙ found)
-            go (sum t hc hv s places) = (hc, hv, s)
-            go (other n hc hv o) = absurd (eqb-false k 2 n two)
+            go : Here → Collectable file x × (b ≡ left_side file x)
+            go (sum t here s places) = (here, s)
+            go (masks n here m) = absurd (eqb-false k 2 n two)
 
-        pub down_ready_right : Ready w (size_of (tree_at file x)) a d → e.linear ≡ true
-            → Ready w (size_of (tree_at file z)) f e
-        down_ready_right ready lin =
-            let s = left_way.2 in
-            ready_right at two nots hw (ap (λ (z : Way). z.child) s) (left_spot s) first er ez ready lin
+        pub first_ready_right : Ready w (size_of (tree_at file x)) a d → Ready w (size_of (tree_at file z)) f e
+        first_ready_right ready = ready_right at two nots hw sum_of.1 ey first er ez ready
 
-        pub down_sum : {g : List ℕ} {h : Descent} → AllOf nots w file z f e g h → AllOf nots w file x a d g h
-        down_sum second =
-            let s = left_way.2 in
-            sum_then at two nots hw (ap (λ (z : Way). z.child) s) (left_spot s) first er ez left_way.0 left_way.1
-            second
+        pub first_sum : {g : List Atom} {h : Option Descent} → AllOf nots w file z f e g h
+            → AllOf nots w file x a d g h
+        first_sum second = sum_then at two nots hw sum_of.1 ey first er ez sum_of.0 second
 
 -- ---- where it ends
 
@@ -175,79 +127,63 @@ ends_as nots w c t h = go (eqb c 0) (has_var_dep t) refl refl
 
 -- ---- the loop
 
-pub turn_off : (w c : ℕ) (turned : Bool) (d : Descent) → turned ≡ false → d ≡ turn_by turned c w d
+pub ready_turned : {w n : ℕ} {spots : List Atom} (turned : Bool) (c : ℕ) {d t : Descent} → t ≡ turn_by turned c w d
+    → Ready w n spots d → Ready w n spots t
 unfolding turn_by
-turn_off w c turned d e = sym (simp e)
-
-pub turn_on : (w c : ℕ) (turned : Bool) (d : Descent) {n : ℕ} → turned ≡ true → n ≡ mod_add d.constant c w
-    → record { linear = d.linear; constant = n; count = d.count } ≡ turn_by turned c w d
-unfolding turn_by
-turn_on w c turned d e h = rw h (sym (simp e))
-
-pub ready_turned : {w n : ℕ} {words : List ℕ} (turned : Bool) (c : ℕ) {d t : Descent} → t ≡ turn_by turned c w d
-    → Ready w n words d → Ready w n words t
-unfolding turn_by
-ready_turned {w} {n} {words} turned c {d} {t} et ready = go turned et
+ready_turned {w} {n} {spots} turned c {d} {t} et ready = go turned et
   where
     more : Descent
-    more = record { linear = d.linear; constant = mod_add d.constant c w; count = d.count }
+    more = record { constant = mod_add d.constant c w; count = d.count }
 
-    go : (b : Bool) → t ≡ when b (λ _. more) (λ _. d) → Ready w n words t
+    go : (b : Bool) → t ≡ when b (λ _. more) (λ _. d) → Ready w n spots t
     go true e =
-        rw e
-        (record {
-          width = ready.width;
-          linear = ready.linear;
-          fits = mod_add_lt d.constant c w ready.width;
-          room = ready.room;
-        })
+        rw e (record { width = ready.width; fits = mod_add_lt d.constant c w ready.width; room = ready.room })
     go false e = rw e ready
 
--- from the spot x, over the words a and the descent d, to the spot y, over the words b and the descent e: what is
+-- from the spot x, over the atoms a and the descent d, to the spot y, over the atoms b and the descent e: what is
 -- collected at y makes up all that is collected at x
-pub record Going (nots : Bool) (w : ℕ) (file : List ℕ) (x : Spot) (a : List ℕ) (d : Descent) (marks : List ℕ)
-    (y : Spot) (b : List ℕ) (e : Descent) : Type 0 where
+pub record Going (nots : Bool) (w : ℕ) (file : List ℕ) (x : Spot) (a : List Atom) (d : Descent) (marks : List ℕ)
+    (y : Spot) (b : List Atom) (e : Descent) : Type 0 where
   pub at : AtSpot w file marks y
   pub ready : Ready w (size_of (tree_at file y)) b e
   pub falls : size (span_of file y.start y.end) ≤ size (span_of file x.start x.end)
   pub same_length : length b ≡ length a
-  pub rest : {c : List ℕ} {r : Descent} → AllOf nots w file y b e c r → AllOf nots w file x a d c r
+  pub rest : {c : List Atom} {r : Option Descent} → AllOf nots w file y b e c r → AllOf nots w file x a d c r
 
-pub going_start : {nots : Bool} {w : ℕ} {file marks : List ℕ} {x : Spot} {a : List ℕ} {d : Descent}
+pub going_start : {nots : Bool} {w : ℕ} {file marks : List ℕ} {x : Spot} {a : List Atom} {d : Descent}
     → AtSpot w file marks x → Ready w (size_of (tree_at file x)) a d → Going nots w file x a d marks x a d
 going_start at ready =
     record { at = at; ready = ready; falls = omega arith; same_length = refl; rest = λ h. h }
 
-module _ {nots : Bool} {w : ℕ} {file : List ℕ} {x : Spot} {a : List ℕ} {d : Descent} {marks : List ℕ} {y : Spot}
-    {b : List ℕ} {e : Descent} (going : Going nots w file x a d marks y b e) {way : Way}
-    (down : WayDown nots w file marks y way)
-    (found : way.found ≡ true) {z : Spot} (ez : SpotOf way.coeff way.child z) where
-  abbrev inner : Down w file marks y way.child
-  inner = down_child going.at down found
-
-  -- to the child
-  pub going_child : way.more ≡ false → {t : Descent} → t ≡ turn_by way.turned way.coeff w e
-      → {m : List ℕ} → m ≡ span_of marks way.child.from way.child.to → Going nots w file x a d m z b t
-  going_child last et em =
+module _ {nots : Bool} {w : ℕ} {file : List ℕ} {x : Spot} {a : List Atom} {d : Descent} {marks : List ℕ} {y : Spot}
+    {b : List Atom} {e : Descent} (going : Going nots w file x a d marks y b e) where
+  -- to the only child
+  pub going_child : {c : ℕ} {turned : Bool} {side : Side}
+      → Goes nots w file marks y.start y.coeff (tree_at file y) c turned side → {z : Spot} → SpotOf c side z
+      → {t : Descent} → t ≡ turn_by turned c w e → {m : List ℕ} → m ≡ span_of marks side.from side.to
+      → Going nots w file x a d m z b t
+  going_child {c} {turned} {side} goes ez et em =
+      let down : Down w file marks y side = record { side = goes.side; smaller = goes.smaller } in
       record {
-        at = down_spot going.at inner ez em;
-        ready = ready_turned way.turned way.coeff et (down_ready going.at inner ez going.ready);
-        falls = omega (arith, down_falls going.at inner ez, going.falls);
+        at = down_spot going.at down ez em;
+        ready = ready_turned turned c et (down_ready going.at down ez going.ready);
+        falls = omega (arith, down_falls going.at down ez, going.falls);
         same_length = going.same_length;
-        rest = λ h. going.rest (down_goes going.at down found last going.ready.width ez going.ready et h);
+        rest = λ h. going.rest (way_goes nots w file marks y c turned side goes going.ready.width ez going.ready et h);
       }
 
   -- to the right side of a sum
-  pub going_right : way.more ≡ true → kind (span_of file y.start y.end) ≡ 2 → {f : List ℕ} {g : Descent}
-      → AllOf nots w file z b e f g → g.linear ≡ true → {r : Side} → r ≡ right_side file marks y → {v : Spot}
-      → SpotOf y.coeff r v → {m : List ℕ} → m ≡ span_of marks r.from r.to → Going nots w file x a d m v f g
-  going_right more two first lin er ev em =
+  pub going_right : {side : Side} → FirstOf nots w file marks y side → {z : Spot} → SpotOf y.coeff side z
+      → kind (span_of file y.start y.end) ≡ 2 → {f : List Atom} {g : Descent} → AllOf nots w file z b e f (Some g)
+      → {r : Side} → r ≡ right_side file marks y → {v : Spot} → SpotOf y.coeff r v
+      → {m : List ℕ} → m ≡ span_of marks r.from r.to → Going nots w file x a d m v f g
+  going_right way ez two first er ev em =
       let side = down_right going.at two er in
       let hw = going.ready.width in
       record {
         at = down_spot going.at side ev em;
-        ready = down_ready_right going.at down found hw ez first more two er ev going.ready lin;
+        ready = first_ready_right going.at way hw ez first two er ev going.ready;
         falls = omega (arith, down_falls going.at side ev, going.falls);
         same_length = first.same_length ∙ going.same_length;
-        rest = λ h. going.rest (down_sum going.at down found hw ez first more two er ev h);
+        rest = λ h. going.rest (first_sum going.at way hw ez first two er ev h);
       }

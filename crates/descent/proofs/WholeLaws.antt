@@ -6,13 +6,12 @@ use native.Mathlib.Decide.{ℕ_discrete}
 use mathlib.Core.List.{List}
 use mathlib.Core.Bool.{true, false}
 use lib.ListN.{length}
-use lib.Dec.{eqb}
 use borrow.Author.Tests.{ne_eqb}
 use Rattle.record.specs.Fields.{kind, arity}
 use Rattle.record.specs.Tree.{Tree}
 use Rattle.record.specs.Tree.Tree.{Constant, Variable, Unary, Binary}
 use Rattle.record.specs.Span.{left, right}
-use Rattle.record.specs.Decode.{leaf, decode}
+use Rattle.record.specs.Decode.{decode}
 use Rattle.record.proofs.SpanLaws.{fold_leaf, fold_one, fold_two}
 use Rattle.base.proofs.BoolLaws.{false_true}
 use Rattle.record.proofs.LeafLaws.{leaf_both}

@@ -1,2 +1,2 @@
 -- The laws of the definitions, for the crates above.
-pub mod TestsLaws
+pub mod FoundLaws

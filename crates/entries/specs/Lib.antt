@@ -1,3 +1,4 @@
--- The marks of a group's entries, and tests on one and on two entries.
+-- The marks of a group's entries, tests on one and on two entries, and what a search answers.
 pub mod Marks
 pub mod Tests
+pub mod Found

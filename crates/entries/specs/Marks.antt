@@ -1,18 +1,20 @@
 -- The marks of the entries of a group.
-use Rattle.std.specs.Prelude.{ℕ}
+use Rattle.std.specs.Prelude.{Bool, true, false}
+use Rattle.entries.specs.declared.Mark.{Mark}
+use Rattle.entries.specs.declared.Mark.TheVariants.{Live, Consumed, Widened, Rewritten}
+use Rattle.entries.specs.declared.Entry.{Entry}
 
--- ---- entries
+-- an entry without a term, past the end of a group
+abbrev pub blank : Entry
+blank = record { coeff = 0; mask = 0; atom = 0; mark = Live }
 
--- what became of an entry: nothing yet; joined to another or dropped; widened to the full mask by recovering; rewritten
--- as Xor by it
-abbrev pub live_mark : ℕ
-live_mark = 0
+-- what is not consumed
+abbrev pub not_consumed : Mark → Bool
+not_consumed Live = true
+not_consumed Consumed = false
+not_consumed Widened = true
+not_consumed Rewritten = true
 
-abbrev pub consumed_mark : ℕ
-consumed_mark = 1
-
-abbrev pub widened_mark : ℕ
-widened_mark = 2
-
-abbrev pub rewritten_mark : ℕ
-rewritten_mark = 3
+-- an entry that is not consumed
+unfoldable pub is_live : Entry → Bool
+is_live e = not_consumed e.mark

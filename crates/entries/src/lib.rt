@@ -1,4 +1,4 @@
-// Tests on the entries of a group, which read its arrays as lent; and the marks of entries.
+// An entry of a group, and tests on the entries of a group.
 #![tactic(auto)]
 
 pub mod pair;
@@ -7,10 +7,29 @@ pub mod stages;
 
 // What became of an entry: nothing yet; joined to another or dropped; widened to the full mask by
 // recovering; rewritten as Xor by it.
-pub const LIVE: u8 = 0;
+#[derive(Clone, Copy, PartialEq, Eq)]
+pub enum Mark {
+    Live,
+    Consumed,
+    Widened,
+    Rewritten,
+}
 
-pub const CONSUMED: u8 = 1;
+// A term of a group: its coefficient, its mask, the number of its atom, and its mark.
+#[derive(Clone, Copy)]
+pub struct Entry {
+    pub coeff: u64,
+    pub mask: u64,
+    pub atom: u64,
+    pub mark: Mark,
+}
 
-pub const WIDENED: u8 = 2;
-
-pub const REWRITTEN: u8 = 3;
+impl Entry {
+    // What stands where no entry was put.
+    pub const BLANK: Entry = Entry {
+        coeff: 0,
+        mask: 0,
+        atom: 0,
+        mark: Mark::Live,
+    };
+}

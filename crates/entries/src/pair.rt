@@ -1,77 +1,42 @@
 // Tests on two entries.
-ghost use Rattle.std.specs.Prelude.{◌≡◌, false, ℕ, ◌+◌, ◌<◌, ◌≤◌};
+ghost use Rattle.std.specs.Prelude.{◌≡◌, false, ℕ, ◌<◌, length, None};
 ghost use Rattle.entries.specs.Tests.{pair_of, pair_in};
-ghost use Rattle.base.specs.Limits.{group_entries};
 
-use crate::CONSUMED;
-use base::limits;
+use crate::Entry;
 
-// Whether two entries of one basis may become one, and at which coefficient.
-#[derive(Drop)]
-pub enum Joined {
-    Apart,
-    At(u64),
-}
-
-// Of the entries with the marks u and v, the coefficients c and d and the masks m and p: c where d
-// may become c, else d where c may become d.
-pub fn pair_at(u: u8, v: u8, c: u64, m: u64, d: u64, p: u64, w: u32) -> Joined
-    ensures { result ≡ pair_of u v c m d p w }
-{
-    if u == CONSUMED {
-        return Joined::Apart;
-    }
-    if v == CONSUMED {
-        return Joined::Apart;
-    }
-    if m & p != 0 {
-        return Joined::Apart;
-    }
-    if c == d {
-        return Joined::At(c);
-    }
-    if arith::can_change_coefficient_to(d, c, p, w) {
-        return Joined::At(c);
-    }
-    if arith::can_change_coefficient_to(c, d, m, w) {
-        return Joined::At(d);
-    }
-    Joined::Apart
-}
-
-pub fn joins(u: u8, v: u8, c: u64, m: u64, d: u64, p: u64, w: u32) -> bool
-    ensures { result ≡ false → pair_of u v c m d p w ≡ Joined.Apart }
-{
-    match pair_at(u, v, c, m, d, p, w) {
-        Joined::At(_) => true,
-        Joined::Apart => false,
+impl Entry {
+    // At which coefficient two entries of one basis become one, where they may: the first one's where
+    // the second one's may become it, else the second one's where the first one's may.
+    #[tactic(auto, unfolding(crate::specs::Tests::pair_of))]
+    pub fn joined(&self, other: &Entry, w: u32) -> Option<u64>
+        ensures { result ≡ pair_of self.now other.now w }
+    {
+        if !self.is_live() || !other.is_live() || self.mask & other.mask != 0 {
+            return None;
+        }
+        let c = self.coeff;
+        let d = other.coeff;
+        if c == d || arith::can_change_coefficient_to(d, c, other.mask, w) {
+            return Some(c);
+        }
+        if arith::can_change_coefficient_to(c, d, self.mask, w) {
+            return Some(d);
+        }
+        None
     }
 }
 
 // Whether two entries may become one.
-pub fn any_pair<'a>(
-    coeffs: &'a [u64; limits::GROUP_ENTRIES],
-    masks: &'a [u64; limits::GROUP_ENTRIES],
-    marks: &'a [u8; limits::GROUP_ENTRIES],
-    n: usize,
-    w: u32,
-) -> bool
-    requires { n ≤ group_entries }
-    ensures { result ≡ false → (i j : ℕ) → i < j → j < n → pair_in coeffs.now
-        masks.now marks.now w i j ≡ Joined.Apart }
+pub fn any_pair(entries: &[Entry], w: u32) -> bool
+    ensures { result ≡ false → (i j : ℕ) → i < j → j < length entries.now
+        → pair_in entries.now w i j ≡ None }
 {
-    let mut i = 0;
-    while i < n {
-        let mut j = i + 1;
-        while j < n {
-            if joins(
-                marks[i], marks[j], coeffs[i], masks[i], coeffs[j], masks[j], w,
-            ) {
+    for i in 0..entries.len() {
+        for j in i + 1..entries.len() {
+            if entries[i].joined(&entries[j], w).is_some() {
                 return true;
             }
-            j += 1;
         }
-        i += 1;
     }
     false
 }

@@ -5,24 +5,26 @@ ghost use Rattle.record.specs.Decode.{leaf, decode};
 ghost use Rattle.expr.specs.Hash.{mix_hash, tag_hash, var_hash, structural_hash};
 ghost use Rattle.base.specs.Limits.{record_length, var_limit};
 
+use record::kinds::Kind;
+
 // A hash with a child's hash x joined to it.
 pub fn mix_hash(h: u64, x: u64) -> u64
     ensures { result ≡ mix_hash h x }
 {
-    let seeded = std::num::wrapping_add_u64(x, 0x9E37_79B9_7F4A_7C15);
-    let raised = std::num::wrapping_add_u64(seeded, h << 6);
-    h ^ std::num::wrapping_add_u64(raised, h >> 2)
+    let seeded = x.wrapping_add(0x9E37_79B9_7F4A_7C15);
+    h ^ seeded.wrapping_add(h << 6).wrapping_add(h >> 2)
 }
 
 // A kind's tag with its literal, shift count or cast width.
+#[tactic(auto, unfolding(crate::specs::Hash::tag_hash, arith::specs::Width::wrapping_mul))]
 pub fn tag_hash(k: u8, v: u64) -> u64
     ensures { result ≡ tag_hash k v }
 {
-    let tag = k as u64;
-    tag ^ arith::wrapping_mul(v, 0x9E37_79B9_7F4A_7C15)
+    u64::from(k) ^ arith::wrapping_mul(v, 0x9E37_79B9_7F4A_7C15)
 }
 
 // The hash of the variable i.
+#[tactic(auto, unfolding(crate::specs::Hash::var_hash, arith::specs::Width::wrapping_mul))]
 fn var_hash(i: u64) -> u64
     requires { i < var_limit }
     ensures { result ≡ var_hash i }
@@ -35,7 +37,7 @@ pub fn leaf_hash(t: &[u8]) -> u64
     requires { record_length ≤ length t.now }
     ensures { result ≡ structural_hash (leaf t.now) }
 {
-    if record::kind(t) == 0 {
+    if record::kind(t) == Kind::Constant as u8 {
         return tag_hash(0, record::literal(t));
     }
     var_hash(record::var_index(t))
@@ -57,7 +59,7 @@ pub fn structural_hash(t: &[u8]) -> u64
     }
     let x = structural_hash(record::left(t));
     let y = structural_hash(record::right(t));
-    mix_hash(mix_hash(k as u64, x), y)
+    mix_hash(mix_hash(u64::from(k), x), y)
 }
 
 // The hash of the And of a tree with the hash h and the literal m.

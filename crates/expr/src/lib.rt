@@ -5,19 +5,16 @@ pub mod hash;
 pub mod value;
 pub mod vars;
 
-ghost use Rattle.std.specs.Prelude.{◌≡◌};
+ghost use Rattle.base.specs.Refusal.{number_of, value_of};
 ghost use Rattle.expr.specs.ExprValue.{IsExprValue};
 
-// The value of the expression t under an assignment, and 0; or 0 and the refusal.
-pub fn expr_value(t: &[u8], vars: &[u64], value: &mut u64) -> u64
-    ensures { IsExprValue t.now vars.now result value.new }
+use base::refusal::Refusal;
+
+// The value of the expression t under an assignment; or a refusal: 1 or 3 to 6.
+pub fn expr_value(t: &[u8], vars: &[u64]) -> Result<u64, Refusal>
+    ensures { IsExprValue t.now vars.now (number_of result) (value_of result) }
 {
-    let number = expr_refusal::expr_refusal(t);
-    if number != 0 {
-        *value = 0;
-        return number;
-    }
+    expr_refusal::expr_refusal(t)?;
     let w = record::width(t);
-    *value = value::value_at(t, vars, w as u32);
-    0
+    Ok(value::value_at(t, vars, w as u32))
 }

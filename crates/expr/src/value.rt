@@ -7,6 +7,8 @@ ghost use Rattle.expr.specs.Walk.{ValueAsks};
 ghost use Rattle.record.specs.Fields.{kind};
 ghost use Rattle.base.specs.Limits.{record_length};
 
+use record::kinds::Kind;
+
 // Word i of the assignment that is 0 below `from` and has the words of vars from there on.
 fn word(vars: &[u64], from: u64, i: u64) -> u64
     ensures { result ≡ slice_index (replicate from 0 ++ vars.now) i }
@@ -14,38 +16,44 @@ fn word(vars: &[u64], from: u64, i: u64) -> u64
     if i < from {
         return 0;
     }
-    let at = (i - from) as usize;
-    if at < vars.len() {
-        return vars[at];
-    }
-    0
+    vars.get((i - from) as usize).copied().unwrap_or(0)
 }
 
 // Not, Neg and Shr by a of x.
+#[tactic(auto, unfolding(crate::specs::Value::unary))]
 fn unary(w: u32, k: u8, a: u64, x: u64) -> u64
     requires { (w ≤ 64) × (x < 2 ^ w) }
     ensures { result ≡ unary w k a x }
 {
-    match k {
-        7 => arith::mod_not(x, w),
-        8 => arith::mod_neg(x, w),
-        9 => arith::mod_shr(x, a, w),
-        _ => 0,
+    if k == Kind::Not as u8 {
+        arith::mod_not(x, w)
+    } else if k == Kind::Neg as u8 {
+        arith::mod_neg(x, w)
+    } else if k == Kind::Shr as u8 {
+        arith::mod_shr(x, a, w)
+    } else {
+        0
     }
 }
 
 // Add, Mul, And, Or and Xor of x and y.
+#[tactic(auto, unfolding(crate::specs::Value::binary))]
 fn binary(w: u32, k: u8, x: u64, y: u64) -> u64
     requires { w ≤ 64 }
     ensures { result ≡ binary w k x y }
 {
-    match k {
-        2 => arith::mod_add(x, y, w),
-        3 => arith::mod_mul(x, y, w),
-        4 => x & y,
-        5 => x | y,
-        6 => x ^ y,
-        _ => 0,
+    if k == Kind::Add as u8 {
+        arith::mod_add(x, y, w)
+    } else if k == Kind::Mul as u8 {
+        arith::mod_mul(x, y, w)
+    } else if k == Kind::And as u8 {
+        x & y
+    } else if k == Kind::Or as u8 {
+        x | y
+    } else if k == Kind::Xor as u8 {
+        x ^ y
+    } else {
+        0
     }
 }
 
@@ -55,7 +63,7 @@ fn leaf_value(t: &[u8], vars: &[u64], from: u64, w: u32) -> u64
     ensures { result ≡ value w (replicate from 0 ++ vars.now) (leaf t.now) }
 {
     let mask = arith::bitmask(w);
-    if record::kind(t) == 0 {
+    if record::kind(t) == Kind::Constant as u8 {
         return record::literal(t) & mask;
     }
     word(vars, from, record::var_index(t)) & mask
@@ -95,6 +103,5 @@ pub fn constant_value(t: &[u8], w: u32) -> u64
     requires { (sized t.now ≡ true) × (w ≤ 64) }
     ensures { result ≡ value w [] (decode t.now) }
 {
-    let none = [0u64; 1];
-    crate::value::value_at(t, &none[..0], w)
+    value_at(t, &[], w)
 }

@@ -1,6 +1,6 @@
 -- The refusals of an expression (document 01, "Refusals", 1 and 3 to 6): the lowest that applies over the whole file.
 -- Differences 5 and 6 from the Rust.
-use Rattle.std.specs.Prelude.{ℕ, ◌*◌, ◌%◌, ◌^◌, min, List, Bool, true, false, not, ◌&&◌, ◌||◌, length, eqb, ltb, leb}
+use Rattle.std.specs.Prelude.{ℕ, ◌*◌, ◌%◌, ◌^◌, min, List, Bool, not, ◌&&◌, ◌||◌, length, eqb, ltb, leb}
 use Rattle.base.specs.Choice.{when}
 use Rattle.record.specs.Fields.{kind, byte1, size, width, amount, literal, spare_high, spare}
 use Rattle.record.specs.Span.{fold}

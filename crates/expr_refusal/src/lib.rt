@@ -5,143 +5,116 @@ ghost use Rattle.std.specs.Prelude.{◌≡◌, ℕ, ◌≤◌, length};
 ghost use Rattle.expr_refusal.specs.Refusal.{lowest, uses_byte1, fields_ok, unused, size_ok};
 ghost use Rattle.expr_refusal.specs.Refusal.{form_ok, width_ok, root_refusal, tree_refusal, expr_refusal};
 ghost use Rattle.base.specs.Limits.{record_length};
+ghost use Rattle.base.specs.Refusal.{number_of};
 
 use base::limits;
+use base::refusal::Refusal;
+use record::kinds::Kind;
 
-// The lower of two refusals; 0 is none.
-fn lowest(a: u8, b: u8) -> u8
-    ensures { result ≡ lowest a b }
+// The lower of two refusals, where there are such.
+fn lowest(a: Result<(), Refusal>, b: Result<(), Refusal>) -> Result<(), Refusal>
+    ensures { number_of result ≡ lowest (number_of a) (number_of b) }
 {
-    if a == 0 {
+    let Err(x) = a else {
         return b;
-    }
-    if b == 0 {
+    };
+    let Err(y) = b else {
         return a;
-    }
-    if a <= b {
-        return a;
-    }
-    b
+    };
+    Err(x.min(y))
 }
 
 // Whether the kind k has a use for byte 1.
+#[tactic(auto, unfolding(crate::specs::Refusal::uses_byte1))]
 fn uses_byte1(k: u8) -> bool
     ensures { result ≡ uses_byte1 k }
 {
-    if k == 1 {
-        return true;
-    }
-    if 8 < k {
-        return k < 13;
-    }
-    false
+    k == Kind::Variable as u8 || (k > Kind::Neg as u8 && k < Kind::Concat as u8)
 }
 
 // Byte 1 and the literal are 0 where the kind has no use for them.
+#[tactic(auto, unfolding(crate::specs::Refusal::fields_ok))]
 fn fields_ok(k: u8, a: u8, v: u64) -> bool
     ensures { result ≡ fields_ok k a v }
 {
-    if k == 0 {
-        return a == 0;
-    }
-    if v != 0 {
-        return false;
-    }
-    if uses_byte1(k) {
-        return true;
-    }
-    a == 0
+    (k == Kind::Constant as u8 || v == 0) && (uses_byte1(k) || a == 0)
 }
 
 // Those of bytes 5 to 7 that the root's kind has no use for. Both numbers are read before the test,
 // so that it needs no jump.
+#[tactic(auto, unfolding(crate::specs::Refusal::unused))]
 fn unused(t: &[u8]) -> u64
     requires { record_length ≤ length t.now }
     ensures { result ≡ unused t.now }
 {
     let high = record::spare_high(t);
     let all = record::spare(t);
-    if record::kind(t) == 1 {
+    if record::kind(t) == Kind::Variable as u8 {
         return high;
     }
     all
 }
 
 // The size field of the root is right.
+#[tactic(auto, unfolding(crate::specs::Refusal::size_ok))]
 fn size_ok(t: &[u8]) -> bool
     requires { record_length ≤ length t.now }
     ensures { result ≡ size_ok t.now }
 {
     let n = t.len() as u64;
-    if record::size(t) * limits::RECORD_LENGTH_U64 != n {
-        return false;
-    }
-    if record::kind(t) < 2 {
-        return n == limits::RECORD_LENGTH_U64;
-    }
-    true
+    record::size(t) * limits::RECORD_LENGTH_U64 == n
+        && (record::kind(t) > Kind::Variable as u8 || n == limits::RECORD_LENGTH_U64)
 }
 
 // Refusal 3 does not apply to the root.
+#[tactic(auto, unfolding(crate::specs::Refusal::form_ok))]
 fn form_ok(t: &[u8]) -> bool
     requires { record_length ≤ length t.now }
     ensures { result ≡ form_ok t.now }
 {
     let k = record::kind(t);
-    if 13 < k {
-        return false;
-    }
-    if !size_ok(t) {
-        return false;
-    }
-    if unused(t) != 0 {
-        return false;
-    }
-    fields_ok(k, record::byte1(t), record::literal(t))
+    k <= Kind::Concat as u8
+        && size_ok(t)
+        && unused(t) == 0
+        && fields_ok(k, record::byte1(t), record::literal(t))
 }
 
 // The width v is 1 to 64, and the file's.
+#[tactic(auto, unfolding(crate::specs::Refusal::width_ok))]
 fn width_ok(w: u8, v: u8) -> bool
     ensures { result ≡ width_ok w v }
 {
-    if v == 0 {
-        return false;
-    }
-    if 64 < v {
-        return false;
-    }
-    v == w
+    v != 0 && v <= 64 && v == w
 }
 
 // The lowest refusal that applies to the root, in a file of width w.
-pub fn root_refusal(t: &[u8], w: u8) -> u8
+#[tactic(auto, unfolding(crate::specs::Refusal::root_refusal))]
+pub fn root_refusal(t: &[u8], w: u8) -> Result<(), Refusal>
     requires { record_length ≤ length t.now }
-    ensures { result ≡ root_refusal w t.now }
+    ensures { number_of result ≡ root_refusal w t.now }
 {
     if !form_ok(t) {
-        return 3;
+        return Err(Refusal::Record);
     }
     if !width_ok(w, record::width(t)) {
-        return 4;
+        return Err(Refusal::Width);
     }
     let k = record::kind(t);
-    if 9 < k {
-        return 5;
+    if k > Kind::Shr as u8 {
+        return Err(Refusal::Cast);
     }
-    if k == 9 {
-        if 63 < record::amount(t) {
-            return 6;
-        }
+    if k == Kind::Shr as u8 && record::amount(t) > 63 {
+        return Err(Refusal::ShiftCount);
     }
-    0
+    Ok(())
 }
 
 // The lowest refusal that applies to a record of the span t, in a file of width w.
-pub fn tree_refusal(t: &[u8], w: u8) -> u8
-    ensures { result ≡ tree_refusal w t.now }
+pub fn tree_refusal(t: &[u8], w: u8) -> Result<(), Refusal>
+    ensures { number_of result ≡ tree_refusal w t.now }
 {
     if t.len() < limits::RECORD_LENGTH {
-        return 3;
+        return Err(Refusal::Record);
     }
     let own = root_refusal(t, w);
     let children = record::root_arity(t);
@@ -156,20 +129,14 @@ pub fn tree_refusal(t: &[u8], w: u8) -> u8
     lowest(own, lowest(first, second))
 }
 
-// The lowest refusal of the expression file t, 0 where it is accepted.
-pub fn expr_refusal(t: &[u8]) -> u64
-    ensures { result ≡ expr_refusal t.now }
+// The lowest refusal of the expression file t.
+#[tactic(auto, unfolding(crate::specs::Refusal::expr_refusal))]
+pub fn expr_refusal(t: &[u8]) -> Result<(), Refusal>
+    ensures { number_of result ≡ expr_refusal t.now }
 {
     let n = t.len();
-    if n == 0 {
-        return 1;
+    if n == 0 || n > limits::EXPR_BYTES || record::odd_bytes(n) != 0 {
+        return Err(Refusal::Length);
     }
-    if limits::EXPR_BYTES < n {
-        return 1;
-    }
-    if record::odd_bytes(n) != 0 {
-        return 1;
-    }
-    let w = record::width(t);
-    tree_refusal(t, w) as u64
+    tree_refusal(t, record::width(t))
 }

@@ -1,6 +1,6 @@
 -- The tests of flattening as the code makes them (specs/Flattening.antt): a basis that is a variable is a root of kind
 -- 1, and one variable is a first one without a second.
-use mathlib.Core.Path.{◌≡◌, ap, sym, ◌∙◌}
+use mathlib.Core.Path.{◌≡◌, refl, ap, sym, ◌∙◌}
 use Prim.Native.Nat.{ℕ, ◌+◌, ◌-◌, ◌≤◌, ◌<◌}
 use native.Mathlib.Omega.{arith}
 use native.Mathlib.Decide.{ℕ_discrete}
@@ -18,7 +18,8 @@ use Rattle.expr_utils.specs.Utils.{has_shr}
 use Rattle.expr.specs.Vars.{no_var, next_var, support}
 use Rattle.expr.proofs.VarsLaws.{support_from, support_from_zero, support_from_next, support_from_end}
 use Rattle.decompose.specs.declared.Basis.{Basis}
-use Rattle.decompose.specs.Basis.{basis_span, view_of, IsDecomposed}
+use Rattle.decompose.specs.Basis.{basis_span, BasisOf}
+use Rattle.decompose.specs.Decompose.{no_basis, decompose_atom}
 use Rattle.views.specs.Grouping.{variable_basis}
 use Rattle.views.proofs.SplitLaws.{variable_kind, other_kind}
 use Rattle.structure_laws.specs.FlattenComplexAtoms.{is_plain}
@@ -33,20 +34,19 @@ kind_variable b ok = go (ℕ_discrete (kind b) 1)
     go (yes e) = variable_kind b ok e ∙ sym (eq-eqb (kind b) 1 e)
     go (no n) = other_kind b ok n ∙ sym (ne_eqb (kind b) 1 n)
 
-module _ (w : ℕ) (s : List ℕ) (r : Basis) (d : IsDecomposed w s r) where
-  pub plain_none : r.valid ≡ false → false ≡ is_plain w (decode s)
-  unfolding is_plain view_of
-  plain_none e = rw (← d.view) (simp e)
+pub plain_none : (w : ℕ) (s : List ℕ) → decompose_atom w (decode s) ≡ no_basis → false ≡ is_plain w (decode s)
+unfolding is_plain
+plain_none w s e = rw e refl
 
-  module _ (e : r.valid ≡ true) where
-    pub basis_big : 16 ≤ length (take (r.end - r.start) (drop r.start s))
-    unfolding basis_span
-    basis_big = sized_big (basis_span s r) (d.ok e)
+module _ (w : ℕ) (s : List ℕ) (r : Basis) (d : BasisOf w s r) where
+  pub basis_big : 16 ≤ length (take (r.end - r.start) (drop r.start s))
+  unfolding basis_span
+  basis_big = sized_big (basis_span s r) d.ok
 
-    pub plain_some : {k : ℕ} → k ≡ kind (take (r.end - r.start) (drop r.start s)) → eqb k 1 ≡ is_plain w (decode s)
-    unfolding is_plain view_of basis_span
-    plain_some ek =
-        ap (λ (n : ℕ). eqb n 1) ek ∙ sym (kind_variable (basis_span s r) (d.ok e)) ∙ rw (← d.view) (simp e)
+  pub plain_some : {k : ℕ} → k ≡ kind (take (r.end - r.start) (drop r.start s)) → eqb k 1 ≡ is_plain w (decode s)
+  unfolding is_plain basis_span
+  plain_some ek =
+      ap (λ (n : ℕ). eqb n 1) ek ∙ sym (kind_variable (basis_span s r) d.ok) ∙ rw d.view refl
 
 -- ---- complex atoms
 

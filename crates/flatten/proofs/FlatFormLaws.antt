@@ -1,5 +1,6 @@
 -- The begin and the end of flattening (specs/Flattening.antt): the words of the copied table hold the form's rows, and
 -- what the end of a pass gives of the flattened rows is the flattened form.
+use Rattle.made.specs.declared.Made.{Made}
 use mathlib.Core.Path.{◌≡◌, refl, ◌∙◌}
 use Prim.Native.Nat.{ℕ, ◌≤◌}
 use native.Mathlib.Omega.{arith}
@@ -9,6 +10,8 @@ use lib.ListN.{length, get_or, replicate}
 use Rattle.record.specs.Fields.{width, literal}
 use Rattle.record.specs.Span.{body}
 use Rattle.record.specs.Tree.{IsBytes}
+use Rattle.std.specs.Prelude.{Result}
+use Rattle.base.specs.declared.refusal.Refusal.{Refusal}
 use Rattle.semilinear.specs.declared.outcome.Answer.{Answer}
 use Rattle.atom_table.specs.declared.table.Table.{Table}
 use Rattle.semilinear.specs.Form.{Row}
@@ -21,7 +24,6 @@ use Rattle.atom_table.specs.Table.{Placed}
 use Rattle.atom_table.specs.Terms.{Copied, FinishRoom, Finished}
 use Rattle.atom_table.proofs.PassLaws.{semilinear_front}
 use Rattle.semilinear.proofs.ValidLaws.{semilinear_parts}
-use Rattle.made.specs.Made.{table_of}
 use Rattle.group.proofs.ShownLaws.{begun, held_copied, copied_end, shown_ends}
 use Rattle.structure_laws.specs.FlattenComplexAtoms.{flattened, flatten_form}
 use Rattle.flatten.specs.Flattening.{FrontReady, flat_rows, RowsFlattened}
@@ -39,7 +41,6 @@ flatten_begin s bytes ok {w} {k} {b} ew eb {tab} {out} h =
       width = (semilinear_parts s ok).0.width_le;
       front_ok_lem = semilinear_front s ok;
       ends = copied_end s bytes ok tab out h;
-      words = refl;
       clear = refl;
       held = held_copied (read_form s) tab out k h;
     }
@@ -47,8 +48,8 @@ flatten_begin s bytes ok {w} {k} {b} ew eb {tab} {out} h =
 
 -- ---- the end
 
-module _ {w k len : ℕ} {l : List Row} {g : Bool} {made out coeffs : List ℕ} {tab : Table}
-    (h : RowsFlattened w l k len g made out coeffs) (et : tab ≡ table_of made) where
+module _ {w k len : ℕ} {l : List Row} {g : Bool} {made : Made} {out coeffs : List ℕ} {tab : Table}
+    (h : RowsFlattened w l k len g made out coeffs) (et : tab ≡ made.table) where
   -- the end has room for all terms
   pub flatten_room : len ≡ 57360 → FinishRoom tab 1 coeffs out
   flatten_room e =
@@ -62,7 +63,7 @@ module _ {w k len : ℕ} {l : List Row} {g : Bool} {made out coeffs : List ℕ} 
       }
 
   -- and gives the flattened rows, or 9
-  flatten_gives : (r : Answer) {out' : List ℕ} → Finished w tab 1 coeffs (get_or made 5 0) g out r out'
+  flatten_gives : (r : Result Answer Refusal) {out' : List ℕ} → Finished w tab 1 coeffs made.constant g out r out'
       → GivesForm
       (limit_outcome
       (record { bitwidth = w; constant = (flat_rows w l k).constant; rows = (flat_rows w l k).added })
@@ -74,9 +75,9 @@ module _ {w k len : ℕ} {l : List Row} {g : Bool} {made out coeffs : List ℕ} 
 
 -- of the rows of a form it is the flattened form
 pub flatten_end : (s : List ℕ) {w k len : ℕ} {b : List ℕ} → w ≡ width s → k ≡ literal s → b ≡ body s
-    → {g : Bool} {made out coeffs : List ℕ} → RowsFlattened w (read_rows 0 b (after_atoms b)) k len g made out coeffs
-    → {tab : Table} → tab ≡ table_of made → (r : Answer) {out' : List ℕ}
-    → Finished w tab 1 coeffs (get_or made 5 0) g out r out'
+    → {g : Bool} {made : Made} {out coeffs : List ℕ} → RowsFlattened w (read_rows 0 b (after_atoms b)) k len g made out coeffs
+    → {tab : Table} → tab ≡ made.table → (r : Result Answer Refusal) {out' : List ℕ}
+    → Finished w tab 1 coeffs made.constant g out r out'
     → GivesForm (limit_outcome (flatten_form (read_form s)) (flattened (read_form s)).flag) 57360 r out'
 unfolding flatten_form flattened flat_rows decode_form
 flatten_end s ew ek eb h et r finished = rw (ew, ek, eb) at (flatten_gives h et r finished)

@@ -1,5 +1,6 @@
 -- One row of flattening as the code has it (specs/Flattening.antt): it has no term, keeps its coefficient, or is
 -- flattened.
+use Rattle.made.specs.declared.Made.{Made}
 use mathlib.Core.Path.{◌≡◌, refl, ap, ap₂, sym, ◌∙◌}
 use Prim.Native.Nat.{ℕ, ◌+◌, ◌-◌, ◌^◌, ◌≤◌, ◌<◌}
 use native.Mathlib.Omega.{arith}
@@ -22,17 +23,19 @@ use Rattle.expr.proofs.IsExprLaws.{occurs_lt}
 use Rattle.semilinear.specs.Form.{Row}
 use Rattle.semilinear.specs.Items.{is_atom, front_word, atom_length, tree_span, atom_count}
 use Rattle.semilinear.specs.Valid.{atom_ok, terms_ok}
-use Rattle.semilinear.specs.DecodeForm.{has_term, coeff_at, row_at}
+use Rattle.semilinear.specs.DecodeForm.{row_at, read_row}
 use Rattle.semilinear.proofs.ItemsLaws.{has_term_is}
 use Rattle.semilinear.proofs.ValidLaws.{atom_parts, term_parts, terms_first}
 use Rattle.semilinear.proofs.AcceptLaws.{bytes_tree_span}
-use Rattle.semilinear_value.proofs.SumLaws.{passed_without, passed_with, coeff_with}
-use Rattle.made.specs.Made.{Room}
-use Rattle.flatten.specs.declared.Flattening.{Flattening}
+use Rattle.made.specs.Made.{with_constant, Room}
+use Rattle.std.specs.Prelude.{None, Some}
+use Rattle.semilinear.specs.declared.items.FormRow.{FormRow}
+use Rattle.semilinear.specs.Atoms.{RowsLeft, FrontRow}
+use Rattle.semilinear.proofs.WalkLaws.{row_with, row_coeff_none, row_coeff_some}
 use Rattle.structure_laws.specs.FlattenComplexAtoms.{is_plain, is_complex, at_zero, at_ones, Flat, flat_row}
 use Rattle.structure_laws.specs.FlattenComplexAtoms.{flatten_row}
 use Rattle.flatten.specs.Flattening.{complex_tree, flat_tree, flat_constant, Extended, flat_with, Works}
-use Rattle.flatten.specs.Flattening.{bare_row, kept_row, row_here, RowFlattened}
+use Rattle.flatten.specs.Flattening.{bare_row, kept_row, RowFlattened}
 use Rattle.structure_laws.proofs.OneVarLaws.{one_var_occurs}
 use Rattle.structure_laws.proofs.FlattenLaws.{flatten_row_other}
 use Rattle.flatten.proofs.ShownLaws.{shown_put, extended_then, extended_as, extended_constant}
@@ -40,16 +43,16 @@ use Rattle.flatten.proofs.ShownLaws.{shown_put, extended_then, extended_as, exte
 -- ---- an atom's constant and its two rows
 
 module _ (w : ℕ) (t : Tree) (c : ℕ) where
-  pub flat_constant_lem : {made out : List ℕ} (coeffs : List ℕ) {zeroed product : ℕ} {made' : List ℕ} → Room made out
-      → zeroed ≡ value w [] t → product ≡ mod_mul c zeroed w → made' ≡ set made 5 (mod_add (get_or made 5 0) product w)
+  pub flat_constant_lem : {made : Made} {out : List ℕ} (coeffs : List ℕ) {zeroed product : ℕ} {made' : Made} → Room made out
+      → zeroed ≡ value w [] t → product ≡ mod_mul c zeroed w → made' ≡ with_constant made (mod_add made.constant product w)
       → Extended w 0 (λ l. l) (flat_constant w t c) made out coeffs made' out coeffs
   unfolding flat_constant at_zero
   flat_constant_lem {made} {out} coeffs room ez ep e =
       extended_constant w made out coeffs room (λ k. mod_add k (mod_mul c (value w [] t) w) w)
-      (e ∙ ap (λ (x : ℕ). set made 5 (mod_add (get_or made 5 0) x w)) (ep ∙ ap (λ (y : ℕ). mod_mul c y w) ez))
+      (e ∙ ap (λ (x : ℕ). with_constant made (mod_add made.constant x w)) (ep ∙ ap (λ (y : ℕ). mod_mul c y w) ez))
 
   pub flat_atom : {v zeroed raised passed inverted neg : ℕ}
-      {made out coeffs made₁ out₁ coeffs₁ made₂ out₂ coeffs₂ made₃ out₃ coeffs₃ : List ℕ}
+      {made : Made} {out coeffs : List ℕ} {made₁ : Made} {out₁ coeffs₁ : List ℕ} {made₂ : Made} {out₂ coeffs₂ : List ℕ} {made₃ : Made} {out₃ coeffs₃ : List ℕ}
       → v ≡ next_var 0 t → zeroed ≡ value w [] t → raised ≡ at_ones w v t
       → passed ≡ bit_and raised (2 ^ w - 1 - zeroed) → inverted ≡ bit_and zeroed (2 ^ w - 1 - raised)
       → neg ≡ mod_neg c w
@@ -101,7 +104,7 @@ module _ (w : ℕ) (x : Row) where
 
 -- ---- the form that is being made, with the rows a before the row x and b behind it
 
-module _ (w : ℕ) (x : Row) (made out coeffs : List ℕ) (a b : List Row) (k : ℕ) (g h : Bool)
+module _ (w : ℕ) (x : Row) (made : Made) (out coeffs : List ℕ) (a b : List Row) (k : ℕ) (g h : Bool)
     (was : Works w g made out coeffs (flat_with (a ++ (bare_row x ∷ b)) k h)) where
   -- the form after the row, where it is not flattened
   other : is_complex w x ≡ false
@@ -124,7 +127,7 @@ module _ (w : ℕ) (x : Row) (made out coeffs : List ℕ) (a b : List Row) (k : 
         shown = shown_put (bare_row x) x (bare_bare w x) b w made out coeffs coeffs' a put was.shown;
       })
 
-  works_flat : is_complex w x ≡ true → (made' out' coeffs' : List ℕ)
+  works_flat : is_complex w x ≡ true → (made' : Made) (out' coeffs' : List ℕ)
       → Extended w 2 (flat_tree w x.tree x.coeff) (flat_constant w x.tree x.coeff) made out coeffs made' out'
       coeffs'
       → Works w true made' out' coeffs' (flatten_row w x (flat_with (a ++ (kept_row w x ∷ b)) k h))
@@ -155,79 +158,74 @@ complex_index w r bytes ok {t} et e =
 
 -- ---- the turns
 
-module _ (w : ℕ) (f : List ℕ) (x : Flattening) (ha : x.at ≤ length f) (hn : x.next ≤ length f)
-    (e : is_atom (drop x.at f) ≡ true) {r q : List ℕ} (er : r ≡ drop x.at f) (eq : q ≡ drop x.next f) {n : ℕ}
-    (en : n ≡ atom_length r) {made out : List ℕ} (room : Room made out) (coeffs : List ℕ) where
-  pub turn_none : has_term x.number q ≡ false
-      → RowFlattened w f x (record { at = x.at + n; next = x.next; number = x.number + 1; flag = x.flag }) made out
-      coeffs made out coeffs
-  unfolding row_at coeff_at
-  turn_none h =
-      let h' : has_term x.number (drop x.next f) ≡ false = rw eq at h in
-      let none : (row_here f x).coeff ≡ 0 = simp h' in
+-- the row that a walk has next
+abbrev pub row_here : RowsLeft → Row
+row_here s = read_row s.number s.atoms s.terms
+
+module _ (w : ℕ) {s t : RowsLeft} {x : FormRow} (g : FrontRow s x t) {made : Made} {out : List ℕ} (room : Room made out)
+    (coeffs : List ℕ) (flag : Bool) where
+  pub turn_none : x.coeff ≡ None → RowFlattened w (row_here s) s.number flag flag made out coeffs made out coeffs
+  unfolding row_at
+  turn_none e =
+      let none : (row_here s).coeff ≡ 0 = row_coeff_none g e in
       record {
-        passed = passed_without f x.at x.next x.number ha hn e er eq en h;
         room = room;
         rows_le = omega arith;
         long = refl;
         wide = refl;
-        turn = λ a b k g _ was. works_none w (row_here f x) made out coeffs a b k x.flag g was none;
+        turn = λ a b k d _ was. works_none w (row_here s) made out coeffs a b k flag d was none;
       }
 
-  module _ (h : has_term x.number q ≡ true) {c : ℕ} (ec : c ≡ front_word q) {t : List ℕ} (et : t ≡ tree_span r)
-      (ok : terms_ok w (x.number + atom_count (drop x.at f)) x.number (drop x.next f) ≡ true) where
+  module _ (c : ℕ) (ec : x.coeff ≡ Some c)
+      (ok : terms_ok w (s.number + atom_count s.atoms) s.number s.terms ≡ true) where
     abbrev row : Row
-    row = row_here f x
+    row = row_here s
 
     coeff_row : c ≡ row.coeff
     unfolding row_at
-    coeff_row = ec ∙ coeff_with f x.at x.next x.number ha hn e er eq en h
+    coeff_row = sym (row_coeff_some g c ec)
 
-    tree_row_lem : decode t ≡ row.tree
+    tree_row_lem : decode x.atom.tree.now ≡ row.tree
     unfolding row_at
-    tree_row_lem = ap decode (et ∙ ap tree_span er)
+    tree_row_lem = ap decode g.atom.tree
 
     some : row.coeff ≡ 0 → ⊥
     some z =
-        let h' : has_term x.number (drop x.next f) ≡ true = rw eq at h in
-        let n = x.number + atom_count (drop x.at f) in
-        let p = has_term_is x.number (drop x.next f) h' in
-        let good = term_parts w n x.number (drop x.next f)
-        (terms_first w n x.number (drop x.next f) ok p.0).0 in
-        good.nonzero (ap front_word (sym eq) ∙ sym ec ∙ coeff_row ∙ z)
+        let n = s.number + atom_count s.atoms in
+        let h = row_with g c ec in
+        let p = has_term_is s.number s.terms h.0 in
+        let good = term_parts w n s.number s.terms (terms_first w n s.number s.terms ok p.0).0 in
+        good.nonzero (sym h.1 ∙ coeff_row ∙ z)
 
-    complex_row : complex_tree w (decode t) ≡ is_complex w row
+    complex_row : complex_tree w (decode x.atom.tree.now) ≡ is_complex w row
     complex_row = ap (complex_tree w) tree_row_lem ∙ sym (complex_some w row some)
 
-    pub turn_put : complex_tree w (decode t) ≡ false → {coeffs' : List ℕ} → coeffs' ≡ set coeffs x.number c
-        → RowFlattened w f x (record { at = x.at + n; next = x.next + 16; number = x.number + 1; flag = x.flag })
-        made out coeffs made out coeffs'
+    pub turn_put : complex_tree w (decode x.atom.tree.now) ≡ false → {coeffs' : List ℕ} → coeffs' ≡ set coeffs s.number c
+        → RowFlattened w row s.number flag flag made out coeffs made out coeffs'
     turn_put plain {coeffs'} put =
         record {
-          passed = passed_with f x.at x.next x.number ha hn e er eq en h;
           room = room;
           rows_le = omega arith;
           long = refl;
-          wide = ap length put ∙ length-set coeffs x.number c;
-          turn = λ a b k g l was.
-              works_put w row made out coeffs a b k x.flag g was (sym complex_row ∙ plain) coeffs'
+          wide = ap length put ∙ length-set coeffs s.number c;
+          turn = λ a b k d l was.
+              works_put w row made out coeffs a b k flag d was (sym complex_row ∙ plain) coeffs'
               (put ∙ ap₂ (λ (i v : ℕ). set coeffs i v) (sym l) coeff_row);
         }
 
-    pub turn_flat : complex_tree w (decode t) ≡ true → {made' out' coeffs' : List ℕ}
-        → Extended w 2 (flat_tree w (decode t) c) (flat_constant w (decode t) c) made out coeffs made' out' coeffs'
-        → RowFlattened w f x (record { at = x.at + n; next = x.next + 16; number = x.number + 1; flag = true })
-        made out coeffs made' out' coeffs'
+    pub turn_flat : complex_tree w (decode x.atom.tree.now) ≡ true → {made' : Made} {out' coeffs' : List ℕ}
+        → Extended w 2 (flat_tree w (decode x.atom.tree.now) c) (flat_constant w (decode x.atom.tree.now) c) made out
+        coeffs made' out' coeffs'
+        → RowFlattened w row s.number flag true made out coeffs made' out' coeffs'
     turn_flat complex {made'} {out'} {coeffs'} step =
         let step' : Extended w 2 (flat_tree w row.tree row.coeff) (flat_constant w row.tree row.coeff) made
         out coeffs made' out' coeffs' = rw (← tree_row_lem, ← coeff_row) step in
         record {
-          passed = passed_with f x.at x.next x.number ha hn e er eq en h;
           room = step.room;
           rows_le = step.rows_le;
           long = step.long;
           wide = step.wide;
-          turn = λ a b k g _ was.
-              works_flat w row made out coeffs a b k x.flag g was (sym complex_row ∙ complex) made' out' coeffs'
+          turn = λ a b k d _ was.
+              works_flat w row made out coeffs a b k flag d was (sym complex_row ∙ complex) made' out' coeffs'
               step';
         }

@@ -1,5 +1,6 @@
 -- A row for the bits of a variable (specs/Flattening.antt): the bytes of its basis, and the table and the coefficients
 -- with it, whether or not there is a place for its coefficient.
+use Rattle.made.specs.declared.Made.{Made}
 use mathlib.Core.Path.{◌≡◌, refl, ap, sym, ◌∙◌}
 use Prim.Native.Nat.{ℕ, ◌≤◌, ◌<◌}
 use native.Mathlib.Omega.{arith}
@@ -54,7 +55,7 @@ module _ (w v : ℕ) (hv : v < var_limit) {b : List ℕ} (e : b ≡ put (replica
       }
 
 -- no bits: nothing is added
-pub extended_none : (w v m c : ℕ) (made out coeffs : List ℕ) → Room made out → m ≡ 0
+pub extended_none : (w v m c : ℕ) (made : Made) (out coeffs : List ℕ) → Room made out → m ≡ 0
     → Extended w 1 (flat_row w v m c) (λ k. k) made out coeffs made out coeffs
 unfolding flat_row
 extended_none w v m c made out coeffs r e =
@@ -68,7 +69,7 @@ extended_none w v m c made out coeffs r e =
     }
 
 -- an atom more, for the bits m of variable v
-module _ (w v m c : ℕ) (some : m ≡ 0 → ⊥) {made out made' out' : List ℕ}
+module _ (w v m c : ℕ) (some : m ≡ 0 → ⊥) {made : Made} {out : List ℕ} {made' : Made} {out' : List ℕ}
     (g : Grew w 1 (create_masked w (Variable v) m) made out made' out') where
   abbrev new : ℕ → Row
   new x = new_row (masked_tree w (Variable v) m) x
@@ -98,26 +99,26 @@ module _ (w v m c : ℕ) (some : m ≡ 0 → ⊥) {made out made' out' : List �
 
     -- the coefficients of rows that keep the limits with one more, and the count of those rows
     shown_length : (l : List Row) → Shown w made out coeffs l → fits_table (l ++ (new c ∷ [])) ≡ true
-        → (get_or made 4 0 ≡ length l) × (length l < 256) × (length coeffs ≡ 256)
+        → (made.rows ≡ length l) × (length l < 256) × (length coeffs ≡ 256)
     shown_length l h fit =
         let n : length l < 256 = omega (arith, fits_length (l ++ (new c ∷ [])) fit, length-append l (new c ∷ [])) in
         let k : length (coeffs_of l) ≤ 256 = omega (arith, length_coeffs l) in
         (h.held.rows, n, ap length (h.terms (fits_less l (new c ∷ []) fit)) ∙ length_padded 256 (coeffs_of l) k)
 
     -- there is no place for the coefficient: the rows pass a limit
-    pub extended_past : length coeffs ≤ get_or made 4 0
+    pub extended_past : length coeffs ≤ made.rows
         → Extended w 1 (flat_row w v m c) (λ k. k) made out coeffs made' out' coeffs
     extended_past full =
         extended_some coeffs refl (λ l h fit. let p = shown_length l h fit in absurd (omega (arith, p.0, p.1, p.2)))
 
-    pub extended_put : (coeffs' : List ℕ) → coeffs' ≡ set coeffs (get_or made 4 0) c
+    pub extended_put : (coeffs' : List ℕ) → coeffs' ≡ set coeffs made.rows c
         → Extended w 1 (flat_row w v m c) (λ k. k) made out coeffs made' out' coeffs'
     unfolding coeffs_of
     extended_put coeffs' e =
-        extended_some coeffs' (ap length e ∙ length-set coeffs (get_or made 4 0) c) λ l h fit.
+        extended_some coeffs' (ap length e ∙ length-set coeffs made.rows c) λ l h fit.
         let p = shown_length l h fit in
         e
-        ∙ ap (λ (d : List ℕ). set d (get_or made 4 0) c) (h.terms (fits_less l (new c ∷ []) fit))
-        ∙ set_behind (coeffs_of l) c 256 (get_or made 4 0) (p.0 ∙ sym (length_coeffs l))
+        ∙ ap (λ (d : List ℕ). set d made.rows c) (h.terms (fits_less l (new c ∷ []) fit))
+        ∙ set_behind (coeffs_of l) c 256 made.rows (p.0 ∙ sym (length_coeffs l))
         (omega (arith, p.1, length_coeffs l))
         ∙ ap (padded 256) (sym (coeffs_append l (new c ∷ [])))

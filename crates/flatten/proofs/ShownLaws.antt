@@ -1,5 +1,6 @@
 -- Laws of a table with its coefficients (specs/Flattening.antt): a coefficient put in its place, and steps that follow
 -- each other.
+use Rattle.made.specs.declared.Made.{Made}
 use mathlib.Core.Path.{◌≡◌, refl, ap, sym, ◌∙◌}
 use Prim.Native.Nat.{ℕ, suc, ◌+◌, ◌-◌, ◌<◌}
 use native.Mathlib.Omega.{arith}
@@ -12,10 +13,10 @@ use Rattle.semilinear.specs.Form.{Row, tree_records, fits_table}
 use Rattle.atom_table.specs.Terms.{coeffs_of}
 use Rattle.atom_table.proofs.TermsLaws.{length_coeffs, coeffs_append}
 use Rattle.atom_table.proofs.HoldsLaws.{bare_rows, holds_bare}
-use Rattle.made.specs.Made.{table_of, Room, Held}
+use Rattle.made.specs.Made.{with_constant, Room, Held}
 use Rattle.made.specs.Shown.{Shown}
 use Rattle.flatten.specs.Flattening.{bare_row, Extended}
-use Rattle.bare.proofs.ConstantLaws.{word_kept, room_kept, held_kept}
+use Rattle.bare.proofs.ConstantLaws.{room_kept, held_kept}
 
 -- ---- coefficients
 
@@ -60,17 +61,17 @@ module _ (x y : Row) (e : bare_row x ≡ bare_row y) (b : List Row) where
   unfolding fits_table
   fits_other a = rw (length_other a, records_other a)
 
-  pub held_other : (w : ℕ) (made out : List ℕ) (a : List Row) → Held w made out (a ++ (x ∷ b))
+  pub held_other : (w : ℕ) (made : Made) (out : List ℕ) (a : List Row) → Held w made out (a ++ (x ∷ b))
       → Held w made out (a ++ (y ∷ b))
   held_other w made out a h =
       record {
-        holds = holds_bare (a ++ (x ∷ b)) (a ++ (y ∷ b)) (bare_other a) w (table_of made) out h.holds;
+        holds = holds_bare (a ++ (x ∷ b)) (a ++ (y ∷ b)) (bare_other a) w made.table out h.holds;
         clean = h.clean;
         rows = h.rows ∙ length_other a;
       }
 
   -- its coefficient put in its place
-  pub shown_put : (w : ℕ) (made out coeffs coeffs' : List ℕ) (a : List Row) → coeffs' ≡ set coeffs (length a) y.coeff
+  pub shown_put : (w : ℕ) (made : Made) (out coeffs coeffs' : List ℕ) (a : List Row) → coeffs' ≡ set coeffs (length a) y.coeff
       → Shown w made out coeffs (a ++ (x ∷ b)) → Shown w made out coeffs' (a ++ (y ∷ b))
   unfolding coeffs_of
   shown_put w made out coeffs coeffs' a put h =
@@ -87,7 +88,7 @@ module _ (x y : Row) (e : bare_row x ≡ bare_row y) (b : List Row) where
 -- ---- steps
 
 pub extended_then : {w n m : ℕ} {F G : List Row → List Row} {k j : ℕ → ℕ}
-    {made out coeffs made' out' coeffs' made'' out'' coeffs'' : List ℕ}
+    {made : Made} {out coeffs : List ℕ} {made' : Made} {out' coeffs' : List ℕ} {made'' : Made} {out'' coeffs'' : List ℕ}
     → Extended w n F k made out coeffs made' out' coeffs' → Extended w m G j made' out' coeffs' made'' out'' coeffs''
     → Extended w (n + m) (λ l. G (F l)) (λ x. j (k x)) made out coeffs made'' out'' coeffs''
 extended_then {F = F} {j = j} a b =
@@ -101,31 +102,31 @@ extended_then {F = F} {j = j} a b =
     }
 
 -- the same step under other names
-pub extended_as : {w n : ℕ} {F G : List Row → List Row} {k j : ℕ → ℕ} {made out coeffs made' out' coeffs' : List ℕ}
+pub extended_as : {w n : ℕ} {F G : List Row → List Row} {k j : ℕ → ℕ} {made : Made} {out coeffs : List ℕ} {made' : Made} {out' coeffs' : List ℕ}
     → ((l : List Row) → F l ≡ G l) → ((x : ℕ) → k x ≡ j x) → Extended w n F k made out coeffs made' out' coeffs'
     → Extended w n G j made out coeffs made' out' coeffs'
 extended_as {made = made} f g a =
     record {
       room = a.room;
       rows_le = a.rows_le;
-      constant = a.constant ∙ g (get_or made 5 0);
+      constant = a.constant ∙ g made.constant;
       long = a.long;
       wide = a.wide;
       shown = λ l h. rw (← (f l)) (a.shown l h);
     }
 
 -- another constant alone
-module _ (w : ℕ) (made out coeffs : List ℕ) (r : Room made out) (k : ℕ → ℕ) where
-  abbrev with : List ℕ
-  with = set made 5 (k (get_or made 5 0))
+module _ (w : ℕ) (made : Made) (out coeffs : List ℕ) (r : Room made out) (k : ℕ → ℕ) where
+  abbrev with : Made
+  with = with_constant made (k made.constant)
 
-  pub extended_constant : {made' : List ℕ} → made' ≡ with → Extended w 0 (λ l. l) k made out coeffs made' out coeffs
+  pub extended_constant : {made' : Made} → made' ≡ with → Extended w 0 (λ l. l) k made out coeffs made' out coeffs
   extended_constant e =
-      let v : ℕ = k (get_or made 5 0) in
+      let v : ℕ = k made.constant in
       rw e record {
         room = room_kept made v r;
-        rows_le = omega (arith, word_kept made v 4 (omega arith));
-        constant = get_or-set_same made 5 v 0 (omega (arith, r.words));
+        rows_le = omega arith;
+        constant = refl;
         long = refl;
         wide = refl;
         shown = λ l h. record { held = held_kept made v h.held; terms = h.terms };

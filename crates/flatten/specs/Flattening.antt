@@ -1,5 +1,6 @@
 -- How flattening goes over the rows (src/lib.rt): the words of the table, the bytes of its atoms and the
 -- coefficients beside them show the rows of the form that is being made; a step is said for all rows that they show.
+use Rattle.made.specs.declared.Made.{Made}
 use Rattle.std.specs.Prelude.{◌≡◌, ℕ, ◌+◌, ◌-◌, ◌^◌, ◌<◌, ◌≤◌, List, [], ◌∷◌, ◌++◌, Bool, true, false, not, ◌&&◌, length, get_or, drop, replicate, eqb}
 use Rattle.std.specs.Int.Bits.{bit_and}
 use Rattle.arith.specs.Width.{mod_add, mod_mul, mod_neg}
@@ -8,14 +9,12 @@ use Rattle.record.specs.Tree.{Tree}
 use Rattle.expr_utils.specs.Utils.{has_shr}
 use Rattle.expr.specs.Vars.{next_var, support}
 use Rattle.semilinear.specs.Form.{Row}
-use Rattle.semilinear.specs.Items.{atom_count, after_atoms}
-use Rattle.semilinear.specs.Valid.{terms_ok, front_ok}
-use Rattle.semilinear.specs.DecodeForm.{read_rows, read_row}
+use Rattle.semilinear.specs.Items.{after_atoms}
+use Rattle.semilinear.specs.Valid.{front_ok}
+use Rattle.semilinear.specs.DecodeForm.{read_rows}
 use Rattle.semilinear.specs.Scan.{AtomsEnd}
-use Rattle.semilinear_value.specs.Running.{AtRow, RowPassed}
 use Rattle.made.specs.Made.{Room, Held}
 use Rattle.made.specs.Shown.{Shown}
-use Rattle.flatten.specs.declared.Flattening.{Flattening}
 use Rattle.structure_laws.specs.FlattenComplexAtoms.{is_plain, is_complex, at_zero, at_ones, Flat, flat_row}
 use Rattle.structure_laws.specs.FlattenComplexAtoms.{flatten_row, flatten_rows, kept_rows}
 use Rattle.base.specs.Limits.{atom_limit, var_limit}
@@ -45,38 +44,28 @@ flat_constant w t c k = mod_add k (mod_mul c (at_zero w t) w) w
 -- ---- what is asked
 
 -- n rows of variable v can be made
-pub record VariableReady (w n v : ℕ) (made out : List ℕ) : Type 0 where
+pub record VariableReady (w n v : ℕ) (made : Made) (out : List ℕ) : Type 0 where
   pub width : w ≤ 64
   pub within : v < var_limit
   pub room : Room made out
-  pub more : get_or made 4 0 + n < 2 ^ 64
-
--- x is before an atom, and there is room for its coefficient and two rows more
-pub record RowReady (w : ℕ) (f : List ℕ) (x : Flattening) (made coeffs out : List ℕ) : Type 0 where
-  pub row : AtRow w f x.at x.next
-  pub number_le : x.number ≤ x.at
-  pub terms_ok_lem : terms_ok w (x.number + atom_count (drop x.at f)) x.number (drop x.next f) ≡ true
-  pub coeffs_room : x.number < length coeffs
-  pub room : Room made out
-  pub more : get_or made 4 0 + 2 < 2 ^ 64
+  pub more : made.rows + n < 2 ^ 64
 
 -- f is atoms and, from `terms` on, terms as they must be; no coefficient is set, and the table holds the rows
-pub record FrontReady (w : ℕ) (f : List ℕ) (terms : ℕ) (made coeffs out : List ℕ) : Type 0 where
+pub record FrontReady (w : ℕ) (f : List ℕ) (terms : ℕ) (made : Made) (coeffs out : List ℕ) : Type 0 where
   pub width : w ≤ 64
   pub front_ok_lem : front_ok w f ≡ true
   pub ends : AtomsEnd f terms
-  pub words : length made ≡ 6
   pub clear : coeffs ≡ replicate atom_limit 0
   pub held : Held w made out (read_rows 0 f (after_atoms f))
 
 -- ---- the table with its coefficients
 
 -- a step: F on the rows, at most n more, and k on the constant
-pub record Extended (w n : ℕ) (F : List Row → List Row) (k : ℕ → ℕ) (made out coeffs made' out' coeffs' : List ℕ)
+pub record Extended (w n : ℕ) (F : List Row → List Row) (k : ℕ → ℕ) (made : Made) (out coeffs : List ℕ) (made' : Made) (out' coeffs' : List ℕ)
     : Type 0 where
   pub room : Room made' out'
-  pub rows_le : get_or made' 4 0 ≤ get_or made 4 0 + n
-  pub constant : get_or made' 5 0 ≡ k (get_or made 5 0)
+  pub rows_le : made'.rows ≤ made.rows + n
+  pub constant : made'.constant ≡ k made.constant
   pub long : length out' ≡ length out
   pub wide : length coeffs' ≡ length coeffs
   pub shown : (l : List Row) → Shown w made out coeffs l → Shown w made' out' coeffs' (F l)
@@ -87,9 +76,9 @@ pub record Extended (w n : ℕ) (F : List Row → List Row) (k : ℕ → ℕ) (m
 abbrev pub flat_with : List Row → ℕ → Bool → Flat
 flat_with l k g = record { added = l; constant = k; flag = g }
 
-pub record Works (w : ℕ) (g : Bool) (made out coeffs : List ℕ) (s : Flat) : Type 0 where
+pub record Works (w : ℕ) (g : Bool) (made : Made) (out coeffs : List ℕ) (s : Flat) : Type 0 where
   pub flag : g ≡ s.flag
-  pub constant : get_or made 5 0 ≡ s.constant
+  pub constant : made.constant ≡ s.constant
   pub shown : Shown w made out coeffs s.added
 
 -- a row without its term, and as flattening leaves it
@@ -99,22 +88,16 @@ bare_row x = record { provenance = x.provenance; tree = x.tree; coeff = 0 }
 unfoldable pub kept_row : ℕ → Row → Row
 kept_row w x = when (is_complex w x) (λ _. bare_row x) (λ _. x)
 
--- the row whose atom stands at the place of x
-abbrev pub row_here : List ℕ → Flattening → Row
-row_here f x = read_row x.number (drop x.at f) (drop x.next f)
-
--- y is x after one row: of all rows a before it and b behind it
-pub record RowFlattened (w : ℕ) (f : List ℕ) (x y : Flattening) (made out coeffs made' out' coeffs' : List ℕ)
+-- the row x, number n, is passed, and the flag becomes h: of all rows a before it and b behind it
+pub record RowFlattened (w : ℕ) (x : Row) (n : ℕ) (g h : Bool) (made : Made) (out coeffs : List ℕ) (made' : Made) (out' coeffs' : List ℕ)
     : Type 0 where
-  pub passed : RowPassed f x.at x.next x.number y.at y.next y.number
   pub room : Room made' out'
-  pub rows_le : get_or made' 4 0 ≤ get_or made 4 0 + 2
+  pub rows_le : made'.rows ≤ made.rows + 2
   pub long : length out' ≡ length out
   pub wide : length coeffs' ≡ length coeffs
-  pub turn : (a b : List Row) (k : ℕ) (g : Bool) → length a ≡ x.number
-      → Works w x.flag made out coeffs (flat_with (a ++ (bare_row (row_here f x) ∷ b)) k g)
-      → Works w y.flag made' out' coeffs'
-      (flatten_row w (row_here f x) (flat_with (a ++ (kept_row w (row_here f x) ∷ b)) k g))
+  pub turn : (a b : List Row) (k : ℕ) (d : Bool) → length a ≡ n
+      → Works w g made out coeffs (flat_with (a ++ (bare_row x ∷ b)) k d)
+      → Works w h made' out' coeffs' (flatten_row w x (flat_with (a ++ (kept_row w x ∷ b)) k d))
 
 -- the rows l flattened, from the constant k on: those kept, and those added behind
 unfoldable pub flat_rows : ℕ → List Row → ℕ → Flat
@@ -124,7 +107,7 @@ flat_rows w l k = flat_with (kept_rows w l ++ made.added) made.constant made.fla
     made = flatten_rows w l (flat_with [] k false)
 
 -- all rows flattened, and the words and bytes as safe to go on with as before
-pub record RowsFlattened (w : ℕ) (l : List Row) (k len : ℕ) (r : Bool) (made out coeffs : List ℕ) : Type 0 where
+pub record RowsFlattened (w : ℕ) (l : List Row) (k len : ℕ) (r : Bool) (made : Made) (out coeffs : List ℕ) : Type 0 where
   pub room : Room made out
   pub long : length out ≡ len
   pub wide : length coeffs ≡ atom_limit

@@ -1,5 +1,5 @@
 // Flattening the atoms of one variable: f(0), and the bits that the variable passes or inverts. The
-// table of the result is in lent words beside its bytes, the coefficients in words of their own.
+// table of the result is lent beside its bytes, the coefficients in words of their own.
 #![tactic(auto)]
 
 ghost use Rattle.std.specs.Prelude.{◌≡◌, true, [], ◌-◌, ◌^◌, ◌<◌, ◌≤◌, length, get_or};
@@ -17,31 +17,32 @@ ghost use Rattle.semilinear.specs.PassOutcome.{limit_outcome};
 ghost use Rattle.structure_laws.specs.FlattenComplexAtoms.{is_plain, at_ones, flat_row, flattened};
 ghost use Rattle.structure_laws.specs.FlattenComplexAtoms.{flatten_form, flatten_complex_atoms};
 ghost use Rattle.flatten.specs.Flattening.{complex_tree, flat_tree, flat_constant, Extended};
-ghost use Rattle.flatten.specs.Flattening.{VariableReady, RowReady, FrontReady};
-ghost use Rattle.flatten.specs.Flattening.{RowFlattened, RowsFlattened};
+ghost use Rattle.flatten.specs.Flattening.{VariableReady, FrontReady};
+ghost use Rattle.flatten.specs.Flattening.{RowsFlattened};
 ghost use Rattle.base.specs.Limits.{form_bytes};
 
 use atom_table::{pass, read};
 use bare::constant;
 use base::limits;
+use base::refusal::Refusal;
+use made::Made;
+use record::kinds::Kind;
+use semilinear::items::Rows;
 use semilinear::outcome::Answer;
-use semilinear::{items, outcome};
 
 // Whether the tree of t, which has a variable, is a variable or a variable under masks.
 fn is_plain(t: &[u8], w: u32) -> bool
     requires { (sized t.now ≡ true) × (w ≤ 64) × (has_var_dep (decode t.now) ≡ true) }
     ensures { result ≡ is_plain w (decode t.now) }
 {
-    let found = decompose::decompose_atom(t, w);
-    if !found.valid {
-        return false;
+    match decompose::decompose_atom(t, w) {
+        Some(found) => record::kind(&t[found.start..found.end]) == Kind::Variable as u8,
+        None => false,
     }
-    let start = found.start;
-    let end = found.end;
-    record::kind(&t[start..end]) == 1
 }
 
-// Whether the tree of t, which has a variable, has one alone, is not plain and has no Shr.
+// Whether the tree of t, which has a variable, has one alone, is not plain and has no Shr. No variable is a number, as in
+// the definition `next_var`.
 fn is_complex(t: &[u8], w: u32) -> bool
     requires { (sized t.now ≡ true) × (w ≤ 64) × (has_var_dep (decode t.now) ≡ true) }
     ensures { result ≡ complex_tree w (decode t.now) }
@@ -78,7 +79,7 @@ fn bits_without(a: u64, b: u64, w: u32) -> u64
 }
 
 // A new row for the bits m of variable v, with the coefficient c, unless there are none.
-fn flat_row(v: u64, m: u64, c: u64, w: u8, made: &mut [u64], coeffs: &mut [u64], out: &mut [u8])
+fn flat_row(v: u64, m: u64, c: u64, w: u8, made: &mut Made, coeffs: &mut [u64], out: &mut [u8])
     requires { VariableReady w 1 v made.old out.old }
     ensures { Extended w 1 (flat_row w v m c) (λ k. k)
         made.old out.old coeffs.old
@@ -87,7 +88,7 @@ fn flat_row(v: u64, m: u64, c: u64, w: u8, made: &mut [u64], coeffs: &mut [u64],
     if m == 0 {
         return;
     }
-    let row = made[4] as usize;
+    let row = made.rows as usize;
     let mut b = [0u8; limits::RECORD_LENGTH];
     record::write::put_variable(&mut b, 0, v, w);
     made::create_masked(made, out, &b, expr::hash::structural_hash(&b), m, w);
@@ -98,7 +99,7 @@ fn flat_row(v: u64, m: u64, c: u64, w: u8, made: &mut [u64], coeffs: &mut [u64],
 }
 
 // The atom with the tree t and the coefficient c, flattened: the bits passed before those inverted.
-fn flatten_atom(t: &[u8], c: u64, w: u8, made: &mut [u64], coeffs: &mut [u64], out: &mut [u8])
+fn flatten_atom(t: &[u8], c: u64, w: u8, made: &mut Made, coeffs: &mut [u64], out: &mut [u8])
     requires { (sized t.now ≡ true)
         × VariableReady w 2 (next_var 0 (decode t.now)) made.old out.old }
     ensures { Extended w 2 (flat_tree w (decode t.now) c)
@@ -118,98 +119,37 @@ fn flatten_atom(t: &[u8], c: u64, w: u8, made: &mut [u64], coeffs: &mut [u64], o
     flat_row(v, inverted, negated, w, made, coeffs, out);
 }
 
-// A flattening on its way: the places of the next atom and the next term, the atom's number, and
-// whether an atom was flattened.
-#[derive(Drop)]
-pub struct Flattening {
-    pub at: usize,
-    pub next: usize,
-    pub number: u64,
-    pub flag: bool,
-}
-
-impl Flattening {
-    // The atom at `at` is flattened where it is complex, and else keeps its coefficient.
-    fn flatten_row(
-        self,
-        f: &[u8],
-        w: u8,
-        made: &mut [u64],
-        coeffs: &mut [u64],
-        out: &mut [u8],
-    ) -> Self
-        requires { RowReady w f.now self made.old coeffs.old out.old }
-        ensures { RowFlattened w f.now self result
-            made.old out.old coeffs.old
-            made.new out.new coeffs.new }
-    {
-        let at = self.at;
-        let next = self.next;
-        let number = self.number;
-        let r = items::rest_from(f, at);
-        let q = items::rest_from(f, next);
-        let after = at + items::atom_length(r);
-        if !items::has_term(number, q) {
-            return Flattening {
-                at: after,
-                next: next,
-                number: number + 1,
-                flag: self.flag,
-            };
-        }
-        let c = items::front_word(q);
-        let t = items::tree_span(r);
-        if is_complex(t, w as u32) {
-            flatten_atom(t, c, w, made, coeffs, out);
-            return Flattening {
-                at: after,
-                next: next + limits::RECORD_LENGTH,
-                number: number + 1,
-                flag: true,
-            };
-        }
-        let i = number as usize;
-        coeffs[i] = c;
-        Flattening {
-            at: after,
-            next: next + limits::RECORD_LENGTH,
-            number: number + 1,
-            flag: self.flag,
-        }
-    }
-}
-
-// All rows of f in turn; returns whether one was flattened. The terms begin at `terms`.
+// All rows of f in turn; returns whether one was flattened. The terms begin at `terms`. An atom is
+// flattened where it is complex, and else keeps its coefficient.
 fn flatten_rows(
     f: &[u8],
     terms: usize,
     w: u8,
-    made: &mut [u64],
+    made: &mut Made,
     coeffs: &mut [u64],
     out: &mut [u8],
 ) -> bool
     requires { FrontReady w f.now terms made.old coeffs.old out.old }
     ensures { RowsFlattened w (read_rows 0 f.now (after_atoms f.now))
-        (get_or made.old 5 0) (length out.old) result
+        made.old.constant (length out.old) result
         made.new out.new coeffs.new }
 {
-    let mut x = Flattening {
-        at: 0,
-        next: terms,
-        number: 0,
-        flag: false,
-    };
-    loop {
-        let at = x.at;
-        if !items::is_atom(items::rest_from(f, at)) {
-            return x.flag;
+    let mut flag = false;
+    for row in Rows::of(f, terms) {
+        if let Some(coeff) = row.coeff {
+            if is_complex(row.atom.tree, w as u32) {
+                flatten_atom(row.atom.tree, coeff, w, made, coeffs, out);
+                flag = true;
+            } else {
+                coeffs[row.number as usize] = coeff;
+            }
         }
-        x = x.flatten_row(f, w, made, coeffs, out);
     }
+    flag
 }
 
 // Flattens a form into a slice of 57,360 bytes, which is all zeros.
-fn flatten_form(s: &[u8], out: &mut [u8]) -> Answer
+fn flatten_form(s: &[u8], out: &mut [u8]) -> Result<Answer, Refusal>
     requires { (is_semilinear s.now ≡ true) × (out.old ≡ padded form_bytes []) }
     ensures { GivesForm (limit_outcome (flatten_form (read_form s.now))
         (flattened (read_form s.now)).flag) form_bytes result out.new }
@@ -219,20 +159,22 @@ fn flatten_form(s: &[u8], out: &mut [u8]) -> Answer
     let tab = pass::copy_atoms(s, out);
     let terms = tab.at;
     let count = tab.count;
-    let mut made = [terms as u64, count, tab.records, 0, count, constant];
+    let mut made = Made {
+        table: tab,
+        rows: count,
+        constant,
+    };
     let mut coeffs = [0u64; limits::ATOM_LIMIT];
     let flag = flatten_rows(record::body(s), terms, w, &mut made, &mut coeffs, out);
-    pass::finish(made::load(&made), &coeffs, 1, made[5], w, flag, out)
+    pass::finish(made.table, &coeffs, 1, made.constant, w, flag, out)
 }
 
 // The form s with its complex atoms flattened, written to out; or a refusal: 1, 2, 9 or 10.
-pub fn flatten_complex_atoms(s: &[u8], out: &mut [u8]) -> Answer
+// Each pass has its own such function: two lines, and a clause of its own.
+pub fn flatten_complex_atoms(s: &[u8], out: &mut [u8]) -> Result<Answer, Refusal>
     ensures { GivesForm (flatten_complex_atoms s.now (length out.old))
         (length out.old) result out.new }
 {
-    let number = read::open_bytes(s, out);
-    if number != 0 {
-        return outcome::refusal(number);
-    }
+    read::open_bytes(s, out)?;
     flatten_form(s, out)
 }

@@ -1,13 +1,13 @@
 -- Laws of the three-term collapse (specs/Collapse.antt): what is true of the three entries that are found, and the step
 -- on them as the code does it.
-use mathlib.Core.Path.{◌≡◌, ap, sym, subst, ◌∙◌}
+use Rattle.made.specs.declared.Made.{Made}
+use mathlib.Core.Path.{◌≡◌, refl, ap, sym, subst, ◌∙◌}
 use mathlib.Core.Logic.{◌≢◌}
 use Prim.Native.Nat.{ℕ, ◌+◌, ◌≤◌, ◌<◌}
 use native.Mathlib.Omega.{arith}
 use mathlib.Core.List.{List}
 use mathlib.Core.Bool.{true, not}
-use lib.ListN.{length, get_or, set}
-use lib.Seq.{set-get_or, get_or-set_other}
+use lib.ListN.{length, get_or}
 use lib.Bits.{bit_and, bit_or}
 use lib.Dec.{eqb, ltb}
 use borrow.Author.Tests.{eqb-true, eqb-false, lt-ltb, le-ltb, ltb-true, not-true}
@@ -25,7 +25,6 @@ use Rattle.group.specs.Collapse.{three_term_collapse}
 use Rattle.made.specs.Made.{Grew}
 use Rattle.group.specs.Made.{Stands, Stepped}
 use Rattle.group.proofs.SteppedLaws.{stepped_of}
-use Rattle.group.proofs.DropLaws.{mk, mk_eq}
 
 -- ---- the three entries
 
@@ -102,48 +101,30 @@ module _ (w : ℕ) (g : Group) where
 
 -- ---- the step on three entries
 
--- a store of an element that is as it was
-set_kept : (l m : List ℕ) (k : ℕ) → get_or m k 0 ≡ get_or l k 0 → set m k (get_or l k 0) ≡ m
-set_kept l m k e = ap (set m k) (sym e) ∙ set-get_or m k 0
+abbrev pub both_masks : Group → ℕ → ℕ → ℕ
+both_masks g i k = bit_or (at g i).mask (at g k).mask
 
--- two stores of elements as they were
-set_two_kept : (l : List ℕ) (i j : ℕ) → set (set l i (get_or l i 0)) j (get_or l j 0) ≡ l
-set_two_kept l i j = ap (λ (s : List ℕ). set s j (get_or l j 0)) (set-get_or l i 0) ∙ set-get_or l j 0
-
--- two stores, and one beside them of an element that is as it was
-set_two_beside : (l : List ℕ) (i j k a b : ℕ) → k ≢ i → k ≢ j
-    → set (set (set l i a) j b) k (get_or l k 0) ≡ set (set l i a) j b
-set_two_beside l i j k a b hi hj =
-    set_kept l (set (set l i a) j b) k (get_or-set_other (set l i a) j k b 0 hj ∙ get_or-set_other l i k a 0 hi)
-
-abbrev both_masks : Group → ℕ → ℕ → ℕ
-both_masks g i k = bit_or (get_or g.masks i 0) (get_or g.masks k 0)
-
--- the group after the collapse, as the code has it; n rows before
-abbrev collapsed : Group → ℕ → ℕ → ℕ → ℕ → Group
+-- the group after the collapse; n rows before
+abbrev pub collapsed : Group → ℕ → ℕ → ℕ → ℕ → Group
 collapsed g i j k n =
-    mk g.coeffs (set (set g.masks i (both_masks g i k)) j (both_masks g j k)) (set (set g.atoms i n) j (n + 1))
-    (set g.marks k 1) g.len
+    put_entry
+    (put_entry (put_entry g i (remasked (at g i) (both_masks g i k) n))
+    j (remasked (at g j) (both_masks g j k) (n + 1)))
+    k (consumed (at g k))
 
-module _ (w : ℕ) (t : Tree) (i j k : ℕ) (hi : k ≢ i) (hj : k ≢ j) where
+module _ (w : ℕ) (t : Tree) (i j k : ℕ) where
   collapse_at_is : (g : Group) (l : List Row)
       → collapse_at w t i j k (work g l)
       ≡ work (collapsed g i j k (length l)) (create_masked w t (both_masks g j k) (create_masked w t (both_masks g i k) l))
-  unfolding collapse_at put_entry remasked consumed at work
-  collapse_at_is g l =
-      ap (λ (r : Group). work r (create_masked w t (both_masks g j k) (create_masked w t (both_masks g i k) l)))
-      (mk_eq
-      (ap (λ (s : List ℕ). set s k (get_or g.coeffs k 0)) (set_two_kept g.coeffs i j) ∙ set-get_or g.coeffs k 0)
-      (set_two_beside g.masks i j k (both_masks g i k) (both_masks g j k) hi hj)
-      (set_two_beside g.atoms i j k (length l) (length l + 1) hi hj)
-      (ap (λ (s : List ℕ). set s k 1) (set_two_kept g.marks i j)))
+  unfolding collapse_at work
+  collapse_at_is g l = refl
 
-  pub collapsed_stepped : {g r : Group} {made out made' out' made'' out'' : List ℕ}
+  pub collapsed_stepped : {g r : Group} {made : Made} {out : List ℕ} {made' : Made} {out' : List ℕ} {made'' : Made} {out'' : List ℕ}
       → Grew w 1 (create_masked w t (both_masks g i k)) made out made' out'
       → Grew w 1 (create_masked w t (both_masks g j k)) made' out' made'' out''
-      → r ≡ collapsed g i j k (get_or made 4 0)
+      → r ≡ collapsed g i j k made.rows
       → Stepped w 2 (collapse_at w t i j k) g made out r made'' out''
-  unfolding work
+  unfolding work put_entry
   collapsed_stepped {g} {r} {made'' = made''} {out'' = out''} one two e =
       stepped_of two.room
       (record {

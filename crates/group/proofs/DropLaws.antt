@@ -1,68 +1,51 @@
 -- Laws of the drop of terms without effect and of the join of two entries (specs/Steps.antt) as the code does them.
+use Rattle.made.specs.declared.Made.{Made}
 use mathlib.Core.Path.{◌≡◌, refl, ap, sym, subst, ◌∙◌}
-use mathlib.Core.Logic.{◌≢◌}
-use Prim.Native.Nat.{ℕ, ◌+◌, ◌<◌}
-use native.Mathlib.Omega.{arith}
+use Prim.Native.Nat.{ℕ, ◌<◌}
 use mathlib.Core.List.{List}
-use mathlib.Core.Bool.{Bool, true, false, not, ◌&&◌}
-use lib.ListN.{length, get_or, set}
-use lib.Seq.{set-get_or, get_or-set_other}
+use mathlib.Core.Bool.{Bool, true, false, ◌&&◌}
+use lib.ListN.{length, get_or}
 use lib.Bits.{bit_or}
-use lib.Dec.{eqb}
 use Rattle.arith.specs.Effective.{can_change_coefficient_to}
 use Rattle.base.specs.Choice.{when}
 use Rattle.record.specs.Tree.{Tree}
 use Rattle.group.specs.declared.Group.{Group}
 use Rattle.semilinear.specs.Form.{Row}
-use Rattle.base.specs.Loop.{for_in}
-use Rattle.group.specs.Group.{Entry, at, put_entry, is_live, consumed, Work, work}
+use Rattle.group.specs.Group.{Entry, at, put_entry, is_live, consumed, work}
 use Rattle.made.specs.Rows.{create_masked}
-use Rattle.group.specs.Steps.{cut_masks, drop_at, drop_zero, join_at}
-use Rattle.made.specs.Made.{Room, Held, Grew}
+use Rattle.group.specs.Steps.{drop_at, drop_zero, join_at}
+use Rattle.made.specs.Made.{Grew}
 use Rattle.group.specs.Made.{Stands, Stepped}
 use Rattle.entries.specs.Tests.{drops_of}
-use Rattle.group.proofs.SteppedLaws.{later_none, stepped_of, stepped_as, stepped_then, stepped_group}
+use Rattle.group.proofs.SteppedLaws.{stepped_of}
 use Rattle.base.proofs.LoopLaws.{when_both, for_same, for_keeps}
 
 -- ---- the drop
 
 abbrev pub drops_entry : ℕ → Group → ℕ → Bool
-drops_entry w g i = drops_of (get_or g.marks i 0) (get_or g.coeffs i 0) (get_or g.masks i 0) w
+drops_entry w g i = drops_of (at g i) w
 
-test_drops : (w u c m : ℕ) → (not (eqb u 1) && can_change_coefficient_to c 0 m w) ≡ drops_of u c m w
+test_drops : (w : ℕ) (e : Entry) → (is_live e && can_change_coefficient_to e.coeff 0 e.mask w) ≡ drops_of e w
 unfolding drops_of
-test_drops w u c m = go (eqb u 1)
+test_drops w e = go (is_live e)
   where
-    go : (b : Bool) → (not b && can_change_coefficient_to c 0 m w) ≡ when b (λ _. false) (λ _. can_change_coefficient_to c 0 m w)
+    go : (b : Bool) → (b && can_change_coefficient_to e.coeff 0 e.mask w)
+        ≡ when b (λ _. can_change_coefficient_to e.coeff 0 e.mask w) (λ _. false)
     go true = refl
     go false = refl
 
 module _ (w i : ℕ) (g : Group) where
   pub drop_at_same : drops_entry w g i ≡ false → drop_at w i g ≡ g
-  unfolding drop_at is_live at
-  drop_at_same h = simp (test_drops w (get_or g.marks i 0) (get_or g.coeffs i 0) (get_or g.masks i 0) ∙ h)
+  unfolding drop_at
+  drop_at_same h = simp (test_drops w (at g i) ∙ h)
 
-  -- the group without an entry, as the code has it
+  -- the group without an entry
   abbrev pub drop_group : Group
-  drop_group =
-      record {
-        coeffs = g.coeffs;
-        masks = g.masks;
-        atoms = g.atoms;
-        marks = set g.marks i 1;
-        len = g.len;
-      }
-
-  put_consumed : put_entry g i (consumed (at g i)) ≡ drop_group
-  unfolding put_entry consumed at
-  put_consumed = simp set-get_or
+  drop_group = put_entry g i (consumed (at g i))
 
   pub drop_at_drop : drops_entry w g i ≡ true → drop_at w i g ≡ drop_group
-  unfolding drop_at is_live at
-  drop_at_drop h =
-      let dropped : drop_at w i g ≡ put_entry g i (consumed (at g i)) =
-      simp (test_drops w (get_or g.marks i 0) (get_or g.coeffs i 0) (get_or g.masks i 0) ∙ h) in
-      dropped ∙ put_consumed
+  unfolding drop_at
+  drop_at_drop h = simp (test_drops w (at g i) ∙ h)
 
 pub drop_none : (w : ℕ) (g : Group) → ((i : ℕ) → i < g.len → drops_entry w g i ≡ false) → g ≡ drop_zero w g
 unfolding drop_zero
@@ -82,50 +65,29 @@ len_drop_zero w g =
 
 -- ---- the join
 
--- a store beside an element leaves the element
-set_beside : (l : List ℕ) (i j a : ℕ) → i < j → set (set l i a) j (get_or l j 0) ≡ set l i a
-set_beside l i j a h =
-    ap (set (set l i a) j) (sym (get_or-set_other l i j a 0 (λ (q : j ≡ i). omega arith)))
-    ∙ set-get_or (set l i a) j 0
-
 abbrev pub joined_mask : Group → ℕ → ℕ → ℕ
-joined_mask g i j = bit_or (get_or g.masks i 0) (get_or g.masks j 0)
+joined_mask g i j = bit_or (at g i).mask (at g j).mask
 
--- the group with entry j joined to entry i, as the code has it
+-- the entry i with the bits of another
+abbrev pub joined_entry : Group → ℕ → ℕ → ℕ → ℕ → Entry
+joined_entry g c i j n = record { coeff = c; mask = joined_mask g i j; atom = n; mark = (at g i).mark }
+
+-- the group with entry j joined to entry i
 abbrev pub join_group : Group → ℕ → ℕ → ℕ → ℕ → Group
-join_group g c i j n =
-    record {
-      coeffs = set g.coeffs i c;
-      masks = set g.masks i (joined_mask g i j);
-      atoms = set g.atoms i n;
-      marks = set g.marks j 1;
-      len = g.len;
-    }
+join_group g c i j n = put_entry (put_entry g i (joined_entry g c i j n)) j (consumed (at g j))
 
--- a group by its fields
-abbrev pub mk : List ℕ → List ℕ → List ℕ → List ℕ → ℕ → Group
-mk cs ms xs us n = record { coeffs = cs; masks = ms; atoms = xs; marks = us; len = n }
-
-pub mk_eq : {cs cs' ms ms' xs xs' us us' : List ℕ} {n : ℕ} → cs ≡ cs' → ms ≡ ms' → xs ≡ xs' → us ≡ us'
-    → mk cs ms xs us n ≡ mk cs' ms' xs' us' n
-mk_eq p q r t = cc
-
-join_at_is : (w : ℕ) (t : Tree) (c i j : ℕ) (g : Group) (l : List Row) → i < j
+join_at_is : (w : ℕ) (t : Tree) (c i j : ℕ) (g : Group) (l : List Row)
     → join_at w t c i j (work g l) ≡ work (join_group g c i j (length l)) (create_masked w t (joined_mask g i j) l)
-unfolding join_at put_entry consumed at work
-join_at_is w t c i j g l h =
-    ap (λ (r : Group). work r (create_masked w t (joined_mask g i j) l))
-    (mk_eq (set_beside g.coeffs i j c h) (set_beside g.masks i j (joined_mask g i j) h)
-    (set_beside g.atoms i j (length l) h)
-    (ap (λ (s : List ℕ). set s j 1) (set-get_or g.marks i 0)))
+unfolding join_at work
+join_at_is w t c i j g l = refl
 
-pub joined_stepped : {w : ℕ} (t : Tree) (c i j : ℕ) {g r : Group} {made out made' out' : List ℕ} → i < j
+pub joined_stepped : {w : ℕ} (t : Tree) (c i j : ℕ) {g r : Group} {made : Made} {out : List ℕ} {made' : Made} {out' : List ℕ}
     → Grew w 1 (create_masked w t (joined_mask g i j)) made out made' out'
-    → r ≡ join_group g c i j (get_or made 4 0)
+    → r ≡ join_group g c i j made.rows
     → Stepped w 1 (join_at w t c i j) g made out r made' out'
-unfolding work
-joined_stepped {w} t c i j {g} {r} {made' = made'} {out' = out'} h grew e =
+unfolding work put_entry
+joined_stepped {w} t c i j {g} {r} {made' = made'} {out' = out'} grew e =
     stepped_of grew.room grew.later grew.long (ap (λ (k : Group). k.len) e)
     (λ l held.
-    subst (Stands w r made' out') (sym (join_at_is w t c i j g l h))
+    subst (Stands w r made' out') (sym (join_at_is w t c i j g l))
     (record { same = e ∙ ap (λ (n : ℕ). join_group g c i j n) held.rows; held = grew.held l held }))

@@ -12,6 +12,7 @@ use Rattle.record.specs.Tree.{Tree}
 use Rattle.expr.specs.Value.{value}
 use Rattle.semilinear.specs.Form.{Row}
 use Rattle.group.specs.declared.Group.{Group}
+use Rattle.entries.specs.declared.Mark.{Mark}
 use Rattle.group.specs.Group.{Entry, at, put_entry, is_live}
 use Rattle.made.specs.Rows.{create_masked}
 use Rattle.group.proofs.EntryLaws.{Sized, at_put, at_put_other}
@@ -60,7 +61,7 @@ module _ (w : ℕ) (vars : List ℕ) (b : Tree) (P : Entry → Type 0) where
       })
 
   -- an entry whose atom is made for its mask
-  pub fits_made : (l : List Row) (c m u : ℕ) → c < 2 ^ w → m < 2 ^ w
+  pub fits_made : (l : List Row) (c m : ℕ) (u : Mark) → c < 2 ^ w → m < 2 ^ w
       → Fits w vars b P (create_masked w b m l) (record { coeff = c; mask = m; atom = length l; mark = u })
   fits_made l c m u hc hm =
       record {

@@ -15,31 +15,33 @@ use Rattle.semilinear.specs.Form.{Row, eq_tree}
 use Rattle.group.specs.declared.Group.{Group}
 use Rattle.group.specs.Group.{Entry, at, empty_group, push_entry, group_of}
 use Rattle.made.specs.Made.{Basis}
-use Rattle.views.specs.Views.{view_at, basis_bytes, blank_row, Views, has_basis}
+use Rattle.std.specs.Prelude.{Option, Some, None}
+use Rattle.views.specs.declared.View.{View}
+use Rattle.views.specs.Views.{found_at, view_at, basis_bytes, blank_row, Views, has_basis}
 use Rattle.group.specs.Gathered.{gather_at, gathered}
 use Rattle.group.proofs.EntryLaws.{Sized, sized_push, sized_empty, at_push, at_push_other}
 use Rattle.group.proofs.TotalLaws.{len_push}
 use Rattle.group.proofs.GroupOfLaws.{group_no_basis, group_same, group_other}
-use Rattle.views.proofs.ViewsLaws.{row_no_basis, row_masked}
+use Rattle.views.proofs.ViewsLaws.{found_case, row_no_basis, row_masked}
 use Rattle.views.proofs.HasBasisLaws.{basis_ungrouped, basis_tree}
 use Rattle.views.proofs.FirstRowsLaws.{rows_loop}
 
-module _ (f views : List ℕ) (hash : ℕ) (b : List ℕ) where
+module _ (f : List ℕ) (views : List (Option View)) (hash : ℕ) (b : List ℕ) where
   module _ (i : ℕ) (g : Group) where
-    pub gather_same : has_basis f (view_at views i) hash b ≡ false → gather_at f views hash b i g ≡ g
+    pub gather_same : has_basis f (found_at views i) hash b ≡ false → gather_at f views hash b i g ≡ g
     unfolding gather_at
     gather_same e = simp e
 
-    pub gather_push : has_basis f (view_at views i) hash b ≡ true
+    pub gather_push : has_basis f (found_at views i) hash b ≡ true
         → gather_at f views hash b i g ≡ push_entry g (view_at views i).coeff (view_at views i).mask i
     unfolding gather_at
     gather_push e = simp e
 
     gather_len : g.len ≤ i → (gather_at f views hash b i g).len ≤ i + 1
     unfolding push_entry
-    gather_len h = go (has_basis f (view_at views i) hash b) refl
+    gather_len h = go (has_basis f (found_at views i) hash b) refl
       where
-        go : (x : Bool) → has_basis f (view_at views i) hash b ≡ x → (gather_at f views hash b i g).len ≤ i + 1
+        go : (x : Bool) → has_basis f (found_at views i) hash b ≡ x → (gather_at f views hash b i g).len ≤ i + 1
         go true e = rw (gather_push e) (omega arith)
         go false e = rw (gather_same e) (omega arith)
 
@@ -86,9 +88,9 @@ module _ (f views : List ℕ) (hash : ℕ) (b : List ℕ) where
           omega (arith, old, h.below k (omega arith))
 
   gather_numbered : (i : ℕ) (g : Group) → i < 256 → Numbered i g → Numbered (i + 1) (gather_at f views hash b i g)
-  gather_numbered i g lt h = go (has_basis f (view_at views i) hash b) refl
+  gather_numbered i g lt h = go (has_basis f (found_at views i) hash b) refl
     where
-      go : (x : Bool) → has_basis f (view_at views i) hash b ≡ x → Numbered (i + 1) (gather_at f views hash b i g)
+      go : (x : Bool) → has_basis f (found_at views i) hash b ≡ x → Numbered (i + 1) (gather_at f views hash b i g)
       go true e = rw (gather_push i g e) (numbered_push i (view_at views i).coeff (view_at views i).mask g lt h)
       go false e =
           rw (gather_same i g e) record {
@@ -111,29 +113,38 @@ module _ (f views : List ℕ) (hash : ℕ) (b : List ℕ) where
         → group_of only w (decode b) k (get_or rows k blank_row ∷ l) g
         ≡ group_of only w (decode b) (k + 1) l (gather_at f views hash b k g)
     turn k g lt l =
-        go (ℕ_discrete (view_at views k).end 0) (eq_tree w (decode (basis_bytes f (view_at views k))) (decode b)) refl
+        found_case views k none
+        (λ s. some s (eq_tree w (decode (basis_bytes f (view_at views k))) (decode b)) refl)
       where
         x : Row
         x = get_or rows k blank_row
 
-        go : Dec ((view_at views k).end ≡ 0) → (y : Bool)
+        none : found_at views k ≡ None
+            → group_of only w (decode b) k (get_or rows k blank_row ∷ l) g
+            ≡ group_of only w (decode b) (k + 1) l (gather_at f views hash b k g)
+        none z =
+            group_no_basis only w (decode b) k x l g (row_no_basis only w f x (h.each k lt) z)
+            ∙ ap (group_of only w (decode b) (k + 1) l)
+            (sym (gather_same k g (basis_ungrouped f (found_at views k) hash b z)))
+
+        same : found_at views k ≡ Some (view_at views k)
+            → has_basis f (found_at views k) hash b ≡ eq_tree w (decode (basis_bytes f (view_at views k))) (decode b)
+        same s =
+            ap (λ (v : Option View). has_basis f v hash b) s
+            ∙ basis_tree f (view_at views k) hash b w ((h.each k lt).in_group _ s) o
+
+        some : found_at views k ≡ Some (view_at views k) → (y : Bool)
             → eq_tree w (decode (basis_bytes f (view_at views k))) (decode b) ≡ y
             → group_of only w (decode b) k (get_or rows k blank_row ∷ l) g
             ≡ group_of only w (decode b) (k + 1) l (gather_at f views hash b k g)
-        go (yes z) y e =
-            group_no_basis only w (decode b) k x l g (row_no_basis only w f (view_at views k) x (h.each k lt) z)
-            ∙ ap (group_of only w (decode b) (k + 1) l)
-            (sym (gather_same k g (basis_ungrouped f (view_at views k) hash b z)))
-        go (no n) true e =
-            let same = basis_tree f (view_at views k) hash b w ((h.each k lt).in_group n) o n in
-            group_same only w (decode b) k x l g (row_masked only w f (view_at views k) x (h.each k lt) n) e
+        some s true e =
+            group_same only w (decode b) k x l g (row_masked only w f x (h.each k lt) s) e
             ∙ ap (λ (c : ℕ). group_of only w (decode b) (k + 1) l (push_entry g c (view_at views k).mask k))
-            (sym ((h.each k lt).coeff n))
-            ∙ ap (group_of only w (decode b) (k + 1) l) (sym (gather_push k g (same ∙ e)))
-        go (no n) false e =
-            let same = basis_tree f (view_at views k) hash b w ((h.each k lt).in_group n) o n in
-            group_other only w (decode b) k x l g (row_masked only w f (view_at views k) x (h.each k lt) n) e
-            ∙ ap (group_of only w (decode b) (k + 1) l) (sym (gather_same k g (same ∙ e)))
+            (sym ((h.each k lt).coeff _ s))
+            ∙ ap (group_of only w (decode b) (k + 1) l) (sym (gather_push k g (same s ∙ e)))
+        some s false e =
+            group_other only w (decode b) k x l g (row_masked only w f x (h.each k lt) s) e
+            ∙ ap (group_of only w (decode b) (k + 1) l) (sym (gather_same k g (same s ∙ e)))
 
     pub gather_group : gathered f views hash b (length rows) ≡ group_of only w (decode b) 0 rows empty_group
     unfolding gathered group_of

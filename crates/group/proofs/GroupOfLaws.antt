@@ -11,6 +11,7 @@ use Rattle.record.specs.Tree.{Tree}
 use Rattle.expr_refusal.specs.Refusal.{is_expr}
 use Rattle.expr.specs.Value.{value}
 use Rattle.group.specs.declared.Group.{Group}
+use Rattle.entries.specs.declared.Mark.TheVariants.{Live}
 use Rattle.semilinear.specs.Form.{Row, eq_tree, rows_ok}
 use Rattle.decompose.specs.Decompose.{Decomposed, no_basis, masked}
 use Rattle.group.specs.Group.{Entry, at, empty_group, push_entry, group_of}
@@ -25,7 +26,7 @@ use Rattle.views.proofs.GroupsLaws.{share_of, basis_sum, term_value}
 
 -- an entry as it comes from a row
 pub record Fresh (w : ℕ) (vars : List ℕ) (b : Tree) (rows : List Row) (e : Entry) : Type 0 where
-  pub unmarked : e.mark ≡ 0
+  pub unmarked : e.mark ≡ Live
   pub coeff_lt : e.coeff < 2 ^ w
   pub mask_lt : e.mask < 2 ^ w
   pub atom_lt : e.atom < length rows
@@ -110,7 +111,7 @@ module _ (only : Tree → Bool) (w : ℕ) (vars : List ℕ) (b : Tree) (eb : is_
       room : g.len < 256
       room = omega (arith, h.few, t.counted)
 
-      new : Fresh w vars b rows (record { coeff = x.coeff; mask = m; atom = i; mark = 0 })
+      new : Fresh w vars b rows (record { coeff = x.coeff; mask = m; atom = i; mark = Live })
       new =
           record {
             unmarked = refl;

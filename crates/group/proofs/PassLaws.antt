@@ -1,11 +1,13 @@
 -- What a pass knows on its way to the groups: of the form and its copied table, of the views it has read, of the bases it
 -- has found, and of a table that holds the rows without the terms that are in groups.
+use Rattle.made.specs.declared.Made.{Made}
 use mathlib.Core.Path.{◌≡◌, refl, ap, sym, ◌∙◌}
-use Prim.Native.Nat.{ℕ, ◌+◌, ◌*◌, ◌^◌, ◌≤◌, ◌<◌}
+use Prim.Native.Nat.{ℕ, ◌+◌, ◌^◌, ◌≤◌, ◌<◌}
 use native.Mathlib.Omega.{arith}
 use mathlib.Core.List.{List, []}
-use mathlib.Core.Bool.{Bool, true, false}
-use lib.ListN.{length, get_or, drop, length-take}
+use mathlib.Core.Bool.{Bool, true}
+use lib.ListN.{length, get_or, take, drop, length-take}
+use lib.Seq.{length-take-le, get_or-take}
 use Rattle.record.specs.Fields.{width}
 use Rattle.base.specs.Put.{padded}
 use Rattle.record.specs.Span.{body}
@@ -25,12 +27,14 @@ use Rattle.semilinear.proofs.ValidLaws.{semilinear_parts}
 use Rattle.group.specs.declared.Group.{Group}
 use Rattle.group.specs.Group.{empty_group, group_of}
 use Rattle.views.specs.Grouping.{bases_of, ungrouped}
-use Rattle.made.specs.Made.{table_of, Room, Held, Basis}
+use Rattle.made.specs.Made.{Room, Held, Basis}
 use Rattle.made.specs.Shown.{Shown}
+use Rattle.std.specs.Prelude.{Option}
+use Rattle.views.specs.declared.View.{View}
 use Rattle.views.specs.Views.{view_at, basis_bytes, ViewsReady, ViewsRead, Readable}
 use Rattle.views.specs.Bases.{first_rows, FirstAre}
 use Rattle.group.specs.Gathered.{gathered}
-use Rattle.group.specs.Ready.{FormReady, RowsReady, BasesFound, AllReady, AtReady, GroupReady}
+use Rattle.group.specs.Ready.{FormReady, BasesFound, AllReady, AtReady, GroupReady}
 use Rattle.group.proofs.ExtendsLaws.{ungrouped_length, ungrouped_bare}
 use Rattle.views.proofs.FirstRowsLaws.{first_rows_lem}
 use Rattle.group.proofs.GatherLaws.{gather_group, len_gathered}
@@ -66,14 +70,14 @@ module _ (s : List ℕ) (bytes : IsBytes s) (ok : is_semilinear s ≡ true) wher
           ends = copied_end s bytes ok tab out h;
           few = omega (arith, count, most);
           clear = clear;
-          room = record { words = refl; placed = (held_form k h).holds.placed };
+          room = record { placed = (held_form k h).holds.placed };
           made_few = most;
         },
       )
 
 -- and at the end there is room for all terms
-pub pass_room : (out coeffs : List ℕ) {made out' : List ℕ} → Room made out' → length out' ≡ length out
-    → length coeffs ≡ 256 → {tab : Table} → tab ≡ table_of made → length out ≡ 57360
+pub pass_room : (out coeffs : List ℕ) {made : Made} {out' : List ℕ} → Room made out' → length out' ≡ length out
+    → length coeffs ≡ 256 → {tab : Table} → tab ≡ made.table → length out ≡ 57360
     → FinishRoom tab 1 coeffs out'
 pass_room out coeffs {out' = out'} room long wide {tab} et e =
     let placed : Placed tab (length out') = rw et room.placed in
@@ -87,18 +91,18 @@ pass_room out coeffs {out' = out'} room long wide {tab} et e =
 
 -- ---- the rows without the terms that are in groups
 
-pub ungrouped_held : (only : Tree → Bool) (w : ℕ) {made out : List ℕ} (l : List Row) → Held w made out l
+pub ungrouped_held : (only : Tree → Bool) (w : ℕ) {made : Made} {out : List ℕ} (l : List Row) → Held w made out l
     → Held w made out (ungrouped only w l)
 ungrouped_held only w {made} {out} l h =
     record {
-      holds = holds_bare l (ungrouped only w l) (sym (ungrouped_bare only w l)) w (table_of made) out h.holds;
+      holds = holds_bare l (ungrouped only w l) (sym (ungrouped_bare only w l)) w made.table out h.holds;
       clean = h.clean;
       rows = h.rows ∙ sym (ungrouped_length only w l);
     }
 
 -- ---- the views, as the code has read them
 
-module _ {only : Tree → Bool} {w : ℕ} {f coeffs views coeffs' : List ℕ} {n : ℕ}
+module _ {only : Tree → Bool} {w : ℕ} {f coeffs : List ℕ} {views : List (Option View)} {coeffs' : List ℕ} {n : ℕ}
     (v : ViewsRead only w f (read_rows 0 f (after_atoms f)) coeffs views coeffs' n) where
   pub read_count : n ≡ atom_count f
   read_count = v.number ∙ length_rows f 0 (after_atoms f)
@@ -116,7 +120,7 @@ module _ {only : Tree → Bool} {w : ℕ} {f coeffs views coeffs' : List ℕ} {n
         (omega (arith, length_coeffs own, ungrouped_length only w rows, length_rows f 0 (after_atoms f)))
 
     -- a table that holds the rows, with the coefficients that are kept
-    pub read_shown : {made out : List ℕ} → Held w made out (read_rows 0 f (after_atoms f))
+    pub read_shown : {made : Made} {out : List ℕ} → Held w made out (read_rows 0 f (after_atoms f))
         → Shown w made out coeffs' (ungrouped only w (read_rows 0 f (after_atoms f)))
     read_shown held = record {
       held = ungrouped_held only w (read_rows 0 f (after_atoms f)) held;
@@ -128,7 +132,7 @@ first_same s = record { count = s.count; are = s.are; long = refl }
 
 -- ---- the bases, as the code finds them
 
-module _ {only : Tree → Bool} {w : ℕ} {f views bases : List ℕ} {n count : ℕ}
+module _ {only : Tree → Bool} {w : ℕ} {f : List ℕ} {views : List (Option View)} {bases : List ℕ} {n count : ℕ}
     (h : BasesFound only w f views bases n count) where
   abbrev rows : List Row
   rows = read_rows 0 f (after_atoms f)
@@ -141,6 +145,13 @@ module _ {only : Tree → Bool} {w : ℕ} {f views bases : List ℕ} {n count : 
 
   pub count_room : count ≤ length bases
   count_room = omega (arith, h.first.count, ap length h.first.are, length-take count bases)
+
+  pub count_taken : length (take count bases) ≡ count
+  count_taken = length-take-le count bases count_room
+
+  -- base k among the first `count`
+  pub taken_at : (k : ℕ) → k < count → get_or (take count bases) k 0 ≡ get_or bases k 0
+  taken_at k lt = get_or-take count bases k 0 lt
 
   first_found : FirstAre (first_rows f views (length rows)) bases bases count
   first_found = rw h.number at h.first
@@ -161,13 +172,13 @@ module _ {only : Tree → Bool} {w : ℕ} {f views bases : List ℕ} {n count : 
       ap (gathered f views (view_at views x).hash (basis_bytes f (view_at views x))) h.number
       ∙ gather_group f views (view_at views x).hash (basis_bytes f (view_at views x)) only w rows h.viewed own
 
-pub few_entries : (f views : List ℕ) (hash : ℕ) (b : List ℕ) (n : ℕ) {g : Group} → g ≡ gathered f views hash b n → n ≤ 256
+pub few_entries : (f : List ℕ) (views : List (Option View)) (hash : ℕ) (b : List ℕ) (n : ℕ) {g : Group} → g ≡ gathered f views hash b n → n ≤ 256
     → g.len ≤ 256
 few_entries f views hash b n e h = omega (arith, ap (λ (k : Group). k.len) e, len_gathered f views hash b n)
 
 -- ---- what is asked on the way down
 
-pub form_fewer : {w limit : ℕ} {f : List ℕ} {terms : ℕ} {coeffs made out : List ℕ}
+pub form_fewer : {w limit : ℕ} {f : List ℕ} {terms : ℕ} {coeffs : List ℕ} {made : Made} {out : List ℕ}
     → FormReady w limit f terms coeffs made out → {n : ℕ} → atom_count f ≤ n → FormReady w n f terms coeffs made out
 form_fewer h le =
     record {
@@ -180,21 +191,22 @@ form_fewer h le =
       made_few = h.made_few;
     }
 
-pub rows_views : {w : ℕ} {f : List ℕ} {terms : ℕ} {views bases coeffs made out : List ℕ}
-    → RowsReady w f terms views bases coeffs made out → ViewsReady w f terms views coeffs
-rows_views h =
+pub form_views : {w limit : ℕ} {f : List ℕ} {terms : ℕ} {coeffs : List ℕ} {made : Made} {out : List ℕ}
+    → FormReady w limit f terms coeffs made out → limit ≤ 256 → {views : List (Option View)}
+    → atom_count f ≤ length views → ViewsReady w f terms views coeffs
+form_views h most room =
     record {
-      width = h.form.width;
-      atoms_ok_lem = h.form.atoms_ok_lem;
-      ends = h.form.ends;
-      views_room = h.views_room;
-      coeffs_room = omega (arith, h.form.few, ap length h.form.clear ∙ length_padded 256 [] (omega arith));
+      width = h.width;
+      atoms_ok_lem = h.atoms_ok_lem;
+      ends = h.ends;
+      views_room = room;
+      coeffs_room = omega (arith, h.few, most, ap length h.clear ∙ length_padded 256 [] (omega arith));
     }
 
 -- row i of the bases, with a table that some rows were added to
-pub all_at : {only : Tree → Bool} {w : ℕ} {f views bases : List ℕ} {n count : ℕ} {made out : List ℕ}
+pub all_at : {only : Tree → Bool} {w : ℕ} {f : List ℕ} {views : List (Option View)} {bases : List ℕ} {n count : ℕ} {made : Made} {out : List ℕ}
     → AllReady only w f views bases n count made out → (i : ℕ) → i < count
-    → {k : ℕ} {made' out' : List ℕ} → Room made' out' → get_or made' 4 0 + k < 2 ^ 64
+    → {k : ℕ} {made' : Made} {out' : List ℕ} → Room made' out' → made'.rows + k < 2 ^ 64
     → AtReady w k f views (get_or bases i 0) n made' out'
 all_at h i lt room more =
     let next = next_at h.found i lt in
@@ -203,12 +215,13 @@ all_at h i lt room more =
       readable = readable_at h.found;
       few = h.found.few;
       within = omega (arith, next.below, h.found.number);
+      some = next.some;
       in_group = next.group;
       room = room;
       more = more;
     }
 
-pub at_group : {w k : ℕ} {f views : List ℕ} {x n : ℕ} {made out : List ℕ} → AtReady w k f views x n made out
+pub at_group : {w k : ℕ} {f : List ℕ} {views : List (Option View)} {x n : ℕ} {made : Made} {out : List ℕ} → AtReady w k f views x n made out
     → GroupReady w k (view_at views x).hash (basis_bytes f (view_at views x)) f views n made out
 at_group h =
     record {

@@ -1,4 +1,4 @@
--- Laws of the search `first_in` (base/specs/Loop.antt): where one test implies another, the first number that passes it
+-- Laws of loops and of the search `first_in` (base/specs/Loop.antt): turns that are the same make the same; where one test implies another, the first number that passes it
 -- is found from the first one on that passes the other.
 use mathlib.Core.Path.{◌≡◌, refl, ap, sym, ◌∙◌}
 use Prim.Native.Nat.{ℕ, zero, suc, ◌+◌, ◌-◌, ◌≤◌, ◌<◌}
@@ -7,7 +7,7 @@ use mathlib.Core.Bool.{Bool, true, false, ◌&&◌}
 use lib.Dec.{ltb}
 use borrow.Author.Tests.{le-ltb}
 use Rattle.base.specs.Choice.{when}
-use Rattle.base.specs.Loop.{first_in}
+use Rattle.base.specs.Loop.{turns_f, for_in, first_in}
 use Rattle.base.proofs.BoolLaws.{false_true}
 use Rattle.base.proofs.LoopLaws.{first_next, first_here, first_end}
 
@@ -38,6 +38,18 @@ module _ (p q : ℕ → Bool) where
   pub first_implied : (a b : ℕ) → a ≤ b → ((k : ℕ) → a ≤ k → k < b → p k ≡ true → q k ≡ true)
       → first_in p a b ≡ first_in p (first_in q a b) b
   first_implied a b h imp = implied_from b (b - a) a (omega arith) imp
+
+-- turns that are the same as far as the loop goes
+pub for_below : {S : Type 0} (f h : ℕ → S → S) (a b : ℕ) (s : S) → ((i : ℕ) (t : S) → a ≤ i → i < b → f i t ≡ h i t)
+    → for_in f a b s ≡ for_in h a b s
+unfolding for_in turns_f
+for_below {S} f h a b s e = go (b - a) (λ i t l u. e i t l (omega arith))
+  where
+    go : (n : ℕ) → ((i : ℕ) (t : S) → a ≤ i → i < a + n → f i t ≡ h i t) → turns_f n f a s ≡ turns_f n h a s
+    go zero k = refl
+    go (suc n) k =
+        k (a + n) (turns_f n f a s) (omega arith) (omega arith)
+        ∙ ap (h (a + n)) (go n (λ i t l u. k i t l (omega arith)))
 
 -- a search that is made only where a test holds
 module _ (x n : ℕ) where

@@ -3,48 +3,51 @@
 use mathlib.Core.Path.{◌≡◌, refl, ap, sym, ◌∙◌}
 use Prim.Native.Nat.{ℕ, zero, suc, ◌-◌, ◌≤◌, ◌<◌}
 use native.Mathlib.Omega.{arith}
-use native.Mathlib.Decide.{ℕ_discrete}
 use mathlib.Core.List.{List, [], ◌∷◌, ◌++◌}
-use mathlib.Core.Bool.{true, not}
-use lib.ListN.{length, get_or, replicate, length-set, length-map, length-append}
-use lib.Dec.{eqb}
-use borrow.Author.Tests.{eq-eqb, ne_eqb}
+use mathlib.Core.Bool.{Bool, true, false}
+use lib.ListN.{length, get_or, replicate, length-set}
+use Rattle.base.specs.Choice.{when}
 use Rattle.base.specs.Loop.{for_in}
 use Rattle.base.specs.Put.{padded}
 use Rattle.base.proofs.LoopLaws.{for_ind, for_keeps, for_none, for_more}
-use Rattle.record.specs.Tree.{Tree}
 use Rattle.semilinear.specs.Form.{Row}
 use Rattle.atom_table.specs.Terms.{coeffs_of}
-use Rattle.atom_table.proofs.TermsLaws.{length_coeffs, coeffs_append}
+use Rattle.atom_table.proofs.TermsLaws.{length_coeffs}
+use Rattle.entries.specs.Marks.{blank}
 use Rattle.group.specs.declared.Group.{Group}
-use Rattle.group.specs.Group.{at, is_live, settle_at, settle}
-use Rattle.made.specs.Rows.{create_row, add_coeff}
-use Rattle.group.specs.Gathered.{add_word, settle_word_at, settle_words}
+use Rattle.group.specs.Group.{Entry, used, at, is_live, settle_at, settle}
+use Rattle.made.specs.Rows.{add_coeff}
+use Rattle.group.specs.Gathered.{add_word, settle_word, settle_word_at, settle_words}
+use Rattle.group.proofs.EntryLaws.{used_at, length_used}
+use Rattle.group.proofs.SearchLaws.{for_below}
 use Rattle.group.proofs.SettleLaws.{add_length}
 
-module _ (w : ℕ) (from atoms marks : List ℕ) where
-  module _ (i : ℕ) (l : List ℕ) where
-    pub word_consumed : get_or marks i 0 ≡ 1 → settle_word_at w from atoms marks i l ≡ l
-    unfolding settle_word_at
-    word_consumed e = simp (eq-eqb (get_or marks i 0) 1 e)
+module _ (w : ℕ) (e : Entry) (l : List ℕ) where
+  pub word_consumed : is_live e ≡ false → settle_word w e l ≡ l
+  unfolding settle_word
+  word_consumed h = simp h
 
-    pub word_live : (get_or marks i 0 ≡ 1 → ⊥)
-        → settle_word_at w from atoms marks i l ≡ add_word w (get_or from i 0) (get_or atoms i 0) l
-    unfolding settle_word_at
-    word_live n = simp (ne_eqb (get_or marks i 0) 1 n)
+  pub word_live : is_live e ≡ true → settle_word w e l ≡ add_word w e.coeff e.atom l
+  unfolding settle_word
+  word_live h = simp h
 
-    length_word : length (settle_word_at w from atoms marks i l) ≡ length l
-    unfolding add_word
-    length_word = go (ℕ_discrete (get_or marks i 0) 1)
-      where
-        go : Dec (get_or marks i 0 ≡ 1) → length (settle_word_at w from atoms marks i l) ≡ length l
-        go (yes e) = ap length (word_consumed e)
-        go (no n) = ap length (word_live n) ∙ length-set l (get_or atoms i 0) _
+  length_word : length (settle_word w e l) ≡ length l
+  unfolding add_word
+  length_word = go (is_live e) refl
+    where
+      go : (b : Bool) → is_live e ≡ b → length (settle_word w e l) ≡ length l
+      go false h = ap length (word_consumed h)
+      go true h = ap length (word_live h) ∙ length-set l e.atom _
 
-  pub length_settle : (n : ℕ) (l : List ℕ) → length (for_in (settle_word_at w from atoms marks) 0 n l) ≡ length l
+module _ (w : ℕ) (es : List Entry) where
+  pub length_settle : (n : ℕ) (l : List ℕ) → length (for_in (settle_word_at w es) 0 n l) ≡ length l
   length_settle n l =
-      for_keeps (λ (t : List ℕ). length t ≡ length l) (settle_word_at w from atoms marks) 0 n l
-      (λ i t a u h. length_word i t ∙ h) refl
+      for_keeps (λ (t : List ℕ). length t ≡ length l) (settle_word_at w es) 0 n l
+      (λ i t a u h. length_word w (get_or es i blank) t ∙ h) refl
+
+  pub length_words : (l : List ℕ) → length (settle_words w es l) ≡ length l
+  unfolding settle_words
+  length_words l = length_settle (length es) l
 
 -- ---- the rows
 
@@ -74,38 +77,34 @@ module _ (w : ℕ) (hw : w ≤ 64) (g : Group) (m : ℕ) (l : List Row) where
 
   module _ (has : (i : ℕ) → i < g.len → is_live (at g i) ≡ true → (at g i).atom < length l) where
     words_turn : (i : ℕ) (t : List Row) (s : List ℕ) → i < g.len → Words t s
-        → Words (settle_at w g i t) (settle_word_at w g.coeffs g.atoms g.marks i s)
-    unfolding settle_at is_live at
-    words_turn i t s lt h = go (ℕ_discrete (get_or g.marks i 0) 1)
+        → Words (settle_at w g i t) (settle_word w (at g i) s)
+    unfolding settle_at settle_word
+    words_turn i t s lt h = go (is_live (at g i)) refl
       where
-        go : Dec (get_or g.marks i 0 ≡ 1)
-            → Words (settle_at w g i t) (settle_word_at w g.coeffs g.atoms g.marks i s)
-        go (yes e) =
-            let r : settle_at w g i t ≡ t = simp (eq-eqb (get_or g.marks i 0) 1 e) in
-            rw (r, word_consumed w g.coeffs g.atoms g.marks i s e) h
-        go (no n) =
-            let c : ℕ = get_or g.coeffs i 0 in
-            let j : ℕ = get_or g.atoms i 0 in
-            let live : not (eqb (get_or g.marks i 0) 1) ≡ true = simp (ne_eqb (get_or g.marks i 0) 1 n) in
-            let r : settle_at w g i t ≡ add_coeff w c j t = simp (ne_eqb (get_or g.marks i 0) 1 n) in
-            let low : j < length t = omega (arith, has i lt live, h.count) in
-            rw r
-            (record {
-              count = add_length w [] hw c j t ∙ h.count;
-              words =
-                  word_live w g.coeffs g.atoms g.marks i s n
-                  ∙ ap (add_word w c j) h.words
-                  ∙ add_padded w hw c m t j low;
-            })
+        e : Entry
+        e = at g i
+
+        go : (b : Bool) → is_live (at g i) ≡ b
+            → Words (when b (λ _. add_coeff w e.coeff e.atom t) (λ _. t)) (when b (λ _. add_word w e.coeff e.atom s) (λ _. s))
+        go false _ = h
+        go true live =
+            let low : e.atom < length t = omega (arith, has i lt live, h.count) in
+            record {
+              count = add_length w [] hw e.coeff e.atom t ∙ h.count;
+              words = ap (add_word w e.coeff e.atom) h.words ∙ add_padded w hw e.coeff m t e.atom low;
+            }
 
     -- the words of the settled rows
     pub settle_words_lem : {s : List ℕ} → s ≡ padded m (coeffs_of l)
-        → settle_words w g.coeffs g.atoms g.marks g.len s ≡ padded m (coeffs_of (settle w g l))
+        → settle_words w (used g) s ≡ padded m (coeffs_of (settle w g l))
     unfolding settle_words settle
     settle_words_lem {s} e =
-        (for_ind
+        ap (λ (k : ℕ). for_in (settle_word_at w (used g)) 0 k s) (length_used g)
+        ∙ for_below (settle_word_at w (used g)) (λ (i : ℕ). settle_word w (at g i)) 0 g.len s
+        (λ i t _ u. ap (λ (x : Entry). settle_word w x t) (used_at g i u))
+        ∙ (for_ind
         (λ (k : ℕ) (t : List ℕ). Words (for_in (settle_at w g) 0 k l) t)
-        (settle_word_at w g.coeffs g.atoms g.marks) 0 s g.len (omega arith)
+        (λ (i : ℕ). settle_word w (at g i)) 0 s g.len (omega arith)
         (λ i t a u h. rw (for_more (settle_at w g) 0 i l (omega arith))
         (words_turn i (for_in (settle_at w g) 0 i l) t u h))
         (rw (for_none (settle_at w g) 0 0 l (omega arith)) (record { count = refl; words = e }))).words

@@ -1,7 +1,8 @@
 -- Laws of a table with its coefficients (made/specs/Shown.antt): the words of the copied table at the begin of a pass,
 -- a group settled, and what the end of a pass reads off.
+use Rattle.made.specs.declared.Made.{Made}
 use mathlib.Core.Path.{◌≡◌, refl, ap, ap₂, sym, ◌∙◌}
-use Prim.Native.Nat.{ℕ, zero, suc, ◌+◌, ◌*◌, ◌≤◌, ◌<◌}
+use Prim.Native.Nat.{ℕ, zero, suc, ◌+◌, ◌≤◌, ◌<◌}
 use native.Mathlib.Omega.{arith}
 use native.Mathlib.Nat.{one-mul}
 use mathlib.Core.List.{List, [], ◌∷◌, ◌++◌}
@@ -9,7 +10,6 @@ use mathlib.Core.Bool.{Bool, true, false}
 use lib.ListN.{length, get_or, take, drop, length-append}
 use lib.Seq.{take-suc, drop_at}
 use Rattle.record.specs.Fields.{width}
-use Rattle.base.specs.Loop.{for_in}
 use Rattle.base.specs.Put.{padded}
 use Rattle.record.specs.Span.{body}
 use Rattle.record.specs.Tree.{IsBytes, size_of}
@@ -28,9 +28,9 @@ use Rattle.semilinear.proofs.RetiredLaws.{length_retired, records_retired}
 use Rattle.atom_table.proofs.HoldsLaws.{at_holds, bare_rows, holds_bare}
 use Rattle.atom_table.proofs.TermsLaws.{length_coeffs}
 use Rattle.group.specs.declared.Group.{Group}
-use Rattle.group.specs.Group.{at, is_live, settle_at, settle}
+use Rattle.group.specs.Group.{used, at, is_live, settle_at, settle}
 use Rattle.made.specs.Rows.{add_coeff}
-use Rattle.made.specs.Made.{table_of, flag_of, words_of, Held}
+use Rattle.made.specs.Made.{made_of, Held}
 use Rattle.made.specs.Shown.{Shown}
 use Rattle.group.specs.Gathered.{add_word, settle_words}
 use Rattle.made.proofs.CoeffsLaws.{fits_length}
@@ -39,18 +39,13 @@ use Rattle.made.proofs.WordsLaws.{held_start}
 
 -- ---- the begin
 
--- the words of a copied table, with as many rows as atoms
-abbrev pub begun : Table → ℕ → List ℕ
-begun tab k = tab.at ∷ tab.count ∷ tab.records ∷ 0 ∷ tab.count ∷ k ∷ []
+-- a copied table, with as many rows as atoms
+abbrev pub begun : Table → ℕ → Made
+begun tab k = made_of tab tab.count k
 
 pub held_copied : (f : Form) (tab : Table) (out : List ℕ) (k : ℕ) → Copied f tab out
     → Held f.bitwidth (begun tab k) out f.rows
-unfolding words_of flag_of
-held_copied f tab out k h =
-    let count : tab.count ≡ length f.rows = (h.holds.kept h.more).count in
-    let same : begun tab k ≡ words_of tab (length f.rows) k =
-    ap₂ (λ (b : Bool) (n : ℕ). tab.at ∷ tab.count ∷ tab.records ∷ flag_of b ∷ n ∷ k ∷ []) (sym h.more) count in
-    rw same (held_start f.bitwidth tab out f.rows k h.holds h.clean)
+held_copied f tab out k h = record { holds = h.holds; clean = h.clean; rows = (h.holds.kept h.more).count }
 
 -- the atoms end where the terms begin
 pub copied_end : (s : List ℕ) → IsBytes s → is_semilinear s ≡ true → (tab : Table) (out : List ℕ)
@@ -84,8 +79,8 @@ coeffs_in_one words (suc n) h =
     ap₂ (λ (l : List ℕ) (i : ℕ). l ++ (get_or words i 0 ∷ [])) (coeffs_in_one words n (omega arith)) (one-mul n)
     ∙ sym (take-suc words n 0 (omega arith))
 
-shown_coeffs : (w : ℕ) (made out coeffs : List ℕ) (l : List Row) → Shown w made out coeffs l
-    → (table_of made).full ≡ false → coeffs_in 1 coeffs (length l) ≡ coeffs_of l
+shown_coeffs : (w : ℕ) (made : Made) (out coeffs : List ℕ) (l : List Row) → Shown w made out coeffs l
+    → made.table.full ≡ false → coeffs_in 1 coeffs (length l) ≡ coeffs_of l
 shown_coeffs w made out coeffs l h more =
     let fit = (h.held.holds.kept more).fits in
     let n : length (coeffs_of l) ≡ length l = length_coeffs l in
@@ -96,8 +91,8 @@ shown_coeffs w made out coeffs l h more =
     ∙ ap₂ (λ (k : ℕ) (d : List ℕ). take k d) (sym n) same
     ∙ take_padded 256 (coeffs_of l)
 
-pub shown_ends : (w : ℕ) (made out coeffs : List ℕ) (l : List Row) → Shown w made out coeffs l
-    → Ends w (table_of made) 1 coeffs out l
+pub shown_ends : (w : ℕ) (made : Made) (out coeffs : List ℕ) (l : List Row) → Shown w made out coeffs l
+    → Ends w made.table 1 coeffs out l
 shown_ends w made out coeffs l h =
     record {
       holds = λ _. h.held.holds;
@@ -135,10 +130,10 @@ module _ (w : ℕ) where
   unfolding fits_table
   alike_fits h = rw (h.count, h.records) refl
 
-  alike_held : {l m : List Row} → Alike m l → {made out : List ℕ} → Held w made out l → Held w made out m
+  alike_held : {l m : List Row} → Alike m l → {made : Made} {out : List ℕ} → Held w made out l → Held w made out m
   alike_held {l} {m} a {made} {out} h =
       record {
-        holds = holds_bare l m (sym a.bare) w (table_of made) out h.holds;
+        holds = holds_bare l m (sym a.bare) w made.table out h.holds;
         clean = h.clean;
         rows = h.rows ∙ sym a.count;
       }
@@ -148,7 +143,7 @@ module _ (w : ℕ) where
     pub add_fits : fits_table (add_coeff w c j l) ≡ fits_table l
     add_fits = alike_fits (add_alike c j l)
 
-    pub shown_add : w ≤ 64 → j < length l → {made out coeffs coeffs' : List ℕ} → Held w made out l
+    pub shown_add : w ≤ 64 → j < length l → {made : Made} {out coeffs coeffs' : List ℕ} → Held w made out l
         → (fits_table l ≡ true → coeffs ≡ padded 256 (coeffs_of l)) → coeffs' ≡ add_word w c j coeffs
         → Shown w made out coeffs' (add_coeff w c j l)
     shown_add hw lt held terms e =
@@ -175,9 +170,9 @@ module _ (w : ℕ) where
 
     -- every live entry has an atom of the table: the words are those of the settled rows
     pub shown_settle : w ≤ 64 → ((i : ℕ) → i < g.len → is_live (at g i) ≡ true → (at g i).atom < length l)
-        → {made out coeffs coeffs' : List ℕ} → Held w made out l
+        → {made : Made} {out coeffs coeffs' : List ℕ} → Held w made out l
         → (fits_table l ≡ true → coeffs ≡ padded 256 (coeffs_of l))
-        → coeffs' ≡ settle_words w g.coeffs g.atoms g.marks g.len coeffs
+        → coeffs' ≡ settle_words w (used g) coeffs
         → Shown w made out coeffs' (settle w g l)
     shown_settle hw has held terms e =
         record {

@@ -2,16 +2,17 @@
 -- one, two or three entries change and their own sum is kept. The tests `is_live` of entries.
 use mathlib.Core.Path.{◌≡◌, refl, ap, ◌∙◌}
 use mathlib.Core.Logic.{◌≢◌}
-use mathlib.Core.Bool.{true, false, not}
+use mathlib.Core.Bool.{true, false}
 use Prim.Native.Nat.{ℕ, zero, suc, ◌+◌, ◌*◌, ◌<◌}
 use native.Mathlib.Omega.{arith}
 use native.Mathlib.Decide.{ℕ_discrete}
 use lib.Bits.{bit_and}
-use lib.Dec.{eqb}
 use Rattle.arith.specs.Congruence.{Eqm}
 use Rattle.arith.proofs.CongruenceLaws.{eqm_of_eq, eqm_refl, eqm_trans, eqm_add, eqm_cancel}
 use Rattle.base.specs.Choice.{when}
 use Rattle.group.specs.declared.Group.{Group}
+use Rattle.entries.specs.declared.Mark.TheVariants.{Live}
+use Rattle.entries.specs.Marks.{not_consumed}
 use Rattle.group.specs.Group.{Entry, at, put_entry, empty_group, push_entry, is_live, consumed}
 use Rattle.group.proofs.EntryLaws.{Sized, sized_put, at_put, at_put_other, at_push, at_push_other}
 
@@ -55,7 +56,7 @@ pub worth_live : (x : ℕ) (e : Entry) → is_live e ≡ true → worth x e ≡ 
 unfolding worth
 worth_live x e h = simp h
 
-worth_fresh : (x c m a : ℕ) → worth x (record { coeff = c; mask = m; atom = a; mark = 0 }) ≡ c * bit_and x m
+worth_fresh : (x c m a : ℕ) → worth x (record { coeff = c; mask = m; atom = a; mark = Live }) ≡ c * bit_and x m
 unfolding worth is_live
 worth_fresh x c m a = refl
 
@@ -65,7 +66,7 @@ worth_dead x e h = simp h
 
 pub live_mark_lem : (e f : Entry) → e.mark ≡ f.mark → is_live e ≡ is_live f
 unfolding is_live
-live_mark_lem e f h = ap (λ (n : ℕ). not (eqb n 1)) h
+live_mark_lem e f h = ap not_consumed h
 
 pub live_consumed : (e : Entry) → is_live (consumed e) ≡ false
 unfolding is_live consumed

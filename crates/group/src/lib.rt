@@ -9,14 +9,33 @@ pub mod settle;
 pub mod stages;
 pub mod steps;
 
-use base::limits;
+ghost use Rattle.std.specs.Prelude.{◌≡◌, ◌≤◌, length};
+ghost use Rattle.base.specs.Limits.{group_entries};
+ghost use Rattle.group.specs.Group.{used};
 
-// At most 256 entries: coefficients, masks, atom numbers, and marks.
+use base::limits;
+use entries::Entry;
+
+// A basis, by the bytes of its tree and their hash.
+#[derive(Clone, Copy)]
+pub struct Basis<'a> {
+    pub bytes: &'a [u8],
+    pub hash: u64,
+}
+
+// At most 256 entries, of which the first `len` are taken.
 #[derive(Drop)]
 pub struct Group {
-    pub coeffs: [u64; limits::GROUP_ENTRIES],
-    pub masks: [u64; limits::GROUP_ENTRIES],
-    pub atoms: [u64; limits::GROUP_ENTRIES],
-    pub marks: [u8; limits::GROUP_ENTRIES],
+    pub entries: [Entry; limits::GROUP_ENTRIES],
     pub len: usize,
+}
+
+impl Group {
+    // The entries that are taken.
+    pub fn used(&self) -> &[Entry]
+        requires { self.now.len ≤ group_entries }
+        ensures { (result.now ≡ used self.now) × (length result.now ≡ self.now.len) }
+    {
+        &self.entries[..self.len]
+    }
 }

@@ -1,10 +1,8 @@
 // The end of a pass on a group: what its entries add to the coefficients of the rows.
-ghost use Rattle.std.specs.Prelude.{◌≡◌, ◌≤◌};
+ghost use Rattle.std.specs.Prelude.{◌≡◌};
 ghost use Rattle.group.specs.Gathered.{add_word, settle_words};
-ghost use Rattle.base.specs.Limits.{group_entries};
 
-use base::limits;
-use entries::CONSUMED;
+use entries::Entry;
 
 // c added to word a, where there is one.
 pub fn add_word(coeffs: &mut [u64], a: u64, c: u64, w: u32)
@@ -16,24 +14,13 @@ pub fn add_word(coeffs: &mut [u64], a: u64, c: u64, w: u32)
     }
 }
 
-// Every entry, of n, that is not consumed is added to the coefficient of its row.
-pub fn settle<'a>(
-    from: &'a [u64; limits::GROUP_ENTRIES],
-    atoms: &'a [u64; limits::GROUP_ENTRIES],
-    marks: &'a [u8; limits::GROUP_ENTRIES],
-    n: usize,
-    coeffs: &mut [u64],
-    w: u32,
-)
-    requires { n ≤ group_entries }
-    ensures { coeffs.new ≡ settle_words w from.now atoms.now
-        marks.now n coeffs.old }
+// Every entry that is not consumed is added to the coefficient of its row.
+pub fn settle(entries: &[Entry], coeffs: &mut [u64], w: u32)
+    ensures { coeffs.new ≡ settle_words w entries.now coeffs.old }
 {
-    let mut i = 0;
-    while i < n {
-        if marks[i] != CONSUMED {
-            add_word(coeffs, atoms[i], from[i], w);
+    for e in entries {
+        if e.is_live() {
+            add_word(coeffs, e.atom, e.coeff, w);
         }
-        i += 1;
     }
 }

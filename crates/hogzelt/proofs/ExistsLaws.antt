@@ -11,10 +11,9 @@ use borrow.Fn.Kinds.{ended_of}
 use denote.Triple.Clauses.{AtExit}
 use Rattle.base.specs.Put.{padded}
 use Rattle.record.specs.Tree.{IsBytes}
-use Rattle.semilinear.specs.declared.outcome.Answer.{Answer}
 use Rattle.semilinear.specs.Form.{Form, term_count, encode_form, valid_form}
 use Rattle.base.specs.Outcome.{Outcome, accepted, refusal_of, numbers_of, written_of, Gives, flag_number}
-use Rattle.semilinear.specs.Answers.{refused_answer, GivesForm}
+use Rattle.semilinear.specs.Answers.{InNumbers, refused_answer, GivesNumbers}
 use Rattle.atom_table.proofs.MadeLaws.{Made, made, not_made}
 use Rattle.semilinear.proofs.OutcomeLaws.{form_answer, gives_form, gives_refused, gives_two}
 use Rattle.atom_table.proofs.PassLaws.{gives_same}
@@ -38,9 +37,9 @@ use Rattle.hogzelt.proofs.hogzelt_normalize_to_semilinear.Reads as normalize-rea
 
 -- what a pass may hand over
 record Handed (o : Outcome) (len : ℕ) : Type 0 where
-  answer : Answer
+  answer : InNumbers
   out : List ℕ
-  given : GivesForm o len answer out
+  given : GivesNumbers o len answer out
 
 handed : {f : Form} {o : Outcome} (len : ℕ) → Made f o → Handed o len
 handed len (made g flag k new e) =
@@ -70,10 +69,10 @@ lifetimes = ([], ([], ([], ([], tt))))
 abbrev given_args : List ℕ → ℕ → ArgsD writer.signature lifetimes
 given_args s len = (ref s, (mut_ref (replicate len 0), (mut_ref 0, (mut_ref 0, tt))))
 
-abbrev left_args : List ℕ → Answer → List ℕ → AtExit (ended_of 4 writer-kinds.ps writer-kinds.r) lifetimes
+abbrev left_args : List ℕ → InNumbers → List ℕ → AtExit (ended_of 4 writer-kinds.ps writer-kinds.r) lifetimes
 left_args s a out = (ref s, (mut_ref out, (mut_ref a.used, (mut_ref a.terms, tt))))
 
-returned : (L : Learns) (s : List ℕ) (len : ℕ) (a : Answer) (out : List ℕ)
+returned : (L : Learns) (s : List ℕ) (len : ℕ) (a : InNumbers) (out : List ℕ)
     → L lifetimes (given_args s len) a.refusal (left_args s a out) → Returned L s len a.refusal a.used out
 returned L s len a out h =
     record {
@@ -128,7 +127,7 @@ form_traced f ok (c ∷ l) s e =
     record { last = rest.last; trace = then call rest.trace }
 
 -- the answer of normalising that gave the bytes b of a form
-abbrev answer_of : {s b ns : List ℕ} → Normalized s b ns → Answer
+abbrev answer_of : {s b ns : List ℕ} → Normalized s b ns → InNumbers
 answer_of {b = b} n = record { refusal = 0; used = length b; terms = term_count n.form.rows; flag = false }
 
 normal_given : {o : Outcome} {s b ns : List ℕ} (n : Normalized s b ns) (len : ℕ) → o ≡ accepted b ns

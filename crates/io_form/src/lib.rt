@@ -9,6 +9,7 @@ ghost use Rattle.io_form.specs.Reads.{HoldsRead};
 ghost use Rattle.io_form.specs.Used.{IsUsed, IsCleared, HoldsNoForm};
 
 use base::limits;
+use base::refusal::Refusal;
 use std::io;
 use std::io::Read;
 
@@ -23,6 +24,7 @@ pub fn read_full<R: Read>(reader: &mut R, buf: &mut [u8]) -> io::Result<usize>
     ensures end { IfOk result (λ n. n < length buf.new → IsAtEnd (R.remaining reader.new)) }
     ensures err { OnErr result (HoldsRead (R.remaining reader.old) (R.remaining reader.new) buf.new) }
 {
+    // Kept as a loop over `read`: std's `read_exact` says less of an input that ends before, and of an error.
     let mut done = 0;
     while done < buf.len() {
         let n = reader.read(&mut buf[done..])?;
@@ -35,7 +37,8 @@ pub fn read_full<R: Read>(reader: &mut R, buf: &mut [u8]) -> io::Result<usize>
 }
 
 // R and the refusal's number.
-pub fn print_refusal(rt: &impl Print, number: u64) -> io::Result<()> {
+pub fn print_refusal(rt: &impl Print, refusal: Refusal) -> io::Result<()> {
+    let number = refusal.number();
     print!(rt; "R {number}\n")
 }
 
@@ -44,12 +47,13 @@ fn normalize_or_print(rt: &impl Print, t: &[u8], out: &mut [u8]) -> io::Result<u
     ensures ok { IfOk result (λ n. IsUsed n out.new) }
     ensures err { OnErr result (IsCleared out.old out.new) }
 {
-    let answer = semilinear_normalizer::normalize_to_semilinear(t, out);
-    if answer.refusal != 0 {
-        print_refusal(rt, answer.refusal)?;
-        return Ok(0);
+    match semilinear_normalizer::normalize_to_semilinear(t, out) {
+        Ok(answer) => Ok(answer.used as usize),
+        Err(refusal) => {
+            print_refusal(rt, refusal)?;
+            Ok(0)
+        }
     }
-    Ok(answer.used as usize)
 }
 
 // The same of the expression on standard input. Room for one byte more than the longest has, so

@@ -15,10 +15,9 @@ use Rattle.expr_refusal.specs.Refusal.{is_expr, tree_refusal, expr_refusal}
 use Rattle.expr_refusal.proofs.RefusalLaws.{accepted_root}
 use Rattle.expr.proofs.AcceptLaws.{accept_expr}
 use Rattle.expr.proofs.ExprValueLaws.{accepted_tree, expr_value_accepted}
-use Rattle.semilinear.specs.declared.outcome.Answer.{Answer}
 use Rattle.semilinear.specs.Form.{Form, encode_form, fits_table}
 use Rattle.semilinear.specs.Outcome.{form_outcome}
-use Rattle.semilinear.specs.Answers.{GivesForm}
+use Rattle.semilinear.specs.Answers.{InNumbers, GivesNumbers}
 use Rattle.semilinear.specs.Valid.{semilinear_refusal}
 use Rattle.semilinear.specs.DecodeForm.{decode_form}
 use Rattle.semilinear.proofs.AcceptLaws.{accepted_semilinear, form_encode, form_valid}
@@ -35,8 +34,8 @@ use Rattle.judge.specs.Forms.{FormFor}
 
 -- ---- an expression
 
-module _ (s : List ℕ) (len : ℕ) (long : len ≡ 57360) (r : Answer) (out : List ℕ)
-    (given : GivesForm (normalize_to_semilinear s len) len r out) where
+module _ (s : List ℕ) (len : ℕ) (long : len ≡ 57360) (r : InNumbers) (out : List ℕ)
+    (given : GivesNumbers (normalize_to_semilinear s len) len r out) where
   -- the refusal is that of the side
   pub side_number : r.refusal ≡ (expr_side s).refusal
   side_number = given.number ∙ ap (λ (n : ℕ). refusal_of (normalize_to_semilinear s n)) long

@@ -21,7 +21,8 @@ use Rattle.semilinear.specs.Form.{Row}
 use Rattle.judge_laws.specs.PlaceSum.{place_sum}
 use Rattle.judge_laws.specs.declared.Verdict.{Verdict}
 use Rattle.judge_laws.specs.Judge.{verdict}
-use Rattle.judge.specs.Found.{unlike_sums, unlike_rows, Found, first_at}
+use Rattle.judge.specs.Found.{unlike_sums, unlike_rows, IsFirst, Found, first_at}
+use Rattle.std.specs.Prelude.{Option, Some, None}
 
 -- ---- the test of an index
 
@@ -64,6 +65,12 @@ sums_rows w p hw vs f g l r n some hl hr i h =
     ap₂ (λ (x y : ℕ). not (eqb x y))
     (scaled w p hw (place_sum w p vs i f) (place_sum w p vs 0 g) (hl i h) (hr 0 some))
     (scaled w p hw (place_sum w p vs i g) (place_sum w p vs 0 f) (hr i h) (hl 0 some))
+
+-- the first by another test that says the same
+pub first_moved : (t u : ℕ → Bool) {m n : ℕ} → m ≡ n → first_in t 0 m ≡ first_in u 0 n → (o : Option ℕ) → IsFirst t m o
+    → IsFirst u n o
+first_moved t u e s None h = sym s ∙ h ∙ e
+first_moved t u e s (Some i) h = let less = h.0 in (omega (arith, less, e), h.1 ∙ s)
 
 -- ---- the places in turn
 

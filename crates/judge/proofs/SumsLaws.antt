@@ -2,11 +2,12 @@
 -- one.
 use mathlib.Core.Path.{◌≡◌, refl, ap, ap₂, sym, ◌∙◌}
 use Prim.Native.Nat.{ℕ, ◌+◌, ◌*◌, ◌/◌, ◌%◌, ◌^◌, ◌≤◌, ◌<◌}
-use native.Mathlib.Nat.{mod-eq_of_lt, mod-lt, add-zero, zero-add, add_assoc, mul-zero, mul-one, div-one, mod-add-mod}
+use native.Mathlib.Nat.{mod-eq_of_lt, mod-lt, add-zero, zero-add, zero-mul, add_assoc, mul-zero, mul-one, div-one, mod-add-mod}
 use native.Mathlib.Decide.{ℕ_discrete, dec_lt}
 use native.Mathlib.Omega.{arith}
-use mathlib.Core.List.{List, []}
+use mathlib.Core.List.{List}
 use mathlib.Core.Bool.{true, false}
+use Rattle.std.specs.Prelude.{None, Some}
 use lib.ListN.{length, get_or, set, drop, replicate, length-set, length-replicate, get_or-replicate, get_or-eq_default}
 use lib.Seq.{get_or-set_same, get_or-set_other}
 use lib.Pow.{shr-shr, pow_pos}
@@ -15,17 +16,18 @@ use Rattle.arith.specs.Width.{mod_add}
 use Rattle.arith.proofs.BitLaws.{bit_lt}
 use Rattle.arith.proofs.WidthLaws.{mod_add_lem}
 use Rattle.record.specs.Decode.{decode}
-use Rattle.truth.specs.Truth.{bit_of, row_bits}
+use Rattle.truth.specs.Truth.{bit_of, row_bits, table_f}
+use Rattle.truth.proofs.TruthLaws.{table_f_bit}
 use Rattle.semilinear.specs.Form.{Row}
-use Rattle.semilinear.specs.Items.{is_atom, tree_span, after_atom}
+use Rattle.semilinear.specs.declared.items.FormRow.{FormRow}
+use Rattle.semilinear.specs.Atoms.{RowsLeft, FrontRow}
+use Rattle.semilinear.specs.Items.{is_atom, tree_span}
 use Rattle.semilinear.specs.Valid.{atoms_ok}
-use Rattle.semilinear.specs.DecodeForm.{coeff_at, after_term, row_at, rows_of}
+use Rattle.semilinear.specs.DecodeForm.{coeff_at, row_at, rows_of}
 use Rattle.semilinear.specs.Scan.{AtomsEnd}
-use Rattle.semilinear.proofs.ItemsLaws.{rows_atom, rows_end}
-use Rattle.semilinear.proofs.ValidLaws.{later_atoms_ok}
+use Rattle.semilinear.proofs.WalkLaws.{rows_left, left_none, left_row, left_ok, row_coeff_none, row_coeff_some}
 use Rattle.judge_laws.specs.PlaceSum.{place_sum}
-use Rattle.judge.specs.declared.sums.Walk.{Walk}
-use Rattle.judge.specs.Sums.{AllBelow, CoeffAdded, RowSummed, form_rows}
+use Rattle.judge.specs.Sums.{AllBelow, CoeffAdded, form_rows}
 
 -- ---- a coefficient
 
@@ -102,20 +104,13 @@ module _ (w rows c : ℕ) (before : List ℕ) where
 
 -- ---- the rows of a form
 
--- the rows of the atoms and terms that are left
-abbrev left_rows : List ℕ → Walk → List Row
-left_rows f x = rows_of x.number (drop x.at f) (drop x.next f)
-
 -- n sums, which with the rows that are left make those of place p
-pub record Summing (w p : ℕ) (vs f : List ℕ) (n : ℕ) (sums : List ℕ) (x : Walk) : Type 0 where
-  pub inside : x.at ≤ length f
-  pub terms_inside : x.next ≤ length f
-  pub number_le : x.number ≤ x.at
-  pub atoms : atoms_ok w (drop x.at f) ≡ true
+pub record Summing (w p : ℕ) (vs f : List ℕ) (n : ℕ) (sums : List ℕ) (s : RowsLeft) : Type 0 where
+  pub atoms : atoms_ok w s.atoms ≡ true
   pub long : length sums ≡ n
   pub fits : AllBelow w sums
   pub sum : (i : ℕ) → i < n
-      → (get_or sums i 0 + place_sum w p vs i (left_rows f x)) % 2 ^ w ≡ place_sum w p vs i (form_rows f) % 2 ^ w
+      → (get_or sums i 0 + place_sum w p vs i (rows_left s)) % 2 ^ w ≡ place_sum w p vs i (form_rows f) % 2 ^ w
 
 -- all sums have w bits where those of the slice have
 fits_all : (w : ℕ) (l : List ℕ) → ((i : ℕ) → i < length l → get_or l i 0 < 2 ^ w) → AllBelow w l
@@ -127,15 +122,12 @@ fits_all w l h i = go (dec_lt i (length l))
 
 module _ (w p : ℕ) (vs f : List ℕ) (n : ℕ) where
   pub summing_start : (terms : ℕ) → atoms_ok w f ≡ true → AtomsEnd f terms → {sums : List ℕ} → sums ≡ replicate n 0
-      → Summing w p vs f n sums (record { at = 0; next = terms; number = 0 })
+      → Summing w p vs f n sums (record { number = 0; atoms = f; terms = drop terms f })
   summing_start terms ok end {sums} e =
       let none : (i : ℕ) → i < n → get_or sums i 0 ≡ 0 =
       λ i h. ap (λ (l : List ℕ). get_or l i 0) e ∙ get_or-replicate n i 0 0 h in
       let size : length sums ≡ n = ap length e ∙ length-replicate n 0 in
       record {
-        inside = omega arith;
-        terms_inside = end.inside;
-        number_le = omega arith;
         atoms = ok;
         long = size;
         fits = fits_all w sums (λ i h. rw (none i (omega (arith, size))) (pow_pos w));
@@ -146,47 +138,64 @@ module _ (w p : ℕ) (vs f : List ℕ) (n : ℕ) where
             ∙ ap (λ (q : List ℕ). place_sum w p vs i (rows_of 0 f q) % 2 ^ w) end.rest;
       }
 
-  module _ (sums : List ℕ) (x : Walk) (h : Summing w p vs f n sums x) where
-    pub summing_end : is_atom (drop x.at f) ≡ false → (i : ℕ) → i < n
+  module _ (sums : List ℕ) {s : RowsLeft} (h : Summing w p vs f n sums s) where
+    pub summing_end : is_atom s.atoms ≡ false → (i : ℕ) → i < n
         → get_or sums i 0 ≡ place_sum w p vs i (form_rows f) % 2 ^ w
     unfolding place_sum
     summing_end e i l =
-        let none : left_rows f x ≡ [] = rows_end x.number (drop x.at f) (drop x.next f) e in
         let all : (get_or sums i 0 + 0) % 2 ^ w ≡ place_sum w p vs i (form_rows f) % 2 ^ w =
-        ap (λ (m : List Row). (get_or sums i 0 + place_sum w p vs i m) % 2 ^ w) (sym none) ∙ h.sum i l in
+        ap (λ (m : List Row). (get_or sums i 0 + place_sum w p vs i m) % 2 ^ w) (sym (left_none s e)) ∙ h.sum i l in
         sym (mod-eq_of_lt (h.fits i)) ∙ ap (λ (k : ℕ). k % 2 ^ w) (sym (add-zero (get_or sums i 0))) ∙ all
 
-    pub summing_row : (after : List ℕ) (y : Walk) → is_atom (drop x.at f) ≡ true
-        → RowSummed w p vs f x y sums after → Summing w p vs f n after y
-    unfolding place_sum row_at
-    summing_row after y e a =
-        record {
-          inside = a.passed.inside;
-          terms_inside = a.passed.terms_inside;
-          number_le = omega (arith, h.number_le, a.passed.later, a.passed.next_number);
-          atoms = rw a.passed.rest (later_atoms_ok w r h.atoms e);
-          long = a.long ∙ h.long;
-          fits = fits_all w after (λ i u. rw (a.sum i (omega (arith, a.long))) (mod-lt _ (pow_pos w)));
-          sum = λ i u. go i u;
-        }
-      where
-        r : List ℕ
-        r = drop x.at f
+    module _ {t : RowsLeft} {x : FormRow} (g : FrontRow s x t) where
+      -- the row adds k at index i
+      all : (i : ℕ) → i < n → (k : ℕ)
+          → coeff_at s.number s.terms * bit_of w p (row_bits 0 vs i) (decode (tree_span s.atoms)) ≡ k
+          → (get_or sums i 0 + (k + place_sum w p vs i (rows_left t))) % 2 ^ w
+          ≡ place_sum w p vs i (form_rows f) % 2 ^ w
+      unfolding place_sum row_at
+      all i u k e =
+          ap (λ (m : ℕ). (get_or sums i 0 + (m + place_sum w p vs i (rows_left t))) % 2 ^ w) (sym e)
+          ∙ ap (λ (l : List Row). (get_or sums i 0 + place_sum w p vs i l) % 2 ^ w) (sym (left_row g))
+          ∙ h.sum i u
 
-        q : List ℕ
-        q = drop x.next f
+      pub summing_without : x.coeff ≡ None → Summing w p vs f n sums t
+      summing_without e =
+          record {
+            atoms = left_ok g w h.atoms;
+            long = h.long;
+            fits = h.fits;
+            sum =
+                λ i u.
+                ap (λ (k : ℕ). (get_or sums i 0 + k) % 2 ^ w) (sym (zero-add (place_sum w p vs i (rows_left t))))
+                ∙ all i u 0
+                (ap (λ (k : ℕ). k * bit_of w p (row_bits 0 vs i) (decode (tree_span s.atoms))) (row_coeff_none g e)
+                ∙ zero-mul _);
+          }
 
-        go : (i : ℕ) → i < n
-            → (get_or after i 0 + place_sum w p vs i (left_rows f y)) % 2 ^ w ≡ place_sum w p vs i (form_rows f) % 2 ^ w
-        go i u =
-            let c : ℕ = coeff_at x.number q * bit_of w p (row_bits 0 vs i) (decode (tree_span r)) in
-            let s : ℕ = place_sum w p vs i (rows_of (x.number + 1) (after_atom r) (after_term x.number q)) in
-            let all : (get_or sums i 0 + (c + s)) % 2 ^ w ≡ place_sum w p vs i (form_rows f) % 2 ^ w =
-            ap (λ (l : List Row). (get_or sums i 0 + place_sum w p vs i l) % 2 ^ w) (sym (rows_atom x.number r q e))
-            ∙ h.sum i u in
-            let same : place_sum w p vs i (left_rows f y) ≡ s =
-            rw (a.passed.next_number, a.passed.rest, a.passed.terms) in
-            ap₂ (λ (k m : ℕ). (k + m) % 2 ^ w) (a.sum i (omega (arith, h.long))) same
-            ∙ mod-add-mod (get_or sums i 0 + c) (2 ^ w) s
-            ∙ ap (λ (k : ℕ). k % 2 ^ w) (add_assoc (get_or sums i 0) c s)
-            ∙ all
+      pub summing_with : (c : ℕ) → x.coeff ≡ Some c → n ≤ 64 → {rows : ℕ}
+          → rows ≡ table_f 64 w p vs (decode x.atom.tree.now) → {after : List ℕ} → CoeffAdded w rows c sums after
+          → Summing w p vs f n after t
+      summing_with c e few {rows} er {after} a =
+          record {
+            atoms = left_ok g w h.atoms;
+            long = a.long ∙ h.long;
+            fits = fits_all w after (λ i u. rw (a.sum i (omega (arith, a.long))) (mod-lt _ (pow_pos w)));
+            sum = go;
+          }
+        where
+          go : (i : ℕ) → i < n
+              → (get_or after i 0 + place_sum w p vs i (rows_left t)) % 2 ^ w
+              ≡ place_sum w p vs i (form_rows f) % 2 ^ w
+          go i u =
+              let b : ℕ = bit_of w p (row_bits 0 vs i) (decode x.atom.tree.now) in
+              let r : ℕ = place_sum w p vs i (rows_left t) in
+              let eb : bit_at rows i ≡ b =
+              ap (λ (m : ℕ). bit_at m i) er ∙ table_f_bit w p vs (decode x.atom.tree.now) 64 i (omega arith) in
+              ap (λ (k : ℕ). (k + r) % 2 ^ w)
+              (a.sum i (omega (arith, h.long)) ∙ ap (λ (d : ℕ). (get_or sums i 0 + c * d) % 2 ^ w) eb)
+              ∙ mod-add-mod (get_or sums i 0 + c * b) (2 ^ w) r
+              ∙ ap (λ (k : ℕ). k % 2 ^ w) (add_assoc (get_or sums i 0) (c * b) r)
+              ∙ all i u (c * b)
+              (ap₂ (λ (k : ℕ) (l : List ℕ). k * bit_of w p (row_bits 0 vs i) (decode l)) (row_coeff_some g c e)
+              (sym g.atom.tree))

@@ -6,7 +6,7 @@ use native.Mathlib.Nat.{zero-mul, one-mul}
 use native.Mathlib.Decide.{ℕ_discrete}
 use native.Mathlib.Omega.{arith}
 use mathlib.Core.List.{List, []}
-use mathlib.Core.Bool.{true, false, not}
+use mathlib.Core.Bool.{true, not}
 use lib.ListN.{length, take, replicate, length-take}
 use lib.Dec.{eqb, lit<}
 use lib.Pow.{pow_pos, pow_mono, shl_exact}

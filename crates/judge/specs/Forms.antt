@@ -1,19 +1,21 @@
 -- What the judge knows of a side and its form.
-use Rattle.std.specs.Prelude.{◌≡◌, ℕ, ◌≤◌, List, Bool, true, false, length}
+use Rattle.std.specs.Prelude.{◌≡◌, ℕ, ◌≤◌, List, true, false, length}
 use Rattle.record.specs.Tree.{Tree}
+use Rattle.judge.specs.declared.sides.SideKind.{SideKind}
+use Rattle.judge.specs.declared.sides.SideKind.TheVariants.{Expression, Form}
 use Rattle.record.specs.Tree.Tree.{Constant, Binary}
 use Rattle.record.specs.Decode.{decode}
 use Rattle.truth.specs.Truth.{shifts_var}
-use Rattle.semilinear.specs.Form.{Form, form_value, encode_form, valid_form}
+use Rattle.semilinear.specs.Form.{Form as TermsForm, form_value, encode_form, valid_form}
 use Rattle.semilinear.specs.Items.{tree_span, fold_atoms}
 use Rattle.semilinear.specs.Valid.{atoms_ok}
 use Rattle.judge_laws.specs.Judge.{Side, expr_side, form_side, judged_vars}
 use Rattle.judge_laws.specs.PlaceSum.{RowsUnshifted}
 
 -- the side of bytes: those of a semilinear form, or of an expression
-abbrev pub side_of : Bool → List ℕ → Side
-side_of true s = form_side s
-side_of false s = expr_side s
+abbrev pub side_of : SideKind → List ℕ → Side
+side_of Form s = form_side s
+side_of Expression s = expr_side s
 
 -- the sum of the atoms at the front of some bytes, and that these are as they must be, at some width
 abbrev pub front_tree : List ℕ → Tree
@@ -26,7 +28,7 @@ pub record AtomsRead (f : List ℕ) : Type 0 where
 -- f are the bytes of a form that has the value of the side a
 pub record FormFor (a : Side) (f : List ℕ) : Type 0 where
   pub taken : a.refusal ≡ 0
-  pub form : Form
+  pub form : TermsForm
   pub encoded : f ≡ encode_form form
   pub valid : valid_form form ≡ true
   pub wide : form.bitwidth ≡ a.bitwidth
@@ -35,7 +37,7 @@ pub record FormFor (a : Side) (f : List ℕ) : Type 0 where
 
 -- f are the bytes of a form of width w whose atoms shift no variable
 pub record Unshifted (w : ℕ) (f : List ℕ) : Type 0 where
-  pub form : Form
+  pub form : TermsForm
   pub encoded : f ≡ encode_form form
   pub valid : valid_form form ≡ true
   pub wide : form.bitwidth ≡ w

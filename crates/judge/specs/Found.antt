@@ -1,5 +1,5 @@
 -- The first place and index at which a test passes, as a verdict.
-use Rattle.std.specs.Prelude.{◌≡◌, ℕ, ◌+◌, ◌*◌, ◌%◌, ◌^◌, ◌<◌, ◌≤◌, List, Bool, true, false, not, eqb, length, get_or}
+use Rattle.std.specs.Prelude.{◌≡◌, ℕ, ◌+◌, ◌*◌, ◌%◌, ◌^◌, ◌<◌, ◌≤◌, List, Bool, true, false, not, eqb, length, get_or, Option, MatchOption}
 use Rattle.arith.specs.Width.{mod_add, mod_mul}
 use Rattle.base.specs.Loop.{first_in}
 use Rattle.semilinear.specs.Form.{Row}
@@ -43,9 +43,13 @@ pub record PlaceReady (w p : ℕ) (f : List ℕ) (m : ℕ) (g : List ℕ) (n : �
   pub some : 0 < length x
   pub few : length x ≤ 64
 
+-- the first of the numbers below n that passes the test, or none
+abbrev pub IsFirst : (ℕ → Bool) → ℕ → Option ℕ → Type 0
+IsFirst test n o = MatchOption o (first_in test 0 n ≡ n) (λ i. (i < n) × (i ≡ first_in test 0 n))
+
 -- the first index that passes the test; the slices are as long as before
-pub record PlaceFound (test : ℕ → Bool) (x y x' y' : List ℕ) (r : ℕ) : Type 0 where
-  pub index : r ≡ first_in test 0 (length x)
+pub record PlaceFound (test : ℕ → Bool) (x y x' y' : List ℕ) (r : Option ℕ) : Type 0 where
+  pub index : IsFirst test (length x) r
   pub long_x : length x' ≡ length x
   pub long_y : length y' ≡ length y
 

@@ -1,16 +1,12 @@
 -- The sums of a place (judge_laws/specs/PlaceSum.antt) in a lent slice: one for each index, modulo 2 ^ w.
-use Rattle.std.specs.Prelude.{◌≡◌, ℕ, ◌+◌, ◌*◌, ◌%◌, ◌^◌, ◌<◌, ◌≤◌, List, true, length, get_or, drop}
+use Rattle.std.specs.Prelude.{◌≡◌, ℕ, ◌+◌, ◌*◌, ◌%◌, ◌^◌, ◌<◌, ◌≤◌, List, true, length, get_or}
 use Rattle.arith.specs.Bit.{bit_at}
-use Rattle.record.specs.Decode.{decode}
-use Rattle.truth.specs.Truth.{bit_of, row_bits}
 use Rattle.semilinear.specs.Form.{Row}
-use Rattle.semilinear.specs.Items.{tree_span, after_atoms}
+use Rattle.semilinear.specs.Items.{after_atoms}
 use Rattle.semilinear.specs.Valid.{atoms_ok}
-use Rattle.semilinear.specs.DecodeForm.{coeff_at, rows_of}
+use Rattle.semilinear.specs.DecodeForm.{rows_of}
 use Rattle.semilinear.specs.Scan.{AtomsEnd}
-use Rattle.semilinear_value.specs.Running.{AtRow, RowPassed}
 use Rattle.judge_laws.specs.PlaceSum.{place_sum}
-use Rattle.judge.specs.declared.sums.Walk.{Walk}
 
 -- every sum has w bits
 abbrev pub AllBelow : ℕ → List ℕ → Type 0
@@ -20,23 +16,6 @@ AllBelow w l = (i : ℕ) → get_or l i 0 < 2 ^ w
 pub record CoeffAdded (w rows c : ℕ) (before after : List ℕ) : Type 0 where
   pub long : length after ≡ length before
   pub sum : (i : ℕ) → i < length before → get_or after i 0 ≡ (get_or before i 0 + c * bit_at rows i) % 2 ^ w
-
--- x is before an atom; the sums have w bits, and there are as many as a word has rows, at most
-pub record RowReady (w : ℕ) (f sums : List ℕ) (x : Walk) : Type 0 where
-  pub row : AtRow w f x.at x.next
-  pub number_le : x.number ≤ x.at
-  pub few : length sums ≤ 64
-  pub fits : AllBelow w sums
-
--- y is x after the atom at x.at, whose coefficient was added where it has bit 1 at place p
-pub record RowSummed (w p : ℕ) (vs f : List ℕ) (x y : Walk) (before after : List ℕ) : Type 0 where
-  pub passed : RowPassed f x.at x.next x.number y.at y.next y.number
-  pub long : length after ≡ length before
-  pub sum : (i : ℕ) → i < length before
-      → get_or after i 0
-      ≡ (get_or before i 0
-      + coeff_at x.number (drop x.next f) * bit_of w p (row_bits 0 vs i) (decode (tree_span (drop x.at f))))
-      % 2 ^ w
 
 -- f is atoms as they must be and, from `terms` on, terms
 pub record SumsReady (w : ℕ) (f : List ℕ) (terms : ℕ) (sums : List ℕ) : Type 0 where

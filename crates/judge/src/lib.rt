@@ -7,30 +7,33 @@ pub mod sides;
 pub mod sums;
 
 ghost use Rattle.std.specs.Prelude.{◌≡◌, true, ℕ, ◌<◌, ◌≤◌, length};
-ghost use Rattle.base.specs.Loop.{first_in};
+ghost use Rattle.base.specs.Refusal.{refusal_number};
 ghost use Rattle.record.specs.Span.{body};
 ghost use Rattle.base.specs.Limits.{form_bytes};
 ghost use Rattle.semilinear_value.specs.Value.{semilinear_value};
 ghost use Rattle.judge_laws.specs.Judge.{verdict, compared, judge_sides, judge_of, judge_forms};
 ghost use Rattle.judge.specs.Forms.{side_of, FormFor, Unshifted, Comparable};
 ghost use Rattle.judge.specs.Sums.{form_rows};
-ghost use Rattle.judge.specs.Found.{unlike_sums, unlike_rows, PlaceReady, PlaceFound};
+ghost use Rattle.judge.specs.Found.{unlike_sums, unlike_rows, IsFirst, PlaceReady, PlaceFound};
 ghost use Rattle.judge.specs.Found.{FormsReady, Found};
 
 use base::limits;
+use base::refusal::Refusal;
 use judge_laws::Verdict;
 use semilinear::scan;
+use sides::SideKind;
 
 // The most variables of the two together, and indices at a place.
 const JOINT_VARS: usize = 5;
 
 const INDICES: usize = 32;
 
-fn refused(number: u64) -> Verdict
-    ensures { result ≡ verdict number 0 0 0 }
+// A verdict holds the refusal's number: the definitions of judge_laws speak of four numbers.
+fn refused(refusal: Refusal) -> Verdict
+    ensures { result ≡ verdict (refusal_number refusal) 0 0 0 }
 {
     Verdict {
-        refusal: number,
+        refusal: refusal.number(),
         equal: 0,
         place: 0,
         index: 0,
@@ -43,8 +46,8 @@ fn unlike(place: u64, index: u64) -> Verdict
     Verdict {
         refusal: 0,
         equal: 0,
-        place: place,
-        index: index,
+        place,
+        index,
     }
 }
 
@@ -59,25 +62,21 @@ fn equal() -> Verdict
     }
 }
 
-// The first index whose sums tell two forms apart that have the same value at all zeros; the count
-// of sums where there is none.
-fn first_unlike(left: &[u64], right: &[u64], place: u32, w: u32) -> usize
+// The first index whose sums tell two forms apart that have the same value at all zeros.
+fn first_unlike(left: &[u64], right: &[u64], place: u32, w: u32) -> Option<usize>
     requires { (length left.now ≡ length right.now) × (0 < length left.now)
         × (place < 64) }
-    ensures { result ≡ first_in (unlike_sums w place left.now right.now) 0
-        (length left.now) }
+    ensures { IsFirst (unlike_sums w place left.now right.now) (length left.now) result }
 {
     let factor: u64 = 1 << place;
-    let mut i = 0;
-    while i < left.len() {
+    for i in 0..left.len() {
         let x = arith::mod_mul(factor, arith::mod_add(left[i], right[0], w), w);
         let y = arith::mod_mul(factor, arith::mod_add(right[i], left[0], w), w);
         if x != y {
-            return i;
+            return Some(i);
         }
-        i += 1;
     }
-    i
+    None
 }
 
 // The same of the atoms and terms f and g, whose terms begin at `m` and `n`, at a place; the sums
@@ -92,7 +91,7 @@ fn place_unlike(
     w: u32,
     x: &mut [u64],
     y: &mut [u64],
-) -> usize
+) -> Option<usize>
     requires { PlaceReady w place f.now m g.now n x.old y.old }
     ensures { PlaceFound (unlike_rows w vars.now (form_rows f.now)
         (form_rows g.now) place) x.old y.old x.new
@@ -121,13 +120,10 @@ fn search_places(
     let g = record::body(right);
     let m = scan::terms_at(f);
     let n = scan::terms_at(g);
-    let mut p = 0;
-    while p < w {
-        let i = place_unlike(f, g, m, n, vars, p, w, x, y);
-        if i < x.len() {
-            return unlike(p as u64, i as u64);
+    for p in 0..w {
+        if let Some(i) = place_unlike(f, g, m, n, vars, p, w, x, y) {
+            return unlike(u64::from(p), i as u64);
         }
-        p += 1;
     }
     equal()
 }
@@ -161,28 +157,28 @@ pub fn compare_forms(f: &[u8], g: &[u8], vars: &[u64], w: u32) -> Verdict
     search_places(f, g, vars, w, &mut x[..indices], &mut y[..indices])
 }
 
-// The verdict on two accepted sides with their forms.
-fn judge_pair(forms: bool, left: &[u8], right: &[u8], f: &[u8], g: &[u8]) -> Verdict
-    requires { FormFor (side_of forms left.now) f.now
-        × FormFor (side_of forms right.now) g.now }
-    ensures { result ≡ judge_sides (side_of forms left.now)
-        (side_of forms right.now) }
+// The verdict on two accepted sides with their forms. The shifts are two tests: an edit turns the second alone.
+fn judge_pair(kind: SideKind, left: &[u8], right: &[u8], f: &[u8], g: &[u8]) -> Verdict
+    requires { FormFor (side_of kind left.now) f.now
+        × FormFor (side_of kind right.now) g.now }
+    ensures { result ≡ judge_sides (side_of kind left.now)
+        (side_of kind right.now) }
 {
     let w = record::width(left);
     if w != record::width(right) {
-        return refused(11);
+        return refused(Refusal::WidthsDiffer);
     }
     let mut vars = [0u64; JOINT_VARS + 1];
-    sides::joint_vars(forms, left, right, &mut vars);
+    sides::joint_vars(kind, left, right, &mut vars);
     let n = truth::place_of(expr::vars::NO_VAR, &vars);
     if JOINT_VARS < n {
-        return refused(12);
+        return refused(Refusal::Variables);
     }
-    if sides::side_shifts(forms, left) {
-        return refused(13);
+    if sides::side_shifts(kind, left) {
+        return refused(Refusal::ShiftedVariable);
     }
-    if sides::side_shifts(forms, right) {
-        return refused(13);
+    if sides::side_shifts(kind, right) {
+        return refused(Refusal::ShiftedVariable);
     }
     compare_forms(f, g, &vars[..n], w as u32)
 }
@@ -191,15 +187,13 @@ fn judge_pair(forms: bool, left: &[u8], right: &[u8], f: &[u8], g: &[u8]) -> Ver
 pub fn judge_forms(left: &[u8], right: &[u8]) -> Verdict
     ensures { result ≡ judge_forms left.now right.now }
 {
-    let a = scan::semilinear_refusal(left);
-    if a != 0 {
+    if let Err(a) = scan::semilinear_refusal(left) {
         return refused(a);
     }
-    let b = scan::semilinear_refusal(right);
-    if b != 0 {
+    if let Err(b) = scan::semilinear_refusal(right) {
         return refused(b);
     }
-    judge_pair(true, left, right, left, right)
+    judge_pair(SideKind::Form, left, right, left, right)
 }
 
 // The verdict on two expressions; f and g are room for their forms.
@@ -207,17 +201,17 @@ fn judge_in(left: &[u8], right: &[u8], f: &mut [u8], g: &mut [u8]) -> Verdict
     requires { (length f.old ≡ form_bytes) × (length g.old ≡ form_bytes) }
     ensures { result ≡ judge_of left.now right.now }
 {
-    let a = semilinear_normalizer::normalize_to_semilinear(left, f);
-    if a.refusal != 0 {
-        return refused(a.refusal);
-    }
-    let b = semilinear_normalizer::normalize_to_semilinear(right, g);
-    if b.refusal != 0 {
-        return refused(b.refusal);
-    }
+    let a = match semilinear_normalizer::normalize_to_semilinear(left, f) {
+        Ok(a) => a,
+        Err(refusal) => return refused(refusal),
+    };
+    let b = match semilinear_normalizer::normalize_to_semilinear(right, g) {
+        Ok(b) => b,
+        Err(refusal) => return refused(refusal),
+    };
     let m = a.used as usize;
     let n = b.used as usize;
-    judge_pair(false, left, right, &f[..m], &g[..n])
+    judge_pair(SideKind::Expression, left, right, &f[..m], &g[..n])
 }
 
 // The verdict on two expressions.

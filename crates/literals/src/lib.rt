@@ -10,19 +10,15 @@ ghost use Rattle.literals.specs.Folding.{FoldRoom, Folded, RootRoom, RootPut};
 
 use base::{limits, write};
 use expr::value;
+use record::kinds::Kind;
 use ways::marks;
 
 // And, Or, Xor and Not.
+#[tactic(auto, unfolding(rules_laws::specs::Rules::is_bitwise))]
 fn is_bitwise(k: u8) -> bool
     ensures { result ≡ is_bitwise k }
 {
-    match k {
-        4 => true,
-        5 => true,
-        6 => true,
-        7 => true,
-        _ => false,
-    }
+    Kind::And as u8 <= k && k <= Kind::Not as u8
 }
 
 // Whether a tree of the mark m becomes a literal: below a bitwise operator, without a variable.
@@ -55,15 +51,15 @@ pub fn fold_literals(t: &[u8], marks: &[u8], below: bool, w: u8, out: &mut [u8],
     let last = marks.len() - 1;
     if is_literal(below, marks[last]) {
         let v = value::constant_value(t, w as u32);
-        record::write::put_record(out, at, 0, 0, 1, w, v);
+        record::write::put_record(out, at, Kind::Constant as u8, 0, 1, w, v);
         return at + limits::RECORD_LENGTH;
     }
     let children = record::root_arity(t);
     if children == 0 {
-        write::put_bytes(out, at, t);
+        write::put(out, at, t);
         return at + limits::RECORD_LENGTH;
     }
-    let deeper = expr_utils::either(below, is_bitwise(record::kind(t)));
+    let deeper = below | is_bitwise(record::kind(t));
     // Each call in the code has its own arguments in the frame, so the only child is folded by the
     // call for the right one of two: it is one before which no record stands. What t tells is read
     // again behind a call, since what is kept over it is in the frame too.

@@ -2,39 +2,42 @@
 #![tactic(auto)]
 
 ghost use Rattle.std.specs.Prelude.{◌≡◌, true, false, ℕ, ◌<◌, ◌≤◌};
-ghost use Rattle.views.specs.Views.{view_at, has_basis, Readable};
+ghost use Rattle.views.specs.Views.{found_at, view_at, has_basis, Readable};
 ghost use Rattle.group.specs.Gathered.{gathered};
 ghost use Rattle.lone.specs.Lone.{LoneReady, lone_group, Stays, StaysAlone};
 
-use entries::{LIVE, single};
+use entries::Entry;
+use views::View;
 
 // Whether no row from a to below n has the basis b with this hash.
-fn none_has(a: usize, n: usize, hash: u64, b: &[u8], views: &[u64], f: &[u8]) -> bool
+fn none_has(a: usize, n: usize, hash: u64, b: &[u8], views: &[Option<View>], f: &[u8]) -> bool
     requires { Readable f.now views.now n }
     ensures { result ≡ true → (k : ℕ) → a ≤ k → k < n
-        → has_basis f.now (view_at views.now k) hash b.now ≡ false }
+        → has_basis f.now (found_at views.now k) hash b.now ≡ false }
 {
-    let mut i = a;
-    while i < n {
+    for i in a..n {
         if views::has_basis(views, i, hash, b, f) {
             return false;
         }
-        i += 1;
     }
     true
 }
 
 // Whether of n rows only `first`, which has it, has the basis b with this hash.
-pub fn is_lone(first: usize, n: usize, hash: u64, b: &[u8], views: &[u64], f: &[u8]) -> bool
+pub fn is_lone(
+    first: usize,
+    n: usize,
+    hash: u64,
+    b: &[u8],
+    views: &[Option<View>],
+    f: &[u8],
+) -> bool
     requires { LoneReady f.now views.now hash b.now first n }
     ensures { result ≡ true
         → gathered f.now views.now hash b.now n
         ≡ lone_group (view_at views.now first) first }
 {
-    if !none_has(0, first, hash, b, views, f) {
-        return false;
-    }
-    none_has(first + 1, n, hash, b, views, f)
+    none_has(0, first, hash, b, views, f) && none_has(first + 1, n, hash, b, views, f)
 }
 
 // Whether refining leaves an entry of the coefficient c and the mask m, which is alone, as it is.
@@ -42,13 +45,12 @@ fn stays(c: u64, m: u64, w: u32) -> bool
     requires { w ≤ 64 }
     ensures { result ≡ true → Stays w c m }
 {
-    if single::cut_of(LIVE, c, m, w) != m {
-        return false;
-    }
-    if single::drops(LIVE, c, m, w) {
-        return false;
-    }
-    !single::becomes_minus_one(LIVE, c, m, w)
+    let e = Entry {
+        coeff: c,
+        mask: m,
+        ..Entry::BLANK
+    };
+    e.cut_mask(w) == m && !e.drops(w) && !e.becomes_minus_one(w)
 }
 
 // Whether row `first` alone, of n, has the basis b with this hash, and refining leaves it as it is.
@@ -57,7 +59,7 @@ pub fn stays_alone(
     n: usize,
     hash: u64,
     b: &[u8],
-    views: &[u64],
+    views: &[Option<View>],
     f: &[u8],
     w: u32,
 ) -> bool
@@ -65,9 +67,6 @@ pub fn stays_alone(
     ensures { result ≡ true → StaysAlone w f.now views.now hash
         b.now n first }
 {
-    let v = views::VIEW_WORDS * first;
-    if !stays(views[v], views[v + 4], w) {
-        return false;
-    }
-    is_lone(first, n, hash, b, views, f)
+    let v = views[first].unwrap();
+    stays(v.coeff, v.mask, w) && is_lone(first, n, hash, b, views, f)
 }

@@ -1,5 +1,6 @@
 -- Laws of a table in words (specs/Made.antt): what is stored is read back, the bytes of `basis & mask`, and that an atom
 -- more is a row more of every table that the words and bytes hold.
+use Rattle.made.specs.declared.Made.{Made}
 use mathlib.Core.Path.{◌≡◌, refl, ap, sym, ◌∙◌}
 use Prim.Native.Nat.{ℕ, ◌+◌, ◌-◌, ◌*◌, ◌^◌, ◌≤◌, ◌<◌}
 use native.Mathlib.Omega.{arith}
@@ -22,62 +23,14 @@ use Rattle.atom_table.specs.declared.table.Table.{Table}
 use Rattle.semilinear.specs.Form.{head_byte, Row, new_row, atoms_bytes, fits_table}
 use Rattle.made.specs.Rows.{create_row, masked_tree, create_masked}
 use Rattle.atom_table.specs.Table.{Placed, Holds, Clean, Store, store_of, atom_span, full_table, more_atoms, create_atom}
-use Rattle.made.specs.Made.{table_of, flag_of, words_of, Room, Later, Held, Grew, Basis, Makes}
+use Rattle.made.specs.Made.{made_of, Room, Later, Held, Grew, Basis, Makes}
 use Rattle.atom_table.proofs.TableLaws.{created, create_cases, room_atom, placed_create, clean_create}
 use Rattle.atom_table.proofs.HoldsLaws.{holds_create, full_holds, padded_holds}
-
--- ---- the words
-
-flag_full : (b : Bool) → eqb (flag_of b) 1 ≡ b
-unfolding flag_of
-flag_full true = refl
-flag_full false = refl
-
-module _ (tab : Table) (n k : ℕ) where
-  pub table_words : table_of (words_of tab n k) ≡ tab
-  unfolding table_of words_of
-  table_words =
-      ap (λ (b : Bool). record { at = tab.at; count = tab.count; records = tab.records; full = b })
-      (flag_full tab.full)
-
-  length_words : length (words_of tab n k) ≡ 6
-  unfolding words_of
-  length_words = refl
-
-  rows_words : get_or (words_of tab n k) 4 0 ≡ n
-  unfolding words_of
-  rows_words = refl
-
-  constant_words : get_or (words_of tab n k) 5 0 ≡ k
-  unfolding words_of
-  constant_words = refl
-
--- the word that says whether the table is full
-pub is_full : (made : List ℕ) → get_or made 3 0 ≡ 1 → (table_of made).full ≡ true
-unfolding table_of
-is_full made e = eq-eqb (get_or made 3 0) 1 e
-
-pub not_full : (made : List ℕ) → (get_or made 3 0 ≡ 1 → ⊥) → (table_of made).full ≡ false
-unfolding table_of
-not_full made n = ne_eqb (get_or made 3 0) 1 n
-
-pub set_words : (made : List ℕ) → length made ≡ 6 → (tab : Table) (f n : ℕ) → f ≡ flag_of tab.full
-    → set (set (set (set (set made 0 tab.at) 1 tab.count) 2 tab.records) 3 f) 4 n
-    ≡ words_of tab n (get_or made 5 0)
-unfolding words_of
-set_words (a ∷ b ∷ c ∷ d ∷ e ∷ k ∷ []) h tab f n q = rw q refl
-set_words [] h tab f n q = absurd (omega (arith, h))
-set_words (a ∷ []) h tab f n q = absurd (omega (arith, h))
-set_words (a ∷ b ∷ []) h tab f n q = absurd (omega (arith, h))
-set_words (a ∷ b ∷ c ∷ []) h tab f n q = absurd (omega (arith, h))
-set_words (a ∷ b ∷ c ∷ d ∷ []) h tab f n q = absurd (omega (arith, h))
-set_words (a ∷ b ∷ c ∷ d ∷ e ∷ []) h tab f n q = absurd (omega (arith, h))
-set_words (a ∷ b ∷ c ∷ d ∷ e ∷ k ∷ x ∷ l) h tab f n q = absurd (omega (arith, h))
 
 -- ---- an atom more
 
 -- F and G that agree on every list of rows
-pub grew_as : {w n : ℕ} {F G : List Row → List Row} {made out made' out' : List ℕ} → ((l : List Row) → F l ≡ G l)
+pub grew_as : {w n : ℕ} {F G : List Row → List Row} {made : Made} {out : List ℕ} {made' : Made} {out' : List ℕ} → ((l : List Row) → F l ≡ G l)
     → Grew w n F made out made' out' → Grew w n G made out made' out'
 grew_as {w} {made' = made'} {out' = out'} e g =
     record {
@@ -87,37 +40,33 @@ grew_as {w} {made' = made'} {out' = out'} e g =
       held = λ l h. rw (← (e l)) (g.held l h);
     }
 
-module _ (w : ℕ) (t : List ℕ) (ok : sized t ≡ true) (same : encode w (decode t) ≡ t) (made out : List ℕ)
+module _ (w : ℕ) (t : List ℕ) (ok : sized t ≡ true) (same : encode w (decode t) ≡ t) (made : Made) (out : List ℕ)
     (r : Room made out) where
-  pub grew_create : {tab : Table} {wrote made' : List ℕ}
-      → store_of tab wrote ≡ create_atom w t (store_of (table_of made) out)
-      → made' ≡ words_of tab (get_or made 4 0 + 1) (get_or made 5 0)
+  pub grew_create : {tab : Table} {wrote : List ℕ} {made' : Made}
+      → store_of tab wrote ≡ create_atom w t (store_of made.table out)
+      → made' ≡ made_of tab (made.rows + 1) made.constant
       → Grew w 1 (create_row (decode t)) made out made' wrote
   unfolding create_row
   grew_create {tab} {wrote} {made'} e q =
-      let n : ℕ = get_or made 4 0 + 1 in
-      let k : ℕ = get_or made 5 0 in
-      let m : table_of made' ≡ tab = ap table_of q ∙ table_words tab n k in
-      let rows' : get_or made' 4 0 ≡ n = ap (λ (s : List ℕ). get_or s 4 0) q ∙ rows_words tab n k in
+      let n : ℕ = made.rows + 1 in
+      let k : ℕ = made.constant in
+      let m : made'.table ≡ tab = ap (λ (s : Made). s.table) q in
+      let rows' : made'.rows ≡ n = ap (λ (s : Made). s.rows) q in
       record {
-        room =
-            record {
-              words = ap length q ∙ length_words tab n k;
-              placed = rw m (placed_create w t (table_of made) out r.placed ok e);
-            };
+        room = record { placed = rw m (placed_create w t made.table out r.placed ok e) };
         later =
             record {
               rows_le = omega (arith, rows');
-              constant = ap (λ (s : List ℕ). get_or s 5 0) q ∙ constant_words tab n k;
+              constant = ap (λ (s : Made). s.constant) q;
             };
         long =
-            create_cases w t (table_of made) out r.placed ok (λ _ o. length o ≡ length out) (λ _. refl) (λ _ _. refl)
+            create_cases w t made.table out r.placed ok (λ _ o. length o ≡ length out) (λ _. refl) (λ _ _. refl)
             (λ _ f.
-            length_put out (table_of made).at (atom_span w t) (room_atom w t (table_of made) out r.placed ok f)) e;
+            length_put out made.table.at (atom_span w t) (room_atom w t made.table out r.placed ok f)) e;
         held = λ l h.
             record {
-              holds = rw m (holds_create w 0 t (table_of made) out l h.holds ok same e);
-              clean = rw m (clean_create w t (table_of made) out r.placed ok h.clean e);
+              holds = rw m (holds_create w 0 t made.table out l h.holds ok same e);
+              clean = rw m (clean_create w t made.table out r.placed ok h.clean e);
               rows =
                   rows' ∙ ap (λ (x : ℕ). x + 1) h.rows
                   ∙ sym (length-append l (new_row (decode t) 0 ∷ []));
@@ -254,11 +203,11 @@ module _ (w m : ℕ) (b : Tree) (l : List Row) where
   masked_part e = sym (simp (ne_eqb m (2 ^ w - 1) e))
 
 -- the basis under a mask that is not full
-module _ (w hash : ℕ) (b : List ℕ) (h : Basis w hash b) (m : ℕ) (hm : m < 2 ^ 64) (made out : List ℕ)
+module _ (w hash : ℕ) (b : List ℕ) (h : Basis w hash b) (m : ℕ) (hm : m < 2 ^ 64) (made : Made) (out : List ℕ)
     (r : Room made out) (part : m ≡ 2 ^ w - 1 → ⊥) where
-  pub grew_masked : {tab : Table} {wrote made' : List ℕ}
-      → store_of tab wrote ≡ create_atom w (masked_bytes w b m) (store_of (table_of made) out)
-      → made' ≡ words_of tab (get_or made 4 0 + 1) (get_or made 5 0)
+  pub grew_masked : {tab : Table} {wrote : List ℕ} {made' : Made}
+      → store_of tab wrote ≡ create_atom w (masked_bytes w b m) (store_of made.table out)
+      → made' ≡ made_of tab (made.rows + 1) made.constant
       → Grew w 1 (create_masked w (decode b) m) made out made' wrote
   grew_masked e q =
       let t = masked_bytes w b m in
@@ -268,33 +217,26 @@ module _ (w hash : ℕ) (b : List ℕ) (h : Basis w hash b) (m : ℕ) (hm : m < 
 -- ---- the start and the end of a pass
 
 pub held_start : (w : ℕ) (tab : Table) (out : List ℕ) (l : List Row) (k : ℕ) → Holds w tab out l → Clean tab out
-    → Held w (words_of tab (length l) k) out l
-held_start w tab out l k h z =
-    record {
-      holds = rw (table_words tab (length l) k) h;
-      clean = rw (table_words tab (length l) k) z;
-      rows = rows_words tab (length l) k;
-    }
+    → Held w (made_of tab (length l) k) out l
+held_start w tab out l k h z = record { holds = h; clean = z; rows = refl }
 
-module _ (w : ℕ) (made out : List ℕ) (l : List Row) (h : Held w made out l) where
-  -- the word says whether the rows pass a limit
-  pub held_full : eqb (get_or made 3 0) 1 ≡ not (fits_table l)
-  unfolding table_of
-  held_full = full_holds w (table_of made) out l h.holds
+module _ (w : ℕ) (made : Made) (out : List ℕ) (l : List Row) (h : Held w made out l) where
+  -- it is full where the rows pass a limit
+  pub held_full : made.table.full ≡ not (fits_table l)
+  held_full = full_holds w made.table out l h.holds
 
-  pub held_bytes : (get_or made 3 0 ≡ 1 → ⊥) → out ≡ padded (length out) (atoms_bytes w l)
-  unfolding table_of
-  held_bytes n = padded_holds w (table_of made) out l h.holds h.clean (ne_eqb (get_or made 3 0) 1 n)
+  pub held_bytes : made.table.full ≡ false → out ≡ padded (length out) (atoms_bytes w l)
+  held_bytes n = padded_holds w made.table out l h.holds h.clean n
 
 -- ---- what is asked of a step
 
 -- where n atoms can be made, fewer can, also after rows were added
-module _ {w n hash : ℕ} {b made out : List ℕ} (h : Makes w n hash b made out) where
+module _ {w n hash : ℕ} {b : List ℕ} {made : Made} {out : List ℕ} (h : Makes w n hash b made out) where
   pub makes_fewer : {m : ℕ} → m ≤ n → Makes w m hash b made out
   makes_fewer le =
       record { width = h.width; basis = h.basis; room = h.room; more = omega (arith, h.more, le) }
 
-  pub makes_later : {m : ℕ} {made' out' : List ℕ} → Room made' out' → get_or made' 4 0 + m ≤ get_or made 4 0 + n
+  pub makes_later : {m : ℕ} {made' : Made} {out' : List ℕ} → Room made' out' → made'.rows + m ≤ made.rows + n
       → Makes w m hash b made' out'
   makes_later room le =
       record { width = h.width; basis = h.basis; room = room; more = omega (arith, h.more, le) }

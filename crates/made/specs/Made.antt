@@ -1,5 +1,6 @@
--- The atom table of a pass in lent words, beside the lent bytes that hold its atoms. The rows of the table without
--- limits stand in no word: what is done is said for all rows that the words and bytes stand for.
+-- The atom table of a pass, beside the lent bytes that hold its atoms. The rows of the table without limits do not
+-- stand in it: what is done is said for all rows that the table and the bytes stand for.
+use Rattle.made.specs.declared.Made.{Made}
 use Rattle.std.specs.Prelude.{ℕ, ◌+◌, ◌*◌, ◌^◌, ◌<◌, ◌≤◌, ◌≡◌, List, [], ◌∷◌, Bool, true, false, length, get_or, eqb}
 use Rattle.record.specs.Tree.{encode, Encodable}
 use Rattle.record.specs.Decode.{decode}
@@ -9,39 +10,33 @@ use Rattle.semilinear.specs.Form.{Row}
 use Rattle.atom_table.specs.Table.{Placed, Holds, Clean}
 use Rattle.base.specs.Limits.{record_length}
 
--- ---- the words: place, count, records, 1 where full, the rows of a table without limits, the constant
+-- a table with n rows and the constant k
+abbrev pub made_of : Table → ℕ → ℕ → Made
+made_of tab n k = record { table = tab; rows = n; constant = k }
 
-unfoldable pub table_of : List ℕ → Table
-table_of made =
-    record { at = get_or made 0 0; count = get_or made 1 0; records = get_or made 2 0; full = eqb (get_or made 3 0) 1 }
+-- the same table with the constant k
+abbrev pub with_constant : Made → ℕ → Made
+with_constant made k = made_of made.table made.rows k
 
-unfoldable pub flag_of : Bool → ℕ
-flag_of true = 1
-flag_of false = 0
-
-unfoldable pub words_of : Table → ℕ → ℕ → List ℕ
-words_of tab n k = tab.at ∷ tab.count ∷ tab.records ∷ flag_of tab.full ∷ n ∷ k ∷ []
-
--- the words are words of a table that len bytes have room for
-pub record Room (made out : List ℕ) : Type 0 where
-  pub words : length made ≡ 6
-  pub placed : Placed (table_of made) (length out)
+-- len bytes have room for the table
+pub record Room (made : Made) (out : List ℕ) : Type 0 where
+  pub placed : Placed made.table (length out)
 
 -- at most n rows later, with the constant as it was
-pub record Later (n : ℕ) (made made' : List ℕ) : Type 0 where
-  pub rows_le : get_or made' 4 0 ≤ get_or made 4 0 + n
-  pub constant : get_or made' 5 0 ≡ get_or made 5 0
+pub record Later (n : ℕ) (made made' : Made) : Type 0 where
+  pub rows_le : made'.rows ≤ made.rows + n
+  pub constant : made'.constant ≡ made.constant
 
 -- the words and the bytes hold the rows l, or are full where those pass a limit
-pub record Held (w : ℕ) (made out : List ℕ) (l : List Row) : Type 0 where
-  pub holds : Holds w (table_of made) out l
-  pub clean : Clean (table_of made) out
-  pub rows : get_or made 4 0 ≡ length l
+pub record Held (w : ℕ) (made : Made) (out : List ℕ) (l : List Row) : Type 0 where
+  pub holds : Holds w made.table out l
+  pub clean : Clean made.table out
+  pub rows : made.rows ≡ length l
 
 -- ---- steps
 
 -- a step of the table alone: F on the rows
-pub record Grew (w n : ℕ) (F : List Row → List Row) (made out made' out' : List ℕ) : Type 0 where
+pub record Grew (w n : ℕ) (F : List Row → List Row) (made : Made) (out : List ℕ) (made' : Made) (out' : List ℕ) : Type 0 where
   pub room : Room made' out'
   pub later : Later n made made'
   pub long : length out' ≡ length out
@@ -58,11 +53,11 @@ pub record Basis (w hash : ℕ) (b : List ℕ) : Type 0 where
 -- ---- what is asked
 
 -- n atoms over the basis b can be made: there is room for them, and their numbers are words
-pub record Makes (w n hash : ℕ) (b made out : List ℕ) : Type 0 where
+pub record Makes (w n hash : ℕ) (b : List ℕ) (made : Made) (out : List ℕ) : Type 0 where
   pub width : w ≤ 64
   pub basis : Basis w hash b
   pub room : Room made out
-  pub more : get_or made 4 0 + n < 2 ^ 64
+  pub more : made.rows + n < 2 ^ 64
 
 -- an atom of `size` tree records, the tree b and two more, has room in out from index `at` on
 pub record AtomFits (at size : ℕ) (b out : List ℕ) : Type 0 where

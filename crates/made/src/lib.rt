@@ -1,55 +1,39 @@
-// The atom table of a pass in lent words, beside the lent bytes that hold the atoms: a step of a
-// group takes the words and the bytes, and gives only the group back.
+// The atom table of a pass, beside the lent bytes that hold the atoms: a step of a group takes both
+// lent.
 #![tactic(auto)]
 
-ghost use Rattle.std.specs.Prelude.{◌≡◌, ◌+◌, ◌^◌, ◌<◌, length, get_or};
+ghost use Rattle.std.specs.Prelude.{◌≡◌, ◌+◌, ◌^◌, ◌<◌, length};
 ghost use Rattle.record.specs.Tree.{encode};
 ghost use Rattle.record.specs.Tree.Tree.{Constant, Binary};
 ghost use Rattle.base.specs.Put.{put};
 ghost use Rattle.record.specs.Decode.{decode};
 ghost use Rattle.atom_table.specs.Table.{Placed, store_of, atom_span, create_atom};
 ghost use Rattle.made.specs.Rows.{create_masked};
-ghost use Rattle.made.specs.Made.{table_of, flag_of, words_of, Grew, Basis, Makes, AtomFits};
+ghost use Rattle.made.specs.Made.{made_of, Grew, Basis, Makes, AtomFits};
 
 use atom_table::table;
 use atom_table::table::Table;
 use base::limits;
+use record::kinds::{FormKind, Kind};
 
-// The table that the words say.
-pub fn load(made: &[u64]) -> Table
-    requires { length made.now ≡ 6 }
-    ensures { result ≡ table_of made.now }
-{
-    Table {
-        at: made[0] as usize,
-        count: made[1],
-        records: made[2],
-        full: made[3] == 1,
-    }
+// The table, how many rows a table without limits would have, and the constant.
+#[derive(Clone, Copy)]
+pub struct Made {
+    pub table: Table,
+    pub rows: u64,
+    pub constant: u64,
 }
 
-fn flag(full: bool) -> u64
-    ensures { result ≡ flag_of full }
-{
-    if full {
-        return 1;
+impl Made {
+    // This table in place of the one there was, and one row more.
+    pub fn store(&mut self, tab: Table)
+        requires { self.old.rows + 1 < 2 ^ 64 }
+        ensures { self.new
+            ≡ made_of tab (self.old.rows + 1) self.old.constant }
+    {
+        self.table = tab;
+        self.rows += 1;
     }
-    0
-}
-
-// The table's words with this table, and one row more.
-pub fn store(made: &mut [u64], tab: Table)
-    requires { (length made.old ≡ 6) × (get_or made.old 4 0 + 1 < 2 ^ 64) }
-    ensures { made.new
-        ≡ words_of tab (get_or made.old 4 0 + 1) (get_or made.old 5 0) }
-{
-    let full = flag(tab.full);
-    let rows = made[4] + 1;
-    made[0] = tab.at as u64;
-    made[1] = tab.count;
-    made[2] = tab.records;
-    made[3] = full;
-    made[4] = rows;
 }
 
 // Puts the atom of the And of the basis b and the literal m into out from index `at` on; it has
@@ -63,15 +47,23 @@ fn put_masked(out: &mut [u8], at: usize, b: &[u8], m: u64, size: u64, hash: u64,
     record::write::put_record(
         out,
         at,
-        33,
+        FormKind::Head as u8,
         table::HEAD_BYTE,
         size,
         w,
         expr::hash::masked_hash(hash, m),
     );
-    base::write::put_bytes(out, at + limits::RECORD_LENGTH, b);
-    record::write::put_record(out, end, 0, 0, 1, w, m);
-    record::write::put_record(out, end + limits::RECORD_LENGTH, 4, 0, size, w, 0);
+    base::write::put(out, at + limits::RECORD_LENGTH, b);
+    record::write::put_record(out, end, Kind::Constant as u8, 0, 1, w, m);
+    record::write::put_record(
+        out,
+        end + limits::RECORD_LENGTH,
+        Kind::And as u8,
+        0,
+        size,
+        w,
+        0,
+    );
 }
 
 // Appends the And of the tree b and the literal m.
@@ -105,17 +97,16 @@ fn create_joined(tab: Table, out: &mut [u8], b: &[u8], m: u64, hash: u64, w: u8)
 }
 
 // Appends basis & mask, or the basis alone under the full mask.
-pub fn create_masked(made: &mut [u64], out: &mut [u8], b: &[u8], hash: u64, mask: u64, w: u8)
+pub fn create_masked(made: &mut Made, out: &mut [u8], b: &[u8], hash: u64, mask: u64, w: u8)
     requires { Makes w 1 hash b.now made.old out.old }
     ensures { Grew w 1 (create_masked w (decode b.now) mask)
         made.old out.old made.new out.new }
 {
-    let tab = load(made);
     if mask == arith::bitmask(w as u32) {
-        let more = tab.create_atom(out, b, hash, w);
-        store(made, more);
+        let more = made.table.create_atom(out, b, hash, w);
+        made.store(more);
         return;
     }
-    let more = create_joined(tab, out, b, mask, hash, w);
-    store(made, more);
+    let more = create_joined(made.table, out, b, mask, hash, w);
+    made.store(more);
 }

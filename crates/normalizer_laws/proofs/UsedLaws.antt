@@ -11,11 +11,10 @@ use Rattle.record.specs.Fields.{width}
 use Rattle.record.specs.Decode.{decode}
 use Rattle.base.proofs.BoolLaws.{and_true}
 use Rattle.expr_refusal.specs.Refusal.{expr_refusal}
-use Rattle.semilinear.specs.declared.outcome.Answer.{Answer}
 use Rattle.semilinear.specs.Form.{Form, encode_form, tree_records, fits_table}
 use Rattle.base.specs.Outcome.{Outcome, refused, refusal_of, numbers_of}
 use Rattle.semilinear.specs.Outcome.{form_outcome}
-use Rattle.semilinear.specs.Answers.{GivesForm}
+use Rattle.semilinear.specs.Answers.{InNumbers, GivesNumbers}
 use Rattle.semilinear.proofs.FormLaws.{length_form, term_count_le}
 use Rattle.normalizer_laws.specs.Normalize.{collected_form, normalize_tree, normalize_to_semilinear}
 use Rattle.normalizer_laws.proofs.NormalizeLaws.{TreeCase, not_linear, too_large, written}
@@ -33,11 +32,11 @@ length_fits f ok =
     (omega (arith, n), omega (arith, n, term_count_le f.rows, atoms, records))
 
 -- the bytes used of a result slice of len bytes: at most all; with no refusal, those of a sum record at least
-pub record UsedWithin (len : ℕ) (r : Answer) : Type 0 where
+pub record UsedWithin (len : ℕ) (r : InNumbers) : Type 0 where
   pub inside : r.used ≤ len
   pub sum_record : r.refusal ≡ 0 → 16 ≤ r.used
 
-module _ (o : Outcome) (len : ℕ) (r : Answer) (out : List ℕ) (given : GivesForm o len r out) where
+module _ (o : Outcome) (len : ℕ) (r : InNumbers) (out : List ℕ) (given : GivesNumbers o len r out) where
   -- the bytes used, as the outcome has them
   used_of : {p : Outcome} → o ≡ p → r.used ≡ get_or (take 3 (numbers_of 3 p)) 0 0
   used_of e = ap (λ (l : List ℕ). get_or l 0 0) (given.beside ∙ ap (λ (x : Outcome). take 3 (numbers_of 3 x)) e)
@@ -54,8 +53,8 @@ module _ (o : Outcome) (len : ℕ) (r : Answer) (out : List ℕ) (given : GivesF
       let h = length_fits f fits in
       record { inside = omega (arith, used_of e, h.1); sum_record = λ z. omega (arith, used_of e, h.0) }
 
-module _ (s : List ℕ) (len : ℕ) (r : Answer) (out : List ℕ)
-    (given : GivesForm (normalize_to_semilinear s len) len r out) where
+module _ (s : List ℕ) (len : ℕ) (r : InNumbers) (out : List ℕ)
+    (given : GivesNumbers (normalize_to_semilinear s len) len r out) where
   refuses : (n : ℕ) → 0 < n → normalize_to_semilinear s len ≡ refused n → UsedWithin len r
   refuses = used_refused (normalize_to_semilinear s len) len r out given
 

@@ -1,14 +1,14 @@
 -- Laws of the loop over the entries of a group (specs/Recovering.antt): a turn more, the end, and that rows which pass a
 -- limit pass it whatever is recovered.
+use Rattle.made.specs.declared.Made.{Made}
 use mathlib.Core.Path.{◌≡◌, refl, ap, sym, subst, ◌∙◌}
 use Prim.Native.Nat.{ℕ, ◌+◌, ◌-◌, ◌≤◌, ◌<◌}
 use native.Mathlib.Omega.{arith}
 use native.Mathlib.Decide.{ℕ_discrete}
 use mathlib.Core.List.{List}
-use mathlib.Core.Bool.{true, false, ◌||◌}
-use lib.ListN.{length, get_or}
+use mathlib.Core.Bool.{true, false, not}
+use lib.ListN.{length}
 use lib.Dec.{eqb, ltb, leb}
-use borrow.Author.Tests.{eq-eqb, ne_eqb}
 use Rattle.arith.specs.Width.{mod_add, mod_sub}
 use Rattle.base.specs.Loop.{for_in}
 use Rattle.record.specs.Tree.{Tree}
@@ -19,8 +19,8 @@ use Rattle.made.proofs.CoeffsLaws.{create_past}
 use Rattle.group.specs.declared.Group.{Group}
 use Rattle.group.specs.Group.{Entry, at}
 use Rattle.made.specs.Rows.{create_row}
-use Rattle.made.specs.Made.{table_of, Room}
-use Rattle.structure_laws.specs.RecoverStructure.{Recovery, row_with, with_bare, recover_xor, eliminate_mask}
+use Rattle.made.specs.Made.{Room}
+use Rattle.structure_laws.specs.RecoverStructure.{looks, Recovery, row_with, with_bare, recover_xor, eliminate_mask}
 use Rattle.structure_laws.specs.RecoverStructure.{count_ones, recover_pair, partner_of, recover_at, recover_group}
 use Rattle.pairing.specs.Recovering.{StandsRecovery, Turned, Recovers, Recovered}
 
@@ -67,7 +67,7 @@ module _ (w : ℕ) (t : Tree) where
   unfolding recover_at
   past_at i x h =
       let g : Group = x.group in
-      when_both Past (eqb (at g i).mark 1 || eqb (at g i).mark 3) _ _ (λ _. h)
+      when_both Past (not (looks (at g i).mark)) _ _ (λ _. h)
       (λ _. when_both Past (ltb (partner_of w g i) g.len) _ _ (λ _. past_pair i (partner_of w g i) x h) (λ _. h))
 
   past_from : (a b : ℕ) (x : Recovery) → Past x → Past (for_in (recover_at w t) a b x)
@@ -79,14 +79,14 @@ module _ (w : ℕ) (t : Tree) where
 
 -- ---- turns
 
-pub recovers_of : {w : ℕ} {g : Group} {made out : List ℕ} {x : Recovery} → StandsRecovery w g made out x
+pub recovers_of : {w : ℕ} {g : Group} {made : Made} {out : List ℕ} {x : Recovery} → StandsRecovery w g made out x
     → Recovers w g made out x
 recovers_of s = record { stands = λ _. s; past = s.held.holds.past }
 
 abbrev turns : ℕ → Tree → ℕ → Recovery → Recovery
 turns w t n = for_in (recover_at w t) 0 n
 
-module _ (w : ℕ) (t : Tree) {g : Group} {made out : List ℕ} where
+module _ (w : ℕ) (t : Tree) {g : Group} {made : Made} {out : List ℕ} where
   pub recovered_start : Room made out → Recovered w 0 (turns w t 0) g made out g made out
   recovered_start room =
       record {
@@ -98,8 +98,8 @@ module _ (w : ℕ) (t : Tree) {g : Group} {made out : List ℕ} where
             subst (Recovers w g made out) (sym (for_none (recover_at w t) 0 0 x (omega arith))) (recovers_of s);
       }
 
-  module _ {i : ℕ} {q : Group} {made' out' : List ℕ} (p : Recovered w i (turns w t i) g made out q made' out') where
-    pub recovered_turn : (table_of made').full ≡ false → {r : Group} {made'' out'' : List ℕ}
+  module _ {i : ℕ} {q : Group} {made' : Made} {out' : List ℕ} (p : Recovered w i (turns w t i) g made out q made' out') where
+    pub recovered_turn : made'.table.full ≡ false → {r : Group} {made'' : Made} {out'' : List ℕ}
         → Turned w 1 (recover_at w t i) q made' out' r made'' out''
         → Recovered w (i + 1) (turns w t (i + 1)) g made out r made'' out''
     recovered_turn more {r} {made''} {out''} s =
@@ -122,7 +122,7 @@ module _ (w : ℕ) (t : Tree) {g : Group} {made out : List ℕ} where
       group_of_lem x s = ap (λ (k : ℕ). turns w t k x) (len_of x s)
 
       -- the table is full: the other turns do not matter
-      pub recovered_stop : (table_of made').full ≡ true → Recovered w 256 (recover_group w t) g made out q made' out'
+      pub recovered_stop : made'.table.full ≡ true → Recovered w 256 (recover_group w t) g made out q made' out'
       recovered_stop full =
           record {
             room = p.room;

@@ -1,4 +1,5 @@
 -- Laws of the atom `literal ^ basis` (src/xored.rt): its bytes as they are written, and that it is a row more.
+use Rattle.made.specs.declared.Made.{Made}
 use mathlib.Core.Path.{◌≡◌, refl, ap, ap₂, sym, ◌∙◌}
 use Prim.Native.Nat.{ℕ, ◌+◌, ◌-◌, ◌*◌, ◌^◌, ◌≤◌, ◌<◌}
 use native.Mathlib.Omega.{arith}
@@ -20,7 +21,7 @@ use Rattle.semilinear.specs.Form.{head_byte}
 use Rattle.atom_table.specs.Table.{store_of, atom_span, create_atom}
 use Rattle.atom_table.proofs.TableLaws.{created}
 use Rattle.made.specs.Rows.{create_row}
-use Rattle.made.specs.Made.{table_of, words_of, Room, Grew}
+use Rattle.made.specs.Made.{made_of, Room, Grew}
 use Rattle.made.proofs.WordsLaws.{grew_as, grew_create}
 use Rattle.pairing.specs.Recovering.{xor_tree}
 
@@ -143,9 +144,9 @@ module _ (w : ℕ) (b : List ℕ) (m : ℕ) (same : encode w (decode b) ≡ b) w
         ∙ ap₂ (λ (k u : ℕ). put d at (record_bytes 33 head_byte k w u ++ s)) size_same
         (ev ∙ ap (λ (x : List ℕ). structural_hash (decode x)) et)
 
-    pub grew_xored : (made out : List ℕ) → Room made out → {tab : Table} {wrote made' : List ℕ}
-        → store_of tab wrote ≡ create_atom w (xor_bytes w b m) (store_of (table_of made) out)
-        → made' ≡ words_of tab (get_or made 4 0 + 1) (get_or made 5 0)
+    pub grew_xored : (made : Made) (out : List ℕ) → Room made out → {tab : Table} {wrote : List ℕ} {made' : Made}
+        → store_of tab wrote ≡ create_atom w (xor_bytes w b m) (store_of made.table out)
+        → made' ≡ made_of tab (made.rows + 1) made.constant
         → Grew w 1 (create_row (xor_tree m (decode b))) made out made' wrote
     grew_xored made out r e q =
         grew_as (λ l. ap (λ (u : Tree). create_row u l) xor_encoded.back)

@@ -11,6 +11,8 @@ ghost use Rattle.pairing.specs.Recovering.{xor_tree, TreeFits, XorMakes};
 use atom_table::table;
 use atom_table::table::Table;
 use base::limits;
+use made::Made;
+use record::kinds::{FormKind, Kind};
 
 // Puts the Xor of the literal m and the tree b into out from index `at` on; it has `size` records.
 fn put_tree(out: &mut [u8], at: usize, b: &[u8], m: u64, size: u64, w: u8)
@@ -19,9 +21,9 @@ fn put_tree(out: &mut [u8], at: usize, b: &[u8], m: u64, size: u64, w: u8)
         ≡ put out.old at (encode w (xor_tree m (decode b.now))) }
 {
     let end = at + limits::RECORD_LENGTH + b.len();
-    record::write::put_record(out, at, 0, 0, 1, w, m);
-    base::write::put_bytes(out, at + limits::RECORD_LENGTH, b);
-    record::write::put_record(out, end, 6, 0, size, w, 0);
+    record::write::put_record(out, at, Kind::Constant as u8, 0, 1, w, m);
+    base::write::put(out, at + limits::RECORD_LENGTH, b);
+    record::write::put_record(out, end, Kind::Xor as u8, 0, size, w, 0);
 }
 
 // The same with the atom's head before it.
@@ -35,7 +37,15 @@ fn put_xored(out: &mut [u8], at: usize, b: &[u8], m: u64, size: u64, w: u8)
     let end = at + 48 + b.len();
     put_tree(out, start, b, m, size, w);
     let hash = expr::hash::structural_hash(&out[start..end]);
-    record::write::put_record(out, at, 33, table::HEAD_BYTE, size, w, hash);
+    record::write::put_record(
+        out,
+        at,
+        FormKind::Head as u8,
+        table::HEAD_BYTE,
+        size,
+        w,
+        hash,
+    );
 }
 
 // Appends the Xor of the literal m and the tree b.
@@ -69,12 +79,11 @@ fn join_xored(tab: Table, out: &mut [u8], b: &[u8], m: u64, w: u8) -> Table
 }
 
 // The same among the words of a pass's table.
-pub fn create_xored(made: &mut [u64], out: &mut [u8], b: &[u8], m: u64, w: u8)
+pub fn create_xored(made: &mut Made, out: &mut [u8], b: &[u8], m: u64, w: u8)
     requires { XorMakes w b.now made.old out.old }
     ensures { Grew w 1 (create_row (xor_tree m (decode b.now)))
         made.old out.old made.new out.new }
 {
-    let tab = made::load(made);
-    let more = join_xored(tab, out, b, m, w);
-    made::store(made, more);
+    let more = join_xored(made.table, out, b, m, w);
+    made.store(more);
 }

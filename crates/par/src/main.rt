@@ -7,46 +7,30 @@ ghost use Rattle.std.specs.Prelude.{◌≤◌, length};
 ghost use Rattle.base.specs.Limits.{record_length};
 
 use base::limits;
+use base::limits::RECORD_LENGTH;
 use std::io;
 
-fn text(rt: &impl Print, s: &[u8]) -> io::Result<()> {
-    rt.write_all(s)
-}
-
-// A word as 16 hexadecimal digits, and the end of the line.
-fn print_word(rt: &impl Print, x: u64) -> io::Result<()> {
-    print!(rt; "{x:016x}\n")
-}
-
-// The term at the front of q.
+// The term q.
 fn print_term(rt: &impl Print, q: &[u8]) -> io::Result<()>
     requires { record_length ≤ length q.now }
 {
     let number = semilinear::items::front_number(q);
-    print!(rt; "T {number} ")?;
-    print_word(rt, semilinear::items::front_word(q))
+    let coefficient = semilinear::items::front_word(q);
+    print!(rt; "T {number} {coefficient:016x}\n")
 }
 
-// The terms of the atoms and terms f, in order.
-fn print_terms(rt: &impl Print, f: &[u8]) -> io::Result<()> {
-    let mut at = semilinear::scan::terms_at(f);
-    loop {
-        let q = semilinear::items::rest_from(f, at);
-        if !semilinear::items::is_term(q) {
-            return Ok(());
-        }
-        print_term(rt, q)?;
-        at += limits::RECORD_LENGTH;
-    }
-}
-
-// The form s: the constant stands in its last record.
+// The form s: the constant stands in its last record, and behind the atoms every record is a term.
 fn print_form(rt: &impl Print, s: &[u8]) -> io::Result<()>
     requires { record_length ≤ length s.now }
 {
-    text(rt, b"C ")?;
-    print_word(rt, record::literal(s))?;
-    print_terms(rt, record::body(s))
+    let constant = record::literal(s);
+    print!(rt; "C {constant:016x}\n")?;
+    let f = record::body(s);
+    let (terms, _) = f[semilinear::scan::terms_at(f)..].as_chunks::<RECORD_LENGTH>();
+    for term in terms {
+        print_term(rt, term)?;
+    }
+    Ok(())
 }
 
 fn main(rt: HostRuntime) -> io::Result<()> {

@@ -11,9 +11,8 @@ use Rattle.base.specs.Choice.{when}
 use Rattle.base.specs.Put.{padded}
 use Rattle.base.proofs.LoopLaws.{when_both}
 use Rattle.std.specs.Counts.{IsPrefixLen}
-use Rattle.semilinear.specs.declared.outcome.Answer.{Answer}
 use Rattle.base.specs.Outcome.{Outcome, accepted, refused, refusal_of, numbers_of, written_of}
-use Rattle.semilinear.specs.Answers.{GivesForm}
+use Rattle.semilinear.specs.Answers.{InNumbers, GivesNumbers}
 use Rattle.normalizer_laws.specs.Normalize.{normalize_to_semilinear}
 use Rattle.claims.specs.Calls.{Call}
 use Rattle.runner.specs.RunPasses.{calls_of, is_list, bytes_outcome, list_outcome, run_outcome, run_passes}
@@ -48,7 +47,7 @@ length_padded_le : (len : ℕ) (b : List ℕ) → length b ≤ length (padded le
 unfolding padded
 length_padded_le len b = omega (arith, length-append b (replicate (len - length b) 0))
 
-used_le : (o : Outcome) → Counted o → (len : ℕ) (r : Answer) (out : List ℕ) → GivesForm o len r out
+used_le : (o : Outcome) → Counted o → (len : ℕ) (r : InNumbers) (out : List ℕ) → GivesNumbers o len r out
     → r.used ≤ length out
 unfolding numbers_of written_of
 used_le (accepted b []) h len r out g =
@@ -62,8 +61,8 @@ used_le (refused n) h len r out g =
     let used : r.used ≡ 0 = ap (λ (l : List ℕ). get_or l 0 0) g.beside in
     omega (arith, used)
 
-pub run_used : (s words : List ℕ) (len spare : ℕ) (r : Answer) (out : List ℕ)
-    → GivesForm (run_passes s words len spare) len r out → IsPrefixLen r.used out
+pub run_used : (s words : List ℕ) (len spare : ℕ) (r : InNumbers) (out : List ℕ)
+    → GivesNumbers (run_passes s words len spare) len r out → IsPrefixLen r.used out
 unfolding run_passes
 run_used s words len spare r out g =
     let counted = counted_run (normalize_to_semilinear s len) (is_list len spare words) (calls_of words) in

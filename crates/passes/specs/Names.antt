@@ -1,9 +1,11 @@
 -- The passes by name, as the arguments have them, and by number, as a list of calls has them (`pass_at`).
-use Rattle.std.specs.Prelude.{ℕ, List, [], ◌∷◌, Bool, true}
+use Rattle.std.specs.Prelude.{◌≡◌, ℕ, List, [], ◌∷◌, Bool, true, Option, MatchOption}
 use Prim.Native.Char.{code}
 use Prim.Native.String.{String, [] as end, ◌∷◌ as ◌then◌}
 use Rattle.base.specs.Choice.{when}
 use Rattle.base.specs.Lists.{eq_list}
+use Rattle.runner.specs.declared.passes.Pass.{Pass}
+use Rattle.runner.specs.Passes.{number_of}
 
 -- the bytes of a text in ASCII
 unfoldable pub text_bytes : String → List ℕ
@@ -26,3 +28,7 @@ pass_number name =
     (λ _. when (named name "coalesce_terms" "coalesce") (λ _. 3)
     (λ _. when (named name "flatten_complex_atoms" "flatten") (λ _. 4)
     (λ _. when (named name "compact_atom_table" "compact") (λ _. 5) (λ _. 0)))))
+
+-- the pass of this name, or none
+abbrev pub IsPassNamed : List ℕ → Option Pass → Type 0
+IsPassNamed name o = MatchOption o (pass_number name ≡ 0) (λ pass. number_of pass ≡ pass_number name)

@@ -13,13 +13,23 @@
 
 mod names;
 
-ghost use Rattle.std.specs.Prelude.{◌≡◌, ◌+◌, ◌*◌, ◌≤◌, ◌<◌, length, IfOk, OnErr};
+ghost use Rattle.std.specs.Prelude.{◌≤◌, IfOk, OnErr};
 ghost use Rattle.std.specs.Counts.{IsPrefixLen};
 ghost use Rattle.io_form.specs.Used.{IsCleared};
 
 use base::limits;
+use runner::passes::Pass;
 use std::env::{Env, FillError};
 use std::io;
+
+// The list that is run where there are no arguments.
+const USUAL: [Pass; 5] = [
+    Pass::Refine,
+    Pass::Recover,
+    Pass::Coalesce,
+    Pass::Flatten,
+    Pass::Compact,
+];
 
 // The most arguments that are counted, the program's name and one too many among them.
 const MOST_COUNTED: usize = 258;
@@ -35,80 +45,47 @@ fn arg_count(rt: &impl Env) -> usize {
     MOST_COUNTED
 }
 
-// Puts argument i at the start of name, and gives its length; 0 where there is none, and where it
-// is longer than name.
-fn arg(rt: &impl Env, i: usize, name: &mut [u8]) -> usize
-    ensures { IsPrefixLen result name.new }
-{
-    match rt.arg(i, name) {
-        Ok(n) => n,
-        Err(_) => 0,
-    }
-}
-
-// The pass that argument i names, or 0.
-fn arg_pass(rt: &(impl Env + Eprint), i: usize) -> io::Result<u64> {
+// The pass that argument i names. A name that is longer than any pass's is none.
+fn arg_pass(rt: &(impl Env + Eprint), i: usize) -> io::Result<Option<Pass>> {
     let mut name = [0u8; 32];
-    let n = arg(rt, i, &mut name);
-    let pass = names::pass_number(&name[..n]);
-    if pass == 0 {
+    let pass = match rt.arg(i, &mut name) {
+        Ok(n) => names::pass_named(&name[..n]),
+        Err(_) => None,
+    };
+    if pass.is_none() {
         eprint!(rt; "passes: no pass is named by argument {i}\n")?;
     }
     Ok(pass)
 }
 
-// Call k of the list: the pass, and a result slice of the one length that is accepted.
-fn put_call(k: usize, pass: u64, calls: &mut [u64])
-    requires { 2 * k + 1 < length calls.old }
-{
-    calls[2 * k] = pass;
-    calls[2 * k + 1] = limits::FORM_BYTES_U64;
+// The words of a call: the pass, or 0, which no pass has as its number; and a result slice of the
+// one length that is accepted.
+fn call_words(pass: Option<Pass>) -> [u64; 2] {
+    [pass.map_or(0, u64::from), limits::FORM_BYTES_U64]
 }
 
-// The calls that the first arguments name, n of them. An error leaves those that were put before it.
-fn put_named(rt: &(impl Env + Eprint), n: usize, calls: &mut [u64]) -> io::Result<()>
-    requires { 2 * n ≤ length calls.old }
-    ensures { OnErr result (length calls.new ≡ length calls.old) }
-{
-    let mut k = 0;
-    while k < n {
-        put_call(k, arg_pass(rt, k + 1)?, calls);
-        k += 1;
-    }
-    Ok(())
-}
-
-// The list that is run where there are no arguments.
-fn put_usual(calls: &mut [u64])
-    requires { 10 ≤ length calls.old }
-{
-    put_call(0, names::REFINE, calls);
-    put_call(1, names::RECOVER, calls);
-    put_call(2, names::COALESCE, calls);
-    put_call(3, names::FLATTEN, calls);
-    put_call(4, names::COMPACT, calls);
-}
-
-// Puts the list in calls and gives its length in words. With too many arguments it is a call of
-// pass 0, which there is not. An error leaves some of it put.
-fn read_list(rt: &(impl Env + Eprint), calls: &mut [u64]) -> io::Result<usize>
-    requires { 512 ≡ length calls.old }
-    ensures ok { IfOk result (λ n. IsPrefixLen n calls.new) }
-    ensures err { OnErr result (length calls.new ≡ length calls.old) }
+// Puts the list in calls and gives how many calls it has. With too many arguments it is a call of
+// no pass. An error leaves some of it put.
+fn read_list(rt: &(impl Env + Eprint), calls: &mut [[u64; 2]; 256]) -> io::Result<usize>
+    ensures { IfOk result (λ n. n ≤ 256) }
 {
     let count = arg_count(rt);
     if count < 2 {
-        put_usual(calls);
-        return Ok(10);
+        for i in 0..USUAL.len() {
+            calls[i] = call_words(Some(USUAL[i]));
+        }
+        return Ok(USUAL.len());
     }
     let n = count - 1;
-    if n > 256 {
+    if n > calls.len() {
         eprint!(rt; "passes: more than 256 arguments\n")?;
-        put_call(0, 0, calls);
-        return Ok(2);
+        calls[0] = call_words(None);
+        return Ok(1);
     }
-    put_named(rt, n, calls)?;
-    Ok(2 * n)
+    for i in 0..n {
+        calls[i] = call_words(arg_pass(rt, i + 1)?);
+    }
+    Ok(n)
 }
 
 // The bytes of sheet that the last form uses; or none, and the refusal is printed.
@@ -122,22 +99,24 @@ fn run_or_print(
     ensures ok { IfOk result (λ n. IsPrefixLen n sheet.new) }
     ensures err { OnErr result (IsCleared sheet.old sheet.new) }
 {
-    let answer = runner::run_passes(t, calls, sheet, spare);
-    if answer.refusal != 0 {
-        io_form::print_refusal(rt, answer.refusal)?;
-        return Ok(0);
+    match runner::run_passes(t, calls, sheet, spare) {
+        Ok(answer) => Ok(answer.used as usize),
+        Err(refusal) => {
+            io_form::print_refusal(rt, refusal)?;
+            Ok(0)
+        }
     }
-    Ok(answer.used as usize)
 }
 
 // Room for one byte more than the longest expression has, so that input past it is refused.
 fn main(rt: HostRuntime) -> io::Result<()> {
     let mut bytes = [0u8; io_form::INPUT_BYTES];
-    let mut calls = [0u64; 512];
+    let mut calls = [[0u64; 2]; 256];
     let mut sheet = [0u8; limits::FORM_BYTES];
     let mut spare = [0u8; limits::FORM_BYTES];
     let n = io_form::read_full(&mut rt.reader(), &mut bytes)?;
-    let words = read_list(&rt, &mut calls)?;
-    let used = run_or_print(&rt, &bytes[..n], &calls[..words], &mut sheet, &mut spare)?;
+    let count = read_list(&rt, &mut calls)?;
+    let calls = calls[..count].as_flattened();
+    let used = run_or_print(&rt, &bytes[..n], calls, &mut sheet, &mut spare)?;
     rt.write_all(&sheet[..used])
 }

@@ -6,7 +6,6 @@ use mathlib.Core.List.{List}
 use mathlib.Core.Bool.{Bool, true, false, not, ◌&&◌, ◌||◌}
 use lib.Dec.{eqb}
 use lib.Bits.{bit_or, bit_xor}
-use borrow.Author.Tests.{eq-eqb, ne_eqb}
 use Rattle.record.specs.Fields.{kind, literal}
 use Rattle.record.specs.Tree.{Tree}
 use Rattle.record.specs.Tree.Tree.{Unary, Binary}
@@ -20,17 +19,6 @@ use Rattle.profile.specs.Edges.{edges_of}
 pub shift_leaf : (s : List ℕ) → false ≡ has_shift (leaf s)
 unfolding has_shift
 shift_leaf s = leaf_both (λ t. false ≡ has_shift t) s refl refl
-
--- a root with one child; x: whether the child has a shift
-module _ (k a : ℕ) (x : Bool) where
-  pub node_other : (k ≡ 9 → ⊥) → x ≡ (eqb k 9 && not (eqb a 0)) || x
-  node_other d = simp (ne_eqb k 9 d)
-
-  pub node_zero : k ≡ 9 → a ≡ 0 → x ≡ (eqb k 9 && not (eqb a 0)) || x
-  node_zero e z = simp (eq-eqb k 9 e, eq-eqb a 0 z)
-
-  pub node_shift : k ≡ 9 → (a ≡ 0 → ⊥) → true ≡ (eqb k 9 && not (eqb a 0)) || x
-  node_shift e d = simp (eq-eqb k 9 e, ne_eqb a 0 d)
 
 pub shift_one : (k a : ℕ) (t : Tree) → (eqb k 9 && not (eqb a 0)) || has_shift t ≡ has_shift (Unary k a t)
 unfolding has_shift

@@ -7,17 +7,13 @@ ghost use Rattle.truth.specs.Truth.{has_shift};
 ghost use Rattle.profile.specs.Edges.{edges_of};
 ghost use Rattle.base.specs.Limits.{record_length};
 
+use record::kinds::Kind;
+
 // Whether a root of kind k with one child is a shift by an amount other than 0, or x holds.
 fn node_shift(k: u8, amount: u64, x: bool) -> bool
     ensures { result ≡ (eqb k 9 && not (eqb amount 0)) || x }
 {
-    if k != 9 {
-        return x;
-    }
-    if amount == 0 {
-        return x;
-    }
-    true
+    (k == Kind::Shr as u8 && amount != 0) || x
 }
 
 // Whether the tree of t has a shift by an amount other than 0.
@@ -33,10 +29,7 @@ pub fn has_shift(t: &[u8]) -> bool
         let x = has_shift(record::body(t));
         return node_shift(record::kind(t), record::amount(t), x);
     }
-    if has_shift(record::left(t)) {
-        return true;
-    }
-    has_shift(record::right(t))
+    has_shift(record::left(t)) || has_shift(record::right(t))
 }
 
 // The edges of a root without children.
@@ -44,7 +37,7 @@ fn leaf_edges(t: &[u8]) -> u64
     requires { record_length ≤ length t.now }
     ensures { result ≡ edges_of (leaf t.now) }
 {
-    if record::kind(t) == 0 {
+    if record::kind(t) == Kind::Constant as u8 {
         let v = record::literal(t);
         return v ^ (v << 1);
     }

@@ -9,39 +9,35 @@ ghost use Rattle.partition_laws.specs.Partition.{profile_word};
 ghost use Rattle.profile.specs.Index.{atom_trees, tree_of, IndexReadable};
 ghost use Rattle.profile.specs.Profile.{WordsMoved};
 
+use crate::index::AtomFacts;
 use semilinear::items;
 
 // The profile word of atom i at place p of w.
-fn profile_word(f: &[u8], index: &[u64], i: usize, p: u32, w: u32) -> u64
+fn profile_word(f: &[u8], index: &[AtomFacts], i: usize, p: u32, w: u32) -> u64
     requires { IndexReadable f.now index.now × (i < length (atom_trees f.now)) }
     ensures { result ≡ profile_word w p i (tree_of f.now i) }
 {
-    let from = index::ATOM_WORDS * i;
-    let rows = index[from + index::ROWS];
-    if rows == 0 {
-        return 0xDEAD_0000_0000_0000 | i as u64;
+    let known = index[i];
+    match known.table {
+        None => 0xDEAD_0000_0000_0000 | i as u64,
+        Some(table) => {
+            let t = items::tree_span(items::rest_from(f, known.at));
+            truth::rows_at(t, &table.vars, p, w) & table.rows
+        }
     }
-    let at = index[from] as usize;
-    let t = items::tree_span(items::rest_from(f, at));
-    let vars = from + index::VARS;
-    let to = from + index::ATOM_WORDS;
-    truth::rows_at(t, &index[vars..to], p, w) & rows
 }
 
 // The profile of place p of w, made from that of the place before: the word of an atom is made anew
 // where it may have changed.
-pub fn move_profile(f: &[u8], index: &[u64], p: u32, w: u32, profile: &mut [u64])
+pub fn move_profile(f: &[u8], index: &[AtomFacts], p: u32, w: u32, profile: &mut [u64])
     requires { IndexReadable f.now index.now
         × (length profile.old ≡ length (atom_trees f.now)) }
     ensures { WordsMoved f.now w p profile.old
         profile.new }
 {
-    let mut i = 0;
-    while i < profile.len() {
-        let edges = index[index::ATOM_WORDS * i + index::EDGES];
-        if arith::bit(edges, p) == 1 {
+    for i in 0..profile.len() {
+        if arith::bit(index[i].edges, p) == 1 {
             profile[i] = profile_word(f, index, i, p, w);
         }
-        i += 1;
     }
 }

@@ -1,6 +1,6 @@
 -- Spans of records: where the spans of a root's children lie, and recursion over them. Every list of bytes has
 -- such parts, so that what is defined by `fold` is defined of any bytes.
-use Rattle.std.specs.Prelude.{ℕ, zero, suc, ◌-◌, ◌*◌, List, Bool, true, false, ◌&&◌, length, take, drop, ltb, eqb}
+use Rattle.std.specs.Prelude.{ℕ, zero, suc, ◌-◌, ◌*◌, List, Bool, false, ◌&&◌, length, take, drop, ltb, eqb}
 use Rattle.base.specs.Choice.{when}
 use Rattle.record.specs.Fields.{u16, kind, size, arity}
 use Rattle.base.specs.Limits.{record_length}

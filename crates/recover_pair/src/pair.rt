@@ -4,157 +4,146 @@ ghost use Rattle.record.specs.Decode.{decode};
 ghost use Rattle.group.specs.Ready.{StepReady};
 ghost use Rattle.structure_laws.specs.RecoverStructure.{recover_xor, eliminate_mask};
 ghost use Rattle.structure_laws.specs.RecoverStructure.{count_ones, recover_pair};
-ghost use Rattle.structure_laws.specs.RecoverStructure.{recover_at, recover_group};
+ghost use Rattle.structure_laws.specs.RecoverStructure.{looks, recover_at, recover_group};
 ghost use Rattle.pairing.specs.Recovering.{Turned, Recovered};
 ghost use Rattle.pairing.specs.Recovering.{XorReady, PairReady, EntryReady};
 ghost use Rattle.base.specs.Limits.{group_entries};
 
 use bare::constant;
-use group::Group;
+use entries::{Entry, Mark};
+use group::{Basis, Group};
+use made::Made;
 use pairing::{partner, xored};
 
 // c & x and ~c & x with coefficients that add to 0: entry src becomes an Xor, and dst is consumed.
 fn recover_xor(
-    group: Group,
+    g: &mut Group,
     src: usize,
     dst: usize,
     b: &[u8],
     w: u8,
-    made: &mut [u64],
+    made: &mut Made,
     out: &mut [u8],
-) -> Group
+)
     requires { XorReady w src dst b.now made.old out.old }
     ensures { Turned w 1 (recover_xor w (decode b.now) src dst)
-        group made.old out.old result made.new out.new }
+        g.old made.old out.old g.new made.new out.new }
 {
-    let mut g = group;
-    let c = g.coeffs[src];
-    let m = g.masks[src];
-    let rows = made[4];
-    g.coeffs[src] = g.coeffs[dst];
-    g.masks[src] = arith::bitmask(w as u32);
-    g.atoms[src] = rows;
-    g.marks[src] = entries::REWRITTEN;
-    g.marks[dst] = entries::CONSUMED;
-    xored::create_xored(made, out, b, m, w);
-    constant::add_constant(made, arith::mod_mul(c, m, w as u32), w as u32);
-    g
+    let width = u32::from(w);
+    let e = g.entries[src];
+    let f = g.entries[dst];
+    g.entries[src] = Entry {
+        coeff: f.coeff,
+        mask: arith::bitmask(width),
+        atom: made.rows,
+        mark: Mark::Rewritten,
+    };
+    g.entries[dst] = Entry {
+        mark: Mark::Consumed,
+        ..f
+    };
+    xored::create_xored(made, out, b, e.mask, w);
+    constant::add_constant(made, arith::mod_mul(e.coeff, e.mask, width), width);
 }
 
 // Entry i takes the difference of the coefficients, and entry j the basis without a mask.
 fn eliminate_mask(
-    group: Group,
+    g: &mut Group,
     diff: u64,
     i: usize,
     j: usize,
-    b: &[u8],
-    hash: u64,
+    b: Basis<'_>,
     w: u8,
-    made: &mut [u64],
+    made: &mut Made,
     out: &mut [u8],
-) -> Group
-    requires { PairReady w i j hash b.now made.old out.old }
-    ensures { Turned w 1 (eliminate_mask w (decode b.now) diff i j)
-        group made.old out.old result made.new out.new }
+)
+    requires { PairReady w i j b.hash b.bytes.now made.old out.old }
+    ensures { Turned w 1 (eliminate_mask w (decode b.entry.bytes.now) diff i j)
+        g.old made.old out.old g.new made.new out.new }
 {
-    let mut g = group;
-    let atom = bare::find_or_create_bare(made, out, b, hash, w);
-    g.coeffs[i] = diff;
-    g.masks[j] = arith::bitmask(w as u32);
-    g.atoms[j] = atom;
-    g.marks[j] = entries::WIDENED;
-    g
+    let atom = bare::find_or_create_bare(made, out, b.bytes, b.hash, w);
+    let e = g.entries[i];
+    let f = g.entries[j];
+    g.entries[i] = Entry { coeff: diff, ..e };
+    g.entries[j] = Entry {
+        mask: arith::bitmask(u32::from(w)),
+        atom,
+        mark: Mark::Widened,
+        ..f
+    };
 }
 
 // Whether m has at most as many ones as p.
 fn fewer_ones(m: u64, p: u64) -> bool
     ensures { result ≡ leb (count_ones m) (count_ones p) }
 {
-    u64::count_ones(m) <= u64::count_ones(p)
+    m.count_ones() <= p.count_ones()
 }
 
 // The pair i and j of complement masks.
 fn recover_pair(
-    g: Group,
+    g: &mut Group,
     i: usize,
     j: usize,
-    b: &[u8],
-    hash: u64,
+    b: Basis<'_>,
     w: u8,
-    made: &mut [u64],
+    made: &mut Made,
     out: &mut [u8],
-) -> Group
-    requires { PairReady w i j hash b.now made.old out.old }
-    ensures { Turned w 1 (recover_pair w (decode b.now) i j)
-        g made.old out.old result made.new out.new }
+)
+    requires { PairReady w i j b.hash b.bytes.now made.old out.old }
+    ensures { Turned w 1 (recover_pair w (decode b.entry.bytes.now) i j)
+        g.old made.old out.old g.new made.new out.new }
 {
-    let c = g.coeffs[i];
-    let d = g.coeffs[j];
-    if arith::mod_add(c, d, w as u32) == 0 {
-        if fewer_ones(g.masks[i], g.masks[j]) {
-            return recover_xor(g, i, j, b, w, made, out);
+    let e = g.entries[i];
+    let f = g.entries[j];
+    let width = u32::from(w);
+    if arith::mod_add(e.coeff, f.coeff, width) == 0 {
+        if fewer_ones(e.mask, f.mask) {
+            recover_xor(g, i, j, b.bytes, w, made, out);
+        } else {
+            recover_xor(g, j, i, b.bytes, w, made, out);
         }
-        return recover_xor(g, j, i, b, w, made, out);
+        return;
     }
-    let diff = arith::mod_sub(c, d, w as u32);
-    if diff == 0 {
-        return g;
+    let diff = arith::mod_sub(e.coeff, f.coeff, width);
+    if diff != 0 {
+        eliminate_mask(g, diff, i, j, b, w, made, out);
     }
-    eliminate_mask(g, diff, i, j, b, hash, w, made, out)
 }
 
-// Entry i, of n, with the first later one that has the complement mask.
-fn recover_entry(
-    g: Group,
-    i: usize,
-    b: &[u8],
-    hash: u64,
-    w: u8,
-    made: &mut [u64],
-    out: &mut [u8],
-) -> Group
-    requires { EntryReady w i hash b.now g made.old out.old }
-    ensures { Turned w 1 (recover_at w (decode b.now) i)
-        g made.old out.old result made.new out.new }
+// Whether an entry with this mark looks for a partner.
+fn looks(mark: Mark) -> bool
+    ensures { result ≡ looks mark }
 {
-    let mark = g.marks[i];
-    if mark == entries::CONSUMED {
-        return g;
+    !matches!(mark, Mark::Consumed | Mark::Rewritten)
+}
+
+// Entry i with the first later one that has the complement mask.
+fn recover_entry(g: &mut Group, i: usize, b: Basis<'_>, w: u8, made: &mut Made, out: &mut [u8])
+    requires { EntryReady w i b.hash b.bytes.now g.old made.old out.old }
+    ensures { Turned w 1 (recover_at w (decode b.entry.bytes.now) i)
+        g.old made.old out.old g.new made.new out.new }
+{
+    let e = g.entries[i];
+    if !looks(e.mark) {
+        return;
     }
-    if mark == entries::REWRITTEN {
-        return g;
+    let wanted = partner::complement(arith::bitmask(u32::from(w)), e.mask);
+    if let Some(j) = partner::partner_of(g.used(), i + 1, wanted) {
+        recover_pair(g, i, j, b, w, made, out);
     }
-    let n = g.len;
-    let wanted = partner::complement(arith::bitmask(w as u32), g.masks[i]);
-    let j = partner::partner_of(&g.masks, &g.marks, i + 1, n, wanted);
-    if j < n {
-        return recover_pair(g, i, j, b, hash, w, made, out);
-    }
-    g
 }
 
 // Every entry in turn looks for the first later one with the complement mask.
-pub fn recover_entries(
-    group: Group,
-    b: &[u8],
-    hash: u64,
-    w: u8,
-    made: &mut [u64],
-    out: &mut [u8],
-) -> Group
-    requires { StepReady w group_entries hash b.now group made.old out.old }
-    ensures { Recovered w group_entries (recover_group w (decode b.now))
-        group made.old out.old result made.new out.new }
+pub fn recover_entries(g: &mut Group, b: Basis<'_>, w: u8, made: &mut Made, out: &mut [u8])
+    requires { StepReady w group_entries b.hash b.bytes.now g.old made.old out.old }
+    ensures { Recovered w group_entries (recover_group w (decode b.entry.bytes.now))
+        g.old made.old out.old g.new made.new out.new }
 {
-    let mut g = group;
-    let n = g.len;
-    let mut i = 0;
-    while i < n {
-        if made[3] == 1 {
-            return g;
+    for i in 0..g.len {
+        if made.table.full {
+            return;
         }
-        g = recover_entry(g, i, b, hash, w, made, out);
-        i += 1;
+        recover_entry(g, i, b, w, made, out);
     }
-    g
 }

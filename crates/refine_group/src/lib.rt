@@ -8,19 +8,21 @@ ghost use Rattle.refiner_laws.specs.Refining.{GroupRefined};
 
 use collapse_search::find;
 use entries::stages;
-use group::{Group, settle};
+use group::{Basis, Group, settle};
+use made::Made;
+use views::View;
 
 // One group: the rows, of n, that have the basis b with this hash are gathered, the steps are taken
 // in the Rust's order, and what is left is added to the rows. A stage that would leave the group as it
-// is is not taken, so that the group moves only where it changes.
+// is is not taken.
 pub fn refine_group(
     hash: u64,
     b: &[u8],
     n: usize,
-    views: &[u64],
+    views: &[Option<View>],
     f: &[u8],
     w: u8,
-    made: &mut [u64],
+    made: &mut Made,
     coeffs: &mut [u64],
     out: &mut [u8],
 )
@@ -31,17 +33,15 @@ pub fn refine_group(
         made.new out.new coeffs.new }
 {
     let mut g = Group::gather(n, hash, b, views, f);
-    let len = g.len;
-    if stages::any_single(&g.coeffs, &g.masks, &g.marks, len, w as u32) {
-        g = g.cut_and_drop(b, hash, w, made, out);
+    let basis = Basis { bytes: b, hash };
+    if stages::any_single(g.used(), u32::from(w)) {
+        g.cut_and_drop(basis, w, made, out);
     }
-    if stages::any_merge(&g.coeffs, &g.masks, &g.marks, len, w as u32) {
-        g = g.merge_all(b, hash, w, made, out);
+    if stages::any_merge(g.used(), u32::from(w)) {
+        g.merge_all(basis, w, made, out);
     }
-    let found = find::find_three(&g.coeffs, &g.masks, &g.marks, len, w as u32);
-    let i = found.first;
-    if i < len {
-        g = g.collapse(i, found.second, found.third, b, hash, w, made, out);
+    if let Some(three) = find::find_three(g.used(), u32::from(w)) {
+        g.collapse(three.first, three.second, three.third, basis, w, made, out);
     }
-    settle::settle(&g.coeffs, &g.atoms, &g.marks, len, coeffs, w as u32);
+    settle::settle(g.used(), coeffs, u32::from(w));
 }

@@ -1,5 +1,6 @@
 -- How refining goes through the groups (term_refiner): what a turn makes of the table, of the words with the coefficients
 -- and of the bytes, said for all rows that they show.
+use Rattle.made.specs.declared.Made.{Made}
 use Rattle.std.specs.Prelude.{◌≡◌, ℕ, List, [], length}
 use Rattle.record.specs.Tree.{Tree}
 use Rattle.semilinear.specs.Form.{Row}
@@ -22,7 +23,7 @@ unfoldable pub settled_rows : ℕ → Work → List Row
 settled_rows w x = settle w x.group x.rows
 
 -- the group g of the basis t refined: the table has at most n rows more
-pub record GroupRefined (w n : ℕ) (t : Tree) (g : Group) (made out coeffs made' out' coeffs' : List ℕ) : Type 0 where
+pub record GroupRefined (w n : ℕ) (t : Tree) (g : Group) (made : Made) (out coeffs : List ℕ) (made' : Made) (out' coeffs' : List ℕ) : Type 0 where
   pub room : Room made' out'
   pub later : Later n made made'
   pub long : length out' ≡ length out
@@ -45,7 +46,7 @@ abbrev pub AllFairWork : ℕ → List Row → List Tree → List Row → Type 0
 AllFairWork w before = EachAllowed (refine_turn w before) (FairTurn w before)
 
 -- all groups refined
-pub record AllRefined (w : ℕ) (before : List Row) (bases : List Tree) (made out coeffs made' out' coeffs' : List ℕ)
+pub record AllRefined (w : ℕ) (before : List Row) (bases : List Tree) (made : Made) (out coeffs : List ℕ) (made' : Made) (out' coeffs' : List ℕ)
     : Type 0 where
   pub room : Room made' out'
   pub long : length out' ≡ length out
@@ -54,7 +55,7 @@ pub record AllRefined (w : ℕ) (before : List Row) (bases : List Tree) (made ou
       → Shown w made' out' coeffs' (refine_all w before bases l)
 
 -- the rows of a form refined: for a table that holds them, where refining them is fair
-pub record RowsRefined (w : ℕ) (rows : List Row) (made out made' out' coeffs' : List ℕ) : Type 0 where
+pub record RowsRefined (w : ℕ) (rows : List Row) (made : Made) (out : List ℕ) (made' : Made) (out' coeffs' : List ℕ) : Type 0 where
   pub room : Room made' out'
   pub long : length out' ≡ length out
   pub wide : length coeffs' ≡ atom_limit

@@ -8,7 +8,7 @@ use mathlib.Core.List.{List, [], ◌++◌}
 use mathlib.Core.Bool.{true}
 use lib.Pow.{pow_mono}
 use lib.ListN.{length, take}
-use borrow.Author.Tests.{eq-eqb, ne_eqb}
+use Rattle.std.specs.Prelude.{None, Some}
 use Rattle.record.specs.Fields.{size}
 use Rattle.record.specs.Tree.{Tree, size_of, record_bytes, encode, IsBytes}
 use Rattle.record.specs.Tree.Tree.{Constant, Binary}
@@ -41,61 +41,62 @@ module _ (w : ℕ) (s before : List ℕ) (fits : length s ≤ length before) (ok
         tree_is = rw start d;
       }
 
-module _ (w : ℕ) (t : List ℕ) (bytes : IsBytes t) (ok : tree_refusal w t ≡ 0) (v : ℕ) where
-  pub built_plain : {masked : ℕ} {before after : List ℕ} → masked ≡ 0 → length t ≤ length before
-      → after ≡ put before 0 t → Built w (spot_tree (decode t) masked v) before after (length t)
+module _ (w : ℕ) (t : List ℕ) (bytes : IsBytes t) (ok : tree_refusal w t ≡ 0) where
+  pub built_plain : {before after : List ℕ} → length t ≤ length before
+      → after ≡ put before 0 t → Built w (spot_tree (decode t) None) before after (length t)
   unfolding spot_tree
-  built_plain {masked} {before} m fits e = built_start w t before fits ok e refl (simp (eq-eqb masked 0 m))
+  built_plain {before} fits e = built_start w t before fits ok e refl refl
 
-  -- the And of the tree and the literal
-  abbrev both : Tree
-  both = Binary 4 (decode t) (Constant v)
+  module _ (v : ℕ) where
+    -- the And of the tree and the literal
+    abbrev both : Tree
+    both = Binary 4 (decode t) (Constant v)
 
-  abbrev both_bytes : List ℕ
-  both_bytes = (t ++ record_bytes 0 0 1 w v) ++ record_bytes 4 0 (size t + 2) w 0
+    abbrev both_bytes : List ℕ
+    both_bytes = (t ++ record_bytes 0 0 1 w v) ++ record_bytes 4 0 (size t + 2) w 0
 
-  both_bytes_lem : encode w both ≡ both_bytes
-  unfolding encode size_of
-  both_bytes_lem =
-      let n : size_of (decode t) + 1 + 1 ≡ size t + 2 =
-      omega (arith, size_accepted w t bytes ok, sized_length t (sized_accepted w t ok)) in
-      rw (accept_encode w t bytes ok, n)
+    both_bytes_lem : encode w both ≡ both_bytes
+    unfolding encode size_of
+    both_bytes_lem =
+        let n : size_of (decode t) + 1 + 1 ≡ size t + 2 =
+        omega (arith, size_accepted w t bytes ok, sized_length t (sized_accepted w t ok)) in
+        rw (accept_encode w t bytes ok, n)
 
-  length_both : length both_bytes ≡ length t + 32
-  length_both =
-      let a = length_record t 0 0 1 w v in
-      let b = length_record (t ++ record_bytes 0 0 1 w v) 4 0 (size t + 2) w 0 in
-      omega (arith, a, b)
+    length_both : length both_bytes ≡ length t + 32
+    length_both =
+        let a = length_record t 0 0 1 w v in
+        let b = length_record (t ++ record_bytes 0 0 1 w v) 4 0 (size t + 2) w 0 in
+        omega (arith, a, b)
 
-  module _ (hv : v < 2 ^ w) where
-    both_expr : is_expr both ≡ true
-    both_expr =
-        expr_of_binary 4 (decode t) (Constant v)
-        record {
-          low = omega arith;
-          high = omega arith;
-          child_l = accept_expr w t bytes ok;
-          child_r = expr_of_constant v (lt_of_lt_of_le hv (pow_mono (accepted_root w t ok).width_le));
-        }
+    module _ (hv : v < 2 ^ w) where
+      both_expr : is_expr both ≡ true
+      both_expr =
+          expr_of_binary 4 (decode t) (Constant v)
+          record {
+            low = omega arith;
+            high = omega arith;
+            child_l = accept_expr w t bytes ok;
+            child_r = expr_of_constant v (lt_of_lt_of_le hv (pow_mono (accepted_root w t ok).width_le));
+          }
 
-    both_accepted : tree_refusal w both_bytes ≡ 0
-    both_accepted =
-        let ro = accepted_root w t ok in
-        rw both_bytes_lem at (expr_accept w ro.width_pos ro.width_le both both_expr)
+      both_accepted : tree_refusal w both_bytes ≡ 0
+      both_accepted =
+          let ro = accepted_root w t ok in
+          rw both_bytes_lem at (expr_accept w ro.width_pos ro.width_le both both_expr)
 
-    both_decoded : decode both_bytes ≡ both
-    both_decoded = rw both_bytes_lem at (decode_encode w both both_expr)
+      both_decoded : decode both_bytes ≡ both
+      both_decoded = rw both_bytes_lem at (decode_encode w both both_expr)
 
-    pub built_masked : {masked n : ℕ} {before one two after : List ℕ} → (masked ≡ 0 → ⊥)
-        → length t + 32 ≤ length before → n ≡ size t → one ≡ put before 0 t
-        → two ≡ put one (length t) (record_bytes 0 0 1 w v)
-        → after ≡ put two (length t + 16) (record_bytes 4 0 (n + 2) w 0)
-        → Built w (spot_tree (decode t) masked v) before after (length t + 32)
-    unfolding spot_tree
-    built_masked {masked} {n} {before} m fits hn e f g =
-        let k = length_record [] 0 0 1 w v in
-        let all =
-        put_then_then before 0 t (record_bytes 0 0 1 w v) (record_bytes 4 0 (size t + 2) w 0) (length t) (length t + 16)
-        (omega (arith, k)) (omega arith) (omega (arith, k)) in
-        built_start w both_bytes before (omega (arith, length_both)) both_accepted (rw (g, f, e, hn) all)
-        (sym length_both) (both_decoded ∙ simp (ne_eqb masked 0 m))
+      pub built_masked : {n : ℕ} {before one two after : List ℕ}
+          → length t + 32 ≤ length before → n ≡ size t → one ≡ put before 0 t
+          → two ≡ put one (length t) (record_bytes 0 0 1 w v)
+          → after ≡ put two (length t + 16) (record_bytes 4 0 (n + 2) w 0)
+          → Built w (spot_tree (decode t) (Some v)) before after (length t + 32)
+      unfolding spot_tree
+      built_masked {n} {before} fits hn e f g =
+          let k = length_record [] 0 0 1 w v in
+          let all =
+          put_then_then before 0 t (record_bytes 0 0 1 w v) (record_bytes 4 0 (size t + 2) w 0) (length t) (length t + 16)
+          (omega (arith, k)) (omega arith) (omega (arith, k)) in
+          built_start w both_bytes before (omega (arith, length_both)) both_accepted (rw (g, f, e, hn) all)
+          (sym length_both) both_decoded

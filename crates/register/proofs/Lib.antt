@@ -1,7 +1,6 @@
 -- The laws of the definitions, for the crates above.
 pub mod AppendedLaws
 pub mod BuiltLaws
-pub mod EntryLaws
 pub mod IndexLaws
 pub mod ReachedLaws
 pub mod RegisteredLaws

@@ -15,6 +15,7 @@ use Rattle.semilinear.specs.Form.{Row, tree_records, fits_table}
 use Rattle.atom_table.proofs.HoldsLaws.{bare_rows}
 use Rattle.normalizer_laws.specs.Collect.{Emitted}
 use Rattle.normalizer_laws.specs.Register.{shared_row, add_row, register_atom, register_all}
+use Rattle.descent.specs.declared.collect.Atom.{Atom}
 use Rattle.descent.specs.Spots.{spot_at, spots_in}
 use Rattle.register.specs.Index.{appended_row}
 
@@ -97,7 +98,7 @@ unfolding register_all
 register_all_more w e [] l = refl
 register_all_more w e (x ∷ m) l = register_all_more w e m (register_atom w x l)
 
-module _ (w : ℕ) (file spots : List ℕ) where
+module _ (w : ℕ) (file : List ℕ) (spots : List Atom) where
   -- the rows of the first n spots
   abbrev pub spot_rows : ℕ → List Row
   spot_rows n = register_all w (spots_in file spots n) []

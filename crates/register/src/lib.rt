@@ -4,42 +4,41 @@
 
 pub mod index;
 
-ghost use Rattle.std.specs.Prelude.{◌≡◌, [], ◌∷◌, ◌++◌, ◌+◌, ◌*◌, ◌<◌, ◌≤◌, length, get_or, set};
-ghost use Rattle.arith.specs.Width.{mod_add};
-ghost use Rattle.base.specs.Put.{put, padded};
+ghost use Rattle.std.specs.Prelude.{◌≡◌, [], ◌∷◌, ◌++◌, ◌<◌, ◌≤◌, length, set};
+ghost use Rattle.base.specs.Put.{padded};
 ghost use Rattle.record.specs.Decode.{decode};
 ghost use Rattle.expr.specs.Hash.{structural_hash};
 ghost use Rattle.truth.specs.Key.{key_of};
 ghost use Rattle.normalizer_laws.specs.Register.{register_atom, register_all};
-ghost use Rattle.descent.specs.Spots.{spot_tree, spot_at};
-ghost use Rattle.descent.specs.Spots.{spots_in};
-ghost use Rattle.register.specs.Index.{entry_words, Registrable, Registers, Built};
+ghost use Rattle.descent.specs.Spots.{spot_tree, atom_of, spots_in};
+ghost use Rattle.register.specs.Index.{Registrable, Registers, Built, entry_at, grown, CoeffsPut};
 ghost use Rattle.register.specs.Index.{TreeRoom, SpotRoom, SpotsRoom};
 ghost use Rattle.register.specs.Index.{index_rows, emitted, appended_row};
 ghost use Rattle.base.specs.Limits.{form_bytes};
 
+use crate::index::Entry;
 use atom_table::table::Table;
 use base::limits;
-use descent::collect;
+use descent::collect::Atom;
+use record::kinds::Kind;
 use truth::key;
 
-// The tree t, or the And of it and the literal where it is masked, is put into `tree`; returns its
-// length.
-fn put_tree(t: &[u8], masked: u64, literal: u64, w: u8, tree: &mut [u8]) -> usize
+// The tree t, or the And of it and a literal, is put into `tree`; returns its length.
+fn put_tree(t: &[u8], literal: Option<u64>, w: u8, tree: &mut [u8]) -> usize
     requires { TreeRoom w literal t.now tree.old }
-    ensures { Built w (spot_tree (decode t.now) masked literal)
+    ensures { Built w (spot_tree (decode t.now) literal)
         tree.old tree.new result }
 {
     let n = t.len();
-    base::write::put_bytes(tree, 0, t);
-    if masked == 0 {
+    base::write::put(tree, 0, t);
+    let Some(v) = literal else {
         return n;
-    }
-    record::write::put_record(tree, n, 0, 0, 1, w, literal);
+    };
+    record::write::put_record(tree, n, Kind::Constant as u8, 0, 1, w, v);
     record::write::put_record(
         tree,
         n + limits::RECORD_LENGTH,
-        4,
+        Kind::And as u8,
         0,
         record::size(t) + 2,
         w,
@@ -48,37 +47,23 @@ fn put_tree(t: &[u8], masked: u64, literal: u64, w: u8, tree: &mut [u8]) -> usiz
     n + 32
 }
 
-// The tree that spot i stands for is put into `tree`; returns its length.
-fn build_tree(i: usize, spots: &[u64], file: &[u8], w: u8, tree: &mut [u8]) -> usize
-    requires { SpotRoom w i spots.now file.now tree.old }
-    ensures { Built w (spot_at file.now spots.now i).tree
+// The tree that an atom stands for is put into `tree`; returns its length.
+fn build_tree(atom: Atom, file: &[u8], w: u8, tree: &mut [u8]) -> usize
+    requires { SpotRoom w atom file.now tree.old }
+    ensures { Built w (atom_of file.now atom).tree
         tree.old tree.new result }
 {
-    let at = collect::SPOT_WORDS * i;
-    let start = spots[at + 1] as usize;
-    let end = spots[at + 2] as usize;
-    put_tree(&file[start..end], spots[at + 3], spots[at + 4], w, tree)
+    let start = atom.spot.start;
+    let end = atom.spot.end;
+    put_tree(&file[start..end], atom.literal, w, tree)
 }
 
 // The coefficient of atom j grows by c.
-fn add_coeff(index: &mut [u64], j: usize, c: u64, w: u8)
-    requires { entry_words * j < length index.old }
-    ensures { index.new ≡ set index.old (entry_words * j)
-        (mod_add (get_or index.old (entry_words * j) 0) c w) }
+fn add_coeff(index: &mut [Entry], j: usize, c: u64, w: u8)
+    requires { j < length index.old }
+    ensures { index.new ≡ set index.old j (grown w c (entry_at index.old j)) }
 {
-    let at = index::ENTRY_WORDS * j;
-    index[at] = arith::mod_add(index[at], c, w as u32);
-}
-
-// The words of atom n are put into the index: those in front of its key, and the key.
-fn put_entry(index: &mut [u64], n: usize, front: &[u64], key: &[u64])
-    requires { entry_words * n + length front.now + length key.now ≤ length index.old }
-    ensures { index.new ≡ put index.old (entry_words * n)
-        (front.now ++ key.now) }
-{
-    let at = index::ENTRY_WORDS * n;
-    base::write::put_words(index, at, front);
-    base::write::put_words(index, at + front.len(), key);
+    index[j].coeff = arith::mod_add(index[j].coeff, c, w as u32);
 }
 
 // The atom with the tree t and this hash and key is appended, with the coefficient c.
@@ -87,9 +72,9 @@ fn append_atom(
     c: u64,
     t: &[u8],
     hash: u64,
-    key: &[u64],
+    key: &[u64; 7],
     w: u8,
-    index: &mut [u64],
+    index: &mut [Entry],
     out: &mut [u8],
 ) -> Table
     requires { Registrable w table t.now index.old out.old
@@ -98,18 +83,30 @@ fn append_atom(
         ++ (appended_row (emitted c t.now) ∷ [])) index.new out.new result }
 {
     let n = table.count as usize;
-    let start = table.at as u64 + limits::RECORD_LENGTH_U64;
+    let start = table.at + limits::RECORD_LENGTH;
     let more = table.create_atom(out, t, hash, w);
     if more.full {
         return more;
     }
-    let end = more.at as u64;
-    put_entry(index, n, &[c, hash, start, end], key);
+    index[n] = Entry {
+        coeff: c,
+        hash,
+        start,
+        end: more.at,
+        key: *key,
+    };
     more
 }
 
 // One atom: the tree t with the coefficient c. Corresponds to `register_atom`.
-fn register_atom(table: Table, c: u64, t: &[u8], w: u8, index: &mut [u64], out: &mut [u8]) -> Table
+fn register_atom(
+    table: Table,
+    c: u64,
+    t: &[u8],
+    w: u8,
+    index: &mut [Entry],
+    out: &mut [u8],
+) -> Table
     requires { Registrable w table t.now index.old out.old }
     ensures { Registers w (register_atom w (emitted c t.now)
         (index_rows index.old out.old table.count))
@@ -117,14 +114,12 @@ fn register_atom(table: Table, c: u64, t: &[u8], w: u8, index: &mut [u64], out: 
 {
     let n = table.count as usize;
     let hash = expr::hash::structural_hash(t);
-    let same = index::row_by_hash(n, hash, t, index, out);
-    if same < n {
+    if let Some(same) = index::row_by_hash(n, hash, t, index, out) {
         add_coeff(index, same, c, w);
         return table;
     }
     let key = key::key_of(t);
-    let shared = index::row_by_key(n, &key, index);
-    if shared < n {
+    if let Some(shared) = index::row_by_key(n, &key, index) {
         add_coeff(index, shared, c, w);
         return table;
     }
@@ -134,11 +129,11 @@ fn register_atom(table: Table, c: u64, t: &[u8], w: u8, index: &mut [u64], out: 
 // All atoms of the first n spots, in order; ends where the table is full.
 pub fn register_all(
     n: usize,
-    spots: &[u64],
+    spots: &[Atom],
     file: &[u8],
     w: u8,
     tree: &mut [u8],
-    index: &mut [u64],
+    index: &mut [Entry],
     out: &mut [u8],
 ) -> Table
     requires { SpotsRoom w n spots.now file.now tree.old index.old
@@ -148,15 +143,23 @@ pub fn register_all(
         index.new out.new result }
 {
     let mut table = Table::empty();
-    let mut i = 0;
-    while i < n {
-        let size = build_tree(i, spots, file, w, tree);
-        let c = spots[collect::SPOT_WORDS * i];
-        table = register_atom(table, c, &tree[..size], w, index, out);
+    for i in 0..n {
+        let atom = spots[i];
+        let size = build_tree(atom, file, w, tree);
+        table = register_atom(table, atom.spot.coeff, &tree[..size], w, index, out);
         if table.full {
             return table;
         }
-        i += 1;
     }
     table
+}
+
+// The coefficients of the entries are put into `coeffs`, as many as both hold.
+pub fn put_coeffs(index: &[Entry], coeffs: &mut [u64])
+    ensures { CoeffsPut index.now coeffs.old coeffs.new }
+{
+    let n = index.len().min(coeffs.len());
+    for i in 0..n {
+        coeffs[i] = index[i].coeff;
+    }
 }

@@ -1,18 +1,17 @@
 -- Running a list from an expression (`run_passes`): a law for each way out.
 use mathlib.Core.Path.{◌≡◌, refl, ap, sym, ◌∙◌}
-use Prim.Native.Nat.{ℕ, ◌<◌}
+use Prim.Native.Nat.{ℕ}
 use native.Mathlib.Omega.{arith}
-use mathlib.Core.List.{List, [], ◌∷◌}
+use mathlib.Core.List.{List}
 use mathlib.Core.Bool.{Bool, true, false}
-use lib.ListN.{length, get_or, take}
+use lib.ListN.{get_or, take}
 use borrow.Author.Tests.{ne_eqb}
 use Rattle.base.specs.Choice.{when}
 use Rattle.base.specs.Put.{padded}
 use Rattle.record.specs.Tree.{IsBytes}
 use Rattle.record.specs.Decode.{decode}
-use Rattle.semilinear.specs.declared.outcome.Answer.{Answer}
 use Rattle.base.specs.Outcome.{Outcome, accepted, refused, refusal_of, numbers_of, written_of}
-use Rattle.semilinear.specs.Answers.{GivesForm}
+use Rattle.semilinear.specs.Answers.{InNumbers, GivesNumbers}
 use Rattle.atom_table.proofs.PassLaws.{gives_same}
 use Rattle.normalizer_laws.specs.Normalize.{normalize_to_semilinear}
 use Rattle.normalizer_laws.proofs.NormalizeLaws.{FileCase, wrong_length, wrong_slice, no_expression, expression}
@@ -27,16 +26,16 @@ pub list_is : (words : List ℕ) (spare : ℕ) {len n : ℕ} {r b : Bool} → n 
     → is_list len spare words ≡ b
 list_is words spare e h k = ap (λ (m : ℕ). is_list m spare words) (sym e) ∙ sym h ∙ k
 
-module _ (s words : List ℕ) (len spare : ℕ) (r : Answer) (out : List ℕ)
-    (g : GivesForm (normalize_to_semilinear s len) len r out) where
+module _ (s words : List ℕ) (len spare : ℕ) (r : InNumbers) (out : List ℕ)
+    (g : GivesNumbers (normalize_to_semilinear s len) len r out) where
   abbrev o : Outcome
   o = normalize_to_semilinear s len
 
-  pub run_one : r.refusal ≡ 1 → GivesForm (run_passes s words len spare) len r out
+  pub run_one : r.refusal ≡ 1 → GivesNumbers (run_passes s words len spare) len r out
   unfolding run_passes run_outcome
   run_one e = rw (sym g.number ∙ e) g
 
-  pub run_two : r.refusal ≡ 2 → GivesForm (run_passes s words len spare) len r out
+  pub run_two : r.refusal ≡ 2 → GivesNumbers (run_passes s words len spare) len r out
   unfolding run_passes run_outcome
   run_two e = rw (sym g.number ∙ e) g
 
@@ -50,19 +49,19 @@ module _ (s words : List ℕ) (len spare : ℕ) (r : Answer) (out : List ℕ)
           ne_eqb (refusal_of o) 2 (λ e. n2 (g.number ∙ e)),
         )
 
-    pub run_bad : is_list len spare words ≡ false → (n : ℕ) → n ≡ len → (a : Answer) (l : List ℕ)
-        → GivesForm (refused 32) n a l → GivesForm (run_passes s words len spare) len a l
+    pub run_bad : is_list len spare words ≡ false → (n : ℕ) → n ≡ len → (a : InNumbers) (l : List ℕ)
+        → GivesNumbers (refused 32) n a l → GivesNumbers (run_passes s words len spare) len a l
     run_bad e n k a l h = rw (past, e) (rw k at h)
 
     module _ (ok : is_list len spare words ≡ true) where
       listed : run_passes s words len spare ≡ list_outcome (calls_of words) o
       listed = rw (past, ok)
 
-      pub run_refused : (r.refusal ≡ 0 → ⊥) → GivesForm (run_passes s words len spare) len r out
+      pub run_refused : (r.refusal ≡ 0 → ⊥) → GivesNumbers (run_passes s words len spare) len r out
       unfolding list_outcome refusal_of
       run_refused nz = go o refl
         where
-          go : (x : Outcome) → o ≡ x → GivesForm (run_passes s words len spare) len r out
+          go : (x : Outcome) → o ≡ x → GivesNumbers (run_passes s words len spare) len r out
           go (accepted b ns) e = absurd (nz (g.number ∙ ap refusal_of e))
           go (refused n) e = gives_same (listed ∙ ap (list_outcome (calls_of words)) e ∙ sym e) len r out g
 
@@ -120,9 +119,9 @@ module _ (s words : List ℕ) (len spare : ℕ) (r : Answer) (out : List ℕ)
         pub run_start : Lies (take r.used out) r.used r.terms out
         run_start = rw (take_lies started.lies) started.lies
 
-        pub run_end : (a : Answer) (l : List ℕ)
-            → GivesForm (bytes_outcome (in_use (calls_of words) (take r.used out))) 57360 a l
-            → GivesForm (run_passes s words len spare) len a l
+        pub run_end : (a : InNumbers) (l : List ℕ)
+            → GivesNumbers (bytes_outcome (in_use (calls_of words) (take r.used out))) 57360 a l
+            → GivesNumbers (run_passes s words len spare) len a l
         unfolding list_outcome
         run_end a l v =
             let e : run_passes s words len spare ≡ bytes_outcome (in_use (calls_of words) (take r.used out)) =

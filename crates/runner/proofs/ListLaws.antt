@@ -1,51 +1,74 @@
 -- The list in words (specs/RunPasses.antt), two words at a time.
-use mathlib.Core.Path.{◌≡◌, refl, ap, sym, ◌∙◌}
-use Prim.Native.Nat.{ℕ, suc, ◌+◌, ◌-◌, ◌≤◌, ◌<◌}
+use mathlib.Core.Path.{◌≡◌, refl, ap, ap₂, sym, ◌∙◌}
+use Prim.Native.Nat.{ℕ, zero, suc, ◌+◌, ◌-◌, ◌*◌, ◌≤◌, ◌<◌}
 use native.Mathlib.Omega.{arith}
 use native.Mathlib.Decide.{dec_lt}
 use mathlib.Core.List.{List, [], ◌∷◌}
-use mathlib.Core.Bool.{Bool, true, false}
-use lib.ListN.{length, get_or, drop, drop_of_length-le}
+use mathlib.Core.Bool.{Bool, true, false, ◌&&◌}
+use lib.ListN.{length, get_or, take, drop, drop_of_length-le}
 use lib.Seq.{drop-cons}
-use lib.Dec.{leb}
-use borrow.Author.Tests.{eq-eqb, ne_eqb, le-leb, lt-leb}
-use Rattle.claims.specs.Calls.{Call, refine_terms_pass, recover_structure_pass, coalesce_terms_pass, flatten_complex_atoms_pass}
-use Rattle.claims.specs.Calls.{compact_atom_table_pass}
+use lib.Dec.{leb, eqb}
+use borrow.Author.Tests.{le-leb, lt-leb}
+use Rattle.std.specs.Prelude.{Option, Some, None, IsSome}
+use Rattle.std.proofs.lemmas.List.{drop-drop}
+use Rattle.std.specs.Simd.{first_chunks}
+use Rattle.base.specs.Choice.{when}
+use Rattle.claims.specs.Calls.{Pass as ClaimedPass}
+use Rattle.runner.specs.declared.passes.Pass.{Pass}
+use Rattle.runner.specs.declared.passes.Pass.TheVariants.{Refine, Recover, Coalesce, Flatten, Compact}
+use Rattle.runner.specs.declared.passes.Call.{Call}
+use Rattle.runner.specs.Passes.{claimed, claimed_call, number_of, is_call_of, IsCallRead}
 use Rattle.runner.specs.RunPasses.{pass_at, call_of, calls_of, is_pass, is_call, is_list}
 
--- ---- the number of a pass, by the first test that decides
+-- ---- a pass by its number
 
-module _ (p : ℕ) where
-  pub pass_none : p < 1 → false ≡ is_pass p
-  unfolding is_pass
-  pass_none h = rw (lt-leb 1 p h)
+pub number_pass : (pass : Pass) → is_pass (number_of pass) ≡ true
+unfolding is_pass
+number_pass Refine = refl
+number_pass Recover = refl
+number_pass Coalesce = refl
+number_pass Flatten = refl
+number_pass Compact = refl
 
-  pub pass_some : 1 ≤ p → leb p 5 ≡ is_pass p
-  unfolding is_pass
-  pass_some h = rw (le-leb 1 p h)
+pub number_at : (pass : Pass) → pass_at (number_of pass) ≡ claimed pass
+unfolding pass_at
+number_at Refine = refl
+number_at Recover = refl
+number_at Coalesce = refl
+number_at Flatten = refl
+number_at Compact = refl
 
-  pub at_one : p ≡ 1 → pass_at p ≡ refine_terms_pass
-  unfolding pass_at
-  at_one e = rw (eq-eqb p 1 e)
+-- what two words are read as is their call
+pub read_of : (words : List ℕ) (c : Call) → IsCallRead words (Some c)
+    → claimed_call c ≡ call_of (get_or words 0 0) (get_or words 1 0)
+read_of words c (p, n) =
+    ap₂ (λ (pass : ClaimedPass) (len : ℕ). record { pass = pass; len = len })
+    (sym (number_at c.pass) ∙ ap pass_at p) n
 
-  module _ (n1 : p ≡ 1 → ⊥) where
-    pub at_two : p ≡ 2 → pass_at p ≡ recover_structure_pass
-    unfolding pass_at
-    at_two e = rw (ne_eqb p 1 n1, eq-eqb p 2 e)
+-- whether it is a call for slices of a and b bytes
+pub read_fits : (a b : ℕ) (words : List ℕ) (c : Call) → IsCallRead words (Some c)
+    → is_call_of a b words ≡ leb c.len a && leb c.len b
+unfolding is_call
+read_fits a b words c (p, n) = rw (← p, ← n, number_pass c.pass) refl
 
-    module _ (n2 : p ≡ 2 → ⊥) where
-      pub at_three : p ≡ 3 → pass_at p ≡ coalesce_terms_pass
-      unfolding pass_at
-      at_three e = rw (ne_eqb p 1 n1, ne_eqb p 2 n2, eq-eqb p 3 e)
+pub read_none : (a b : ℕ) (words : List ℕ) → is_pass (get_or words 0 0) ≡ false → is_call_of a b words ≡ false
+unfolding is_call
+read_none a b words e = rw e refl
 
-      module _ (n3 : p ≡ 3 → ⊥) where
-        pub at_four : p ≡ 4 → pass_at p ≡ flatten_complex_atoms_pass
-        unfolding pass_at
-        at_four e = rw (ne_eqb p 1 n1, ne_eqb p 2 n2, ne_eqb p 3 n3, eq-eqb p 4 e)
+-- the words of a chunk
+pub chunk_at : (k i : ℕ) (words : List ℕ) (d : List ℕ) → i < k
+    → get_or (first_chunks 2 k words) i d ≡ take 2 (drop (i * 2) words)
+chunk_at zero i words d h = absurd (omega (arith, h))
+chunk_at (suc k) zero words d h = refl
+chunk_at (suc k) (suc i) words d h =
+    let next : 2 + i * 2 ≡ suc i * 2 = omega arith in
+    chunk_at k i (drop 2 words) d (omega (arith, h))
+    ∙ ap (take 2) (drop-drop (i * 2) 2 words ∙ ap (λ (n : ℕ). drop n words) next)
 
-        pub at_other : (p ≡ 4 → ⊥) → pass_at p ≡ compact_atom_table_pass
-        unfolding pass_at
-        at_other n4 = rw (ne_eqb p 1 n1, ne_eqb p 2 n2, ne_eqb p 3 n3, ne_eqb p 4 n4)
+-- the same of a slice of such chunks
+pub chunk_in : (words : List ℕ) (chunks : List (List ℕ)) (k i : ℕ) → chunks ≡ first_chunks 2 k words → i < k
+    → get_or chunks i [] ≡ take 2 (drop (i * 2) words)
+chunk_in words chunks k i e h = ap (λ (l : List (List ℕ)). get_or l i []) e ∙ chunk_at k i words [] h
 
 -- ---- the words of a list
 
@@ -74,6 +97,12 @@ module _ (words : List ℕ) (i : ℕ) where
     pub list_odd : i < length words → length words - i < 2 → is_list a b (drop i words) ≡ false
     unfolding is_list
     list_odd h k = rw (drop-cons words i 0 h, drop_of_length-le words {i = suc i} (omega arith))
+
+    -- nothing, or one word, is left
+    pub list_last : (k : ℕ) → length words ≡ i + k → k < 2 → is_list a b (drop i words) ≡ eqb k 0
+    list_last zero e h = list_end (omega (arith, e))
+    list_last (suc zero) e h = list_odd (omega (arith, e)) (omega (arith, e))
+    list_last (suc (suc k)) e h = absurd (omega (arith, h))
 
     pub list_pass : i + 2 ≤ length words → is_pass pass ≡ false → is_list a b (drop i words) ≡ false
     unfolding is_list is_call
@@ -117,3 +146,47 @@ module _ (words : List ℕ) (i : ℕ) where
               fits_b = omega arith;
               rest = sym (list_turn (omega arith) p (omega arith) (omega arith)) ∙ t;
             }
+
+    -- the next two words as a chunk
+    module _ (chunk : List ℕ) (e : chunk ≡ take 2 (drop i words)) (h : i + 2 ≤ length words) where
+      chunk_words : chunk ≡ pass ∷ len ∷ []
+      chunk_words = e ∙ ap (take 2) (two h)
+
+      chunk_decides : is_list a b (drop i words) ≡ when (is_call_of a b chunk) (λ _. is_list a b (drop (i + 2) words)) (λ _. false)
+      unfolding is_list
+      chunk_decides = rw (two h, chunk_words) refl
+
+      pub chunk_passed : is_call_of a b chunk ≡ true → is_list a b (drop i words) ≡ is_list a b (drop (i + 2) words)
+      chunk_passed p = rw p at chunk_decides
+
+      pub chunk_stops : is_call_of a b chunk ≡ false → is_list a b (drop i words) ≡ false
+      chunk_stops p = rw p at chunk_decides
+
+    -- what the next two words are read as
+    pub record Read (o : Option Call) : Type 0 where
+      pub some : IsSome o
+      pub call : (c : Call) → o ≡ Some c → claimed_call c ≡ call_of pass len
+
+    pub list_read : (chunk : List ℕ) → chunk ≡ take 2 (drop i words) → i < length words
+        → is_list a b (drop i words) ≡ true → (o : Option Call) → IsCallRead chunk o → Read o
+    list_read chunk e h t o r = go o r
+      where
+        n : Next
+        n = list_next h t
+
+        words-are : chunk ≡ pass ∷ len ∷ []
+        words-are = chunk_words chunk e n.two_words
+
+        go : (o : Option Call) → IsCallRead chunk o → Read o
+        go None r = none t (list_pass n.two_words (sym (ap (λ (l : List ℕ). is_pass (get_or l 0 0)) words-are) ∙ r))
+        go (Some c) r =
+            record {
+              some = refl;
+              call =
+                  λ d q. ap claimed_call (sym (some_same q))
+                  ∙ read_of chunk c r
+                  ∙ ap (λ (l : List ℕ). call_of (get_or l 0 0) (get_or l 1 0)) words-are;
+            }
+          where
+            some_same : {d : Call} → ◌≡◌ {A = Option Call} (Some c) (Some d) → c ≡ d
+            some_same q = cc

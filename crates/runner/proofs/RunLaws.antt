@@ -1,15 +1,14 @@
 -- The list run from its first call on (`run_list`), and handed over (`run_from`).
 use mathlib.Core.Path.{◌≡◌, refl, ap, sym, ◌∙◌}
 use Prim.Native.Nat.{ℕ, ◌+◌, ◌≤◌, ◌<◌}
-use mathlib.Core.List.{List, [], ◌∷◌}
+use mathlib.Core.List.{List}
 use mathlib.Core.Bool.{Bool, true, false}
 use lib.ListN.{length, get_or, take, drop, drop_of_length-le}
 use lib.Seq.{take-length}
-use Rattle.semilinear.specs.declared.outcome.Answer.{Answer}
 use Rattle.semilinear.specs.Form.{Form, term_count}
 use Rattle.semilinear.specs.DecodeForm.{decode_form}
 use Rattle.base.specs.Outcome.{refusal_of, numbers_of, written_of}
-use Rattle.semilinear.specs.Answers.{GivesForm}
+use Rattle.semilinear.specs.Answers.{InNumbers, GivesNumbers}
 use Rattle.semilinear.proofs.EncodeFormLaws.{form_decode}
 use Rattle.claims.specs.Calls.{Call, after_call, in_use}
 use Rattle.runner.specs.RunPasses.{call_of, calls_of, is_list, bytes_outcome}
@@ -47,12 +46,12 @@ module _ {words first : List ℕ} {len spare-len : ℕ} {sheet spare : List ℕ}
 
   pub running_turn : i < length words → {sheet' spare' : List ℕ} {one' : Bool} {used' terms' : ℕ}
       → InSlices (after_call next_call (bytes_in one used sheet spare)) one' used' terms' sheet' spare'
-      → length sheet' ≡ length sheet → length spare' ≡ length spare
-      → Running words first len spare-len sheet' spare' one' used' terms' (i + 2)
+      → length sheet' ≡ length sheet → length spare' ≡ length spare → {j : ℕ} → j ≡ i + 2
+      → Running words first len spare-len sheet' spare' one' used' terms' j
   unfolding in_use
-  running_turn h l a b =
+  running_turn h l a b e =
       let n = running_next h in
-      record {
+      rw e (record {
         inside = n.two_words;
         list = n.rest;
         sheet_length = a ∙ v.sheet_length;
@@ -63,7 +62,7 @@ module _ {words first : List ℕ} {len spare-len : ℕ} {sheet spare : List ℕ}
             ap (λ (s : List ℕ). in_use (calls_of (drop (i + 2) words)) (after_call next_call s)) (bytes_in_lem v.lies)
             ∙ ap (λ (calls : List Call). in_use calls v.bytes) (sym (calls_turn words i n.two_words))
             ∙ v.same;
-      }
+      })
 
   pub running_end : length words ≤ i → InSlices (in_use (calls_of words) first) one used terms sheet spare
   unfolding in_use calls_of
@@ -86,7 +85,7 @@ lies_placed {a = a} b h =
 
 -- the bytes t and their numbers handed over
 pub lies_given : {t l : List ℕ} {used terms : ℕ} → Lies t used terms l
-    → GivesForm (bytes_outcome t) 57360 (record { refusal = 0; used = used; terms = terms; flag = false }) l
+    → GivesNumbers (bytes_outcome t) 57360 (record { refusal = 0; used = used; terms = terms; flag = false }) l
 unfolding bytes_outcome refusal_of numbers_of written_of
 lies_given {t} h =
     let rows : h.form ≡ decode_form t = sym (form_decode h.form h.valid) ∙ ap decode_form (sym h.encoded) in

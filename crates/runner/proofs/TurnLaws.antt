@@ -1,24 +1,22 @@
 -- One call on the form that lies in the slice (`Lies`).
-use mathlib.Core.Path.{◌≡◌, refl, ap, sym, ◌∙◌}
-use Prim.Native.Nat.{ℕ, ◌+◌, ◌≤◌, ◌<◌}
+use mathlib.Core.Path.{◌≡◌, ap, sym, ◌∙◌}
+use Prim.Native.Nat.{ℕ, ◌≤◌, ◌<◌}
 use native.Mathlib.Omega.{arith}
 use native.Mathlib.Decide.{ℕ_discrete}
-use native.Mathlib.Nat.{zero-add}
-use mathlib.Core.List.{List, [], ◌∷◌, ◌++◌, append-nil}
-use mathlib.Core.Bool.{Bool, true, false}
-use lib.ListN.{length, get_or, take, drop, drop_of_length-le, length-take}
+use mathlib.Core.List.{List, ◌++◌}
+use mathlib.Core.Bool.{Bool, true, false, not}
+use lib.ListN.{length, get_or, take, drop, length-take}
 use lib.Seq.{length-take-le, take_at, take-take, take-length}
 use Rattle.base.specs.Choice.{when}
-use Rattle.base.specs.Put.{put, padded}
+use Rattle.base.specs.Put.{padded}
 use Rattle.base.proofs.PutLaws.{take_padded, length_padded}
-use Rattle.semilinear.specs.declared.outcome.Answer.{Answer}
 use Rattle.semilinear.specs.Form.{Form, term_count, encode_form, valid_form}
 use Rattle.base.specs.Outcome.{Outcome, accepted, refused, refusal_of, numbers_of, written_of}
 use Rattle.semilinear.specs.Outcome.{form_outcome}
-use Rattle.semilinear.specs.Answers.{GivesForm}
+use Rattle.semilinear.specs.Answers.{InNumbers, GivesNumbers}
 use Rattle.semilinear.proofs.FormLaws.{length_form_le}
 use Rattle.atom_table.proofs.MadeLaws.{Made, made, not_made}
-use Rattle.claims.specs.Calls.{Pass, Call, pass_gives, use_of, after_call}
+use Rattle.claims.specs.Calls.{Call, pass_gives, use_of, after_call}
 use Rattle.claims.proofs.CallsLaws.{pass_keeps, pass_two}
 use Rattle.runner.specs.Placed.{Lies, bytes_in, InSlices}
 
@@ -33,14 +31,6 @@ module _ {t slice : List ℕ} {used terms : ℕ} (h : Lies t used terms slice) w
   pub take_lies : take used slice ≡ t
   take_lies = ap (λ (n : ℕ). take n slice) h.count ∙ ap (take (length t)) h.written ∙ take_padded 57360 t
 
--- a piece over all of a slice
-pub put_whole : (d s : List ℕ) → length d ≡ length s → put d 0 s ≡ s
-unfolding put
-put_whole d s e =
-    ap (λ (n : ℕ). s ++ drop n d) (zero-add (length s))
-    ∙ ap (λ (l : List ℕ). s ++ l) (drop_of_length-le d {i = length s} (omega (arith, e)))
-    ∙ append-nil s
-
 -- what a call wrote to the first n elements of a slice
 module _ (d last : List ℕ) (n : ℕ) (fits : n ≤ length d) (kept : length last ≡ length (take n d)) where
   pub part_length : length last ≡ n
@@ -49,8 +39,8 @@ module _ (d last : List ℕ) (n : ℕ) (fits : n ≤ length d) (kept : length la
   pub part : take n (last ++ drop n d) ≡ last
   part = take_at last (drop n d) n part_length
 
-module _ (c : Call) {t slice : List ℕ} {used terms : ℕ} (h : Lies t used terms slice) (r : Answer) (out : List ℕ)
-    (g : GivesForm (pass_gives c.pass t c.len) c.len r out) where
+module _ (c : Call) {t slice : List ℕ} {used terms : ℕ} (h : Lies t used terms slice) (r : InNumbers) (out : List ℕ)
+    (g : GivesNumbers (pass_gives c.pass t c.len) c.len r out) where
   given_made : Made h.form (pass_gives c.pass t c.len)
   given_made = rw h.encoded (pass_keeps h.form h.valid c.len c.pass)
 
@@ -112,8 +102,8 @@ module _ (c : Call) {t slice : List ℕ} {used terms : ℕ} (h : Lies t used ter
 -- ---- the two slices
 
 -- what was written to the first n elements is what they hold now
-pub parted : (o : ℕ → Outcome) (n : ℕ) (r : Answer) (d last : List ℕ) → n ≤ length d → length last ≡ length (take n d)
-    → GivesForm (o (length (take n d))) (length (take n d)) r last → GivesForm (o n) n r (take n (last ++ drop n d))
+pub parted : (o : ℕ → Outcome) (n : ℕ) (r : InNumbers) (d last : List ℕ) → n ≤ length d → length last ≡ length (take n d)
+    → GivesNumbers (o (length (take n d))) (length (take n d)) r last → GivesNumbers (o n) n r (take n (last ++ drop n d))
 parted o n r d last le kept g = rw (part d last n le kept) (rw (length-take-le n d le) at g)
 
 pub room : (l : List ℕ) {t : List ℕ} {used terms : ℕ} → Lies t used terms (take 57360 l) → 57360 ≤ length l
@@ -144,30 +134,30 @@ bytes_in_lem {first = first} {a = a} {b = b} p = bytes_lies (when first (λ _. a
 differ : {A : Type 0} → false ≡ true → A
 differ h = let z : ◌≡◌ {A = ℕ} 0 1 = cc in absurd (omega (arith, z))
 
-module _ (c : Call) {used terms : ℕ} {a b : List ℕ} (r : Answer) (d : List ℕ) where
+module _ (c : Call) {used terms : ℕ} {a b : List ℕ} (r : InNumbers) (d : List ℕ) where
   pub first_refused : {first : Bool} → first ≡ true → InSlices (bytes_in first used a b) first used terms a b
-      → GivesForm (pass_gives c.pass (take used a) c.len) c.len r (take c.len d) → (r.refusal ≡ 0 → ⊥)
+      → GivesNumbers (pass_gives c.pass (take used a) c.len) c.len r (take c.len d) → (r.refusal ≡ 0 → ⊥)
       → InSlices (after_call c (bytes_in first used a b)) first used terms a d
   first_refused {first = false} e h g nz = differ e
   first_refused {first = true} e h g nz = rw (turn_refused c h.lies r _ g nz) (record { lies = h.lies })
 
   pub first_accepted : {first : Bool} → first ≡ true → InSlices (bytes_in first used a b) first used terms a b
-      → GivesForm (pass_gives c.pass (take used a) c.len) c.len r (take c.len d) → r.refusal ≡ 0
-      → InSlices (after_call c (bytes_in first used a b)) false r.used r.terms a d
+      → GivesNumbers (pass_gives c.pass (take used a) c.len) c.len r (take c.len d) → r.refusal ≡ 0
+      → InSlices (after_call c (bytes_in first used a b)) (not first) r.used r.terms a d
   first_accepted {first = false} e h g z = differ e
   first_accepted {first = true} e h g z =
       let x = turn_accepted c h.lies r _ g z in
       record { lies = moved x.lies (ap (λ (n : ℕ). take n d) (sym x.whole)) }
 
   pub second_refused : {first : Bool} → first ≡ false → InSlices (bytes_in first used a b) first used terms a b
-      → GivesForm (pass_gives c.pass (take used b) c.len) c.len r (take c.len d) → (r.refusal ≡ 0 → ⊥)
+      → GivesNumbers (pass_gives c.pass (take used b) c.len) c.len r (take c.len d) → (r.refusal ≡ 0 → ⊥)
       → InSlices (after_call c (bytes_in first used a b)) first used terms d b
   second_refused {first = true} e h g nz = differ (sym e)
   second_refused {first = false} e h g nz = rw (turn_refused c h.lies r _ g nz) (record { lies = h.lies })
 
   pub second_accepted : {first : Bool} → first ≡ false → InSlices (bytes_in first used a b) first used terms a b
-      → GivesForm (pass_gives c.pass (take used b) c.len) c.len r (take c.len d) → r.refusal ≡ 0
-      → InSlices (after_call c (bytes_in first used a b)) true r.used r.terms d b
+      → GivesNumbers (pass_gives c.pass (take used b) c.len) c.len r (take c.len d) → r.refusal ≡ 0
+      → InSlices (after_call c (bytes_in first used a b)) (not first) r.used r.terms d b
   second_accepted {first = true} e h g z = differ (sym e)
   second_accepted {first = false} e h g z =
       let x = turn_accepted c h.lies r _ g z in
@@ -192,8 +182,6 @@ module _ {t : List ℕ} {used terms : ℕ} {a b : List ℕ} where
   settled_first {first = true} e n h = moved h.lies (sym (ap (λ (k : ℕ). take k a) (sym n) ∙ take-length a))
 
   pub settled_second : {first : Bool} → first ≡ false → length a ≡ 57360 → InSlices t first used terms a b
-      → (l : List ℕ) → l ≡ put a 0 (take (length a) b) → Lies t used terms l
+      → (l : List ℕ) → l ≡ take (length a) b → Lies t used terms l
   settled_second {first = true} e n h l w = differ (sym e)
-  settled_second {first = false} e n h l w =
-      moved h.lies
-      (w ∙ ap (λ (k : ℕ). put a 0 (take k b)) n ∙ put_whole a (take 57360 b) (n ∙ sym (slice_length h.lies)))
+  settled_second {first = false} e n h l w = moved h.lies (w ∙ ap (λ (k : ℕ). take k b) n)

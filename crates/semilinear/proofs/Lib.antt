@@ -10,3 +10,4 @@ pub mod RowsLaws
 pub mod EncodeFormLaws
 pub mod RetiredLaws
 pub mod ScanLaws
+pub mod WalkLaws

@@ -7,24 +7,23 @@ use lib.ListN.{length, take, replicate}
 use lib.Seq.{take-take}
 use native.Mathlib.Omega.{arith}
 use Rattle.base.specs.Put.{padded}
-use Rattle.semilinear.specs.declared.outcome.Answer.{Answer}
 use Rattle.semilinear.specs.Form.{Form, term_count, encode_form}
 use Rattle.base.specs.Outcome.{Outcome, accepted, refused, refusal_of, numbers_of, written_of, Gives}
 use Rattle.semilinear.specs.Outcome.{form_outcome}
-use Rattle.semilinear.specs.Answers.{refused_answer, GivesForm}
+use Rattle.semilinear.specs.Answers.{InNumbers, refused_answer, GivesNumbers}
 
 -- the answer of a form that was written
-abbrev pub form_answer : Form → Bool → Answer
+abbrev pub form_answer : Form → Bool → InNumbers
 form_answer f flag =
     record { refusal = 0; used = length (encode_form f); terms = term_count f.rows; flag = flag }
 
-pub gives_refused : (n len : ℕ) (r : Answer) (out : List ℕ) → r ≡ refused_answer n → out ≡ replicate len 0
-    → GivesForm (refused n) len r out
+pub gives_refused : (n len : ℕ) (r : InNumbers) (out : List ℕ) → r ≡ refused_answer n → out ≡ replicate len 0
+    → GivesNumbers (refused n) len r out
 unfolding refusal_of numbers_of written_of
 gives_refused n len r out e z = rw e (record { number = refl; beside = refl; written = z })
 
-pub gives_form : (f : Form) (flag : Bool) (len : ℕ) (r : Answer) (out : List ℕ) → r ≡ form_answer f flag
-    → out ≡ padded len (encode_form f) → GivesForm (form_outcome f flag) len r out
+pub gives_form : (f : Form) (flag : Bool) (len : ℕ) (r : InNumbers) (out : List ℕ) → r ≡ form_answer f flag
+    → out ≡ padded len (encode_form f) → GivesNumbers (form_outcome f flag) len r out
 unfolding form_outcome refusal_of numbers_of written_of
 gives_form f flag len r out e h = rw e (record { number = refl; beside = refl; written = h })
 

@@ -7,6 +7,7 @@ use mathlib.Core.List.{List, [], ◌∷◌}
 use mathlib.Core.Bool.{Bool, true, false, not, ◌&&◌}
 use lib.ListN.{length, drop, length-drop}
 use lib.Dec.{eqb, ltb, leb}
+use Rattle.std.specs.Prelude.{None, Some}
 use borrow.Author.Tests.{eqb-true, eqb-false, leb-true, ltb-true, eq-eqb, ne_eqb, le-leb, lt-ltb, not-true}
 use Rattle.record.specs.Fields.{kind, byte1, size, width, literal, spare}
 use Rattle.record.specs.Span.{body, sized}
@@ -17,8 +18,8 @@ use Rattle.expr_refusal.proofs.RefusalLaws.{sized_accepted}
 use Rattle.expr_utils.specs.Utils.{has_var_dep, has_arith}
 use Rattle.expr.specs.Hash.{structural_hash}
 use Rattle.bitwise.specs.declared.Checked.{Checked}
-use Rattle.bitwise.specs.Bitwise.{bitwise_ok, passing, checked}
-use Rattle.bitwise.proofs.BitwiseLaws.{checked_ok, passes}
+use Rattle.bitwise.specs.Bitwise.{bitwise_ok, checked}
+use Rattle.bitwise.proofs.BitwiseLaws.{found_none, found_some}
 use Rattle.semilinear.specs.Items.{provenance, front_number, front_width, front_spare, front_word, tree_span}
 use Rattle.semilinear.specs.Items.{is_atom, after_atom, atom_count, atom_records, after_atoms, is_term}
 use Rattle.semilinear.specs.Valid.{atom_tree_ok, tree_ok, atom_ok, atoms_ok, term_ok, terms_ok_f, terms_ok, sum_ok, front_ok}
@@ -44,32 +45,27 @@ all_and true true v b e f = false_true e
 all_and true false v b e f = rw f
 
 -- one walk of its tree says whether it is all right
-module _ (w : ℕ) (t : List ℕ) (h : ℕ) {x : Checked} (e : x ≡ checked w t) where
-  ok_is : (b : Bool) → x.ok ≡ b → bitwise_ok w t ≡ b
-  ok_is b p = sym (checked_ok w t) ∙ sym (ap (λ (r : Checked). r.ok) e) ∙ p
-
-  found : x.ok ≡ true → x ≡ passing (has_var_dep (decode t)) (structural_hash (decode t))
-  found p = e ∙ passes w t (ok_is true p)
-
-  pub tree_shut : x.ok ≡ false → false ≡ tree_ok w t h
+module _ (w : ℕ) (t : List ℕ) (h : ℕ) where
+  pub tree_shut : checked w t ≡ None → false ≡ tree_ok w t h
   unfolding tree_ok atom_tree_ok bitwise_ok
-  tree_shut p =
+  tree_shut e =
       sym
       (no_and (eqb (tree_refusal w t) 0) (has_arith (decode t)) (has_var_dep (decode t))
-      (eqb h (structural_hash (decode t))) (ok_is false p))
+      (eqb h (structural_hash (decode t))) (found_none w t e))
 
-  pub tree_bare : x.ok ≡ true → x.variable ≡ false → false ≡ tree_ok w t h
+  pub tree_bare : (x : Checked) → checked w t ≡ Some x → x.variable ≡ false → false ≡ tree_ok w t h
   unfolding tree_ok atom_tree_ok
-  tree_bare p q =
-      let v : has_var_dep (decode t) ≡ false = sym (ap (λ (r : Checked). r.variable) (found p)) ∙ q in
+  tree_bare x e q =
+      let v : has_var_dep (decode t) ≡ false = sym (ap (λ (r : Checked). r.variable) (found_some w t x e).1) ∙ q in
       sym (bare_and (eqb (tree_refusal w t) 0) (not (has_arith (decode t))) (has_var_dep (decode t)) (eqb h (structural_hash (decode t))) v)
 
-  pub tree_open : x.ok ≡ true → x.variable ≡ true → eqb h x.hash ≡ tree_ok w t h
+  pub tree_open : (x : Checked) → checked w t ≡ Some x → x.variable ≡ true → eqb h x.hash ≡ tree_ok w t h
   unfolding tree_ok atom_tree_ok bitwise_ok
-  tree_open p q =
-      let v : has_var_dep (decode t) ≡ true = sym (ap (λ (r : Checked). r.variable) (found p)) ∙ q in
-      ap (eqb h) (ap (λ (r : Checked). r.hash) (found p))
-      ∙ all_and (eqb (tree_refusal w t) 0) (has_arith (decode t)) (has_var_dep (decode t)) (eqb h (structural_hash (decode t))) (ok_is true p) v
+  tree_open x e q =
+      let f = found_some w t x e in
+      let v : has_var_dep (decode t) ≡ true = sym (ap (λ (r : Checked). r.variable) f.1) ∙ q in
+      ap (eqb h) (ap (λ (r : Checked). r.hash) f.1)
+      ∙ all_and (eqb (tree_refusal w t) 0) (has_arith (decode t)) (has_var_dep (decode t)) (eqb h (structural_hash (decode t))) f.0 v
 
 pub record AtomParts (w : ℕ) (r : List ℕ) : Type 0 where
   pub known : provenance r ≤ 4

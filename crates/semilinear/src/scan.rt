@@ -1,13 +1,18 @@
 // The validator of a semilinear form: refusals 1 and 10. Each atom's tree is walked once.
 ghost use Rattle.std.specs.Prelude.{◌≡◌, true, ℕ, ◌^◌, ltb};
+ghost use Rattle.base.specs.Refusal.{number_of};
 ghost use Rattle.semilinear.specs.Items.{is_atom, is_term};
 ghost use Rattle.semilinear.specs.Valid.{tree_ok, atom_ok, atoms_ok, term_ok, terms_ok, sum_ok};
 ghost use Rattle.semilinear.specs.Valid.{front_ok};
+ghost use Rattle.semilinear.specs.Atoms.{given_ok, given_term_ok};
 ghost use Rattle.semilinear.specs.Scan.{AtomsEnd, IsAtomTable};
 ghost use Rattle.semilinear.specs.Valid.{is_semilinear, length_refused, semilinear_refusal};
 
 use crate::items;
+use crate::items::{Atom, Atoms, Term, Terms};
 use base::limits;
+use base::refusal::Refusal;
+use record::kinds::FormKind;
 
 // The atoms at the front of some bytes: where they end, how many there are, and their tree records.
 #[derive(Drop)]
@@ -29,49 +34,24 @@ fn fits_width(x: u64, w: u8) -> bool
 fn tree_ok(t: &[u8], w: u8, hash: u64) -> bool
     ensures { result ≡ tree_ok w t.now hash }
 {
-    let found = bitwise::check_bitwise(t, w);
-    if !found.ok {
-        return false;
+    match bitwise::check_bitwise(t, w) {
+        Some(found) => found.variable && hash == found.hash,
+        None => false,
     }
-    if !found.variable {
-        return false;
-    }
-    hash == found.hash
 }
 
-// Whether the atom at the front is as it must be at width w.
-fn atom_ok(r: &[u8], w: u8) -> bool
-    requires { is_atom r.now ≡ true }
-    ensures { result ≡ atom_ok w r.now }
+// Whether an atom is as it must be at width w.
+fn atom_ok(a: &Atom<'_>, w: u8) -> bool
+    ensures { result ≡ given_ok w a.now }
 {
-    if 4 < items::provenance(r) {
-        return false;
-    }
-    if items::front_width(r) != w {
-        return false;
-    }
-    if items::front_spare(r) != 0 {
-        return false;
-    }
-    let t = items::tree_span(r);
-    tree_ok(t, w, items::front_word(r))
+    a.provenance <= 4 && a.width == w && a.spare == 0 && tree_ok(a.tree, w, a.hash)
 }
 
 // Whether all atoms at the front are as they must be at width w.
 fn atoms_ok(f: &[u8], w: u8) -> bool
     ensures { result ≡ atoms_ok w f.now }
 {
-    let mut at = 0;
-    loop {
-        let r = items::rest_from(f, at);
-        if !items::is_atom(r) {
-            return true;
-        }
-        if !atom_ok(r, w) {
-            return false;
-        }
-        at += items::atom_length(r);
-    }
+    Atoms::of(f).all(|a| atom_ok(&a, w))
 }
 
 // The atoms at the front of any bytes.
@@ -81,56 +61,32 @@ pub fn atom_table(f: &[u8]) -> AtomTable
     let mut at = 0;
     let mut count: u64 = 0;
     let mut records: u64 = 0;
-    loop {
-        let r = items::rest_from(f, at);
-        if !items::is_atom(r) {
-            return AtomTable {
-                at: at,
-                count: count,
-                records: records,
-            };
-        }
+    for atom in Atoms::of(f) {
         count += 1;
-        records += items::front_number(r);
-        at += items::atom_length(r);
+        records += atom.size;
+        at += atom.len();
     }
+    AtomTable { at, count, records }
 }
 
 // Where the atoms at the front end.
 pub fn terms_at(f: &[u8]) -> usize
     ensures { AtomsEnd f.now result }
 {
-    let found = atom_table(f);
-    found.at
+    atom_table(f).at
 }
 
-// Whether the term at the front is as it must be at width w, for n atoms of which those from
-// `next` on may have one.
-fn term_ok(q: &[u8], w: u8, n: u64, next: u64) -> bool
-    requires { is_term q.now ≡ true }
-    ensures { result ≡ term_ok w n next q.now }
+// Whether a term is as it must be at width w, for n atoms of which those from `next` on may have one.
+fn term_ok(x: &Term, w: u8, n: u64, next: u64) -> bool
+    ensures { result ≡ given_term_ok w n next x.now }
 {
-    if items::provenance(q) != 0 {
-        return false;
-    }
-    let number = items::front_number(q);
-    if number < next {
-        return false;
-    }
-    if n <= number {
-        return false;
-    }
-    if items::front_width(q) != w {
-        return false;
-    }
-    if items::front_spare(q) != 0 {
-        return false;
-    }
-    let coeff = items::front_word(q);
-    if coeff == 0 {
-        return false;
-    }
-    fits_width(coeff, w)
+    x.byte1 == 0
+        && next <= x.number
+        && x.number < n
+        && x.width == w
+        && x.spare == 0
+        && x.coeff != 0
+        && fits_width(x.coeff, w)
 }
 
 // Whether q is terms of n atoms at width w and nothing else, in order.
@@ -139,102 +95,72 @@ fn terms_ok(q: &[u8], w: u8, n: u64) -> bool
 {
     let mut at = 0;
     let mut next: u64 = 0;
-    while at < q.len() {
-        let rest = items::rest_from(q, at);
-        if !items::is_term(rest) {
+    for term in Terms::of(q) {
+        if !term_ok(&term, w, n, next) {
             return false;
         }
-        if !term_ok(rest, w, n, next) {
-            return false;
-        }
-        next = items::front_number(rest) + 1;
+        next = term.number + 1;
         at += limits::RECORD_LENGTH;
     }
-    true
+    at == q.len()
 }
 
 // Whether the last record is a sum record, with a width of 1 to 64 and a constant that fits.
+#[tactic(auto, unfolding(crate::specs::Valid::sum_ok))]
 fn sum_ok(s: &[u8]) -> bool
     ensures { result ≡ sum_ok s.now }
 {
     if s.len() < limits::RECORD_LENGTH {
         return false;
     }
-    if record::kind(s) != 32 {
-        return false;
-    }
-    if record::byte1(s) != 0 {
-        return false;
-    }
-    if record::size(s) != 0 {
-        return false;
-    }
-    if record::spare(s) != 0 {
-        return false;
-    }
     let w = record::width(s);
-    if w < 1 {
-        return false;
-    }
-    if 64 < w {
-        return false;
-    }
-    fits_width(record::literal(s), w)
+    record::kind(s) == FormKind::Sum as u8
+        && record::byte1(s) == 0
+        && record::size(s) == 0
+        && record::spare(s) == 0
+        && 1 <= w
+        && w <= 64
+        && fits_width(record::literal(s), w)
 }
 
 // Whether f is atoms and terms as they must be at width w, within the table's limits.
+#[tactic(auto, unfolding(crate::specs::Valid::front_ok))]
 fn front_ok(f: &[u8], w: u8) -> bool
     ensures { result ≡ front_ok w f.now }
 {
-    if !atoms_ok(f, w) {
-        return false;
-    }
     let found = atom_table(f);
-    let n = found.count;
-    if limits::ATOM_LIMIT_U64 < n {
-        return false;
-    }
-    if limits::TREE_RECORD_LIMIT_U64 < found.records {
-        return false;
-    }
-    let at = found.at;
-    terms_ok(items::rest_from(f, at), w, n)
+    atoms_ok(f, w)
+        && found.count <= limits::ATOM_LIMIT_U64
+        && found.records <= limits::TREE_RECORD_LIMIT_U64
+        && terms_ok(items::rest_from(f, found.at), w, found.count)
 }
 
 // Whether s is a semilinear form.
+#[tactic(auto, unfolding(crate::specs::Valid::is_semilinear))]
 pub fn is_semilinear(s: &[u8]) -> bool
     ensures { result ≡ is_semilinear s.now }
 {
-    if !sum_ok(s) {
-        return false;
-    }
-    let w = record::width(s);
-    front_ok(record::body(s), w)
+    sum_ok(s) && front_ok(record::body(s), record::width(s))
 }
 
 // Whether refusal 1 applies to s.
+#[tactic(auto, unfolding(crate::specs::Valid::length_refused))]
 pub fn length_refused(s: &[u8]) -> bool
     ensures { result ≡ length_refused s.now }
 {
     let n = s.len();
-    if n == 0 {
-        return true;
-    }
-    if limits::FORM_BYTES < n {
-        return true;
-    }
-    record::odd_bytes(n) != 0
+    n == 0 || limits::FORM_BYTES < n || record::odd_bytes(n) != 0
 }
 
-// The lowest refusal of s, 0 where it is accepted.
-pub fn semilinear_refusal(s: &[u8]) -> u64
-    ensures { result ≡ semilinear_refusal s.now }
+// The lowest refusal of s.
+pub fn semilinear_refusal(s: &[u8]) -> Result<(), Refusal>
+    ensures { number_of result ≡ semilinear_refusal s.now }
 {
     if length_refused(s) {
-        return 1;
+        return Err(Refusal::Length);
     }
-    if is_semilinear(s) {
-        return 0;
+    if !is_semilinear(s) {
+        return Err(Refusal::NotSemilinear);
     }
-    10
+    Ok(())
 }

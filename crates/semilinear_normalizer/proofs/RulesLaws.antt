@@ -5,7 +5,7 @@ use Prim.Native.Nat.{ℕ, ◌+◌, ◌≤◌}
 use native.Mathlib.Omega.{arith}
 use native.Mathlib.Decide.{ℕ_discrete}
 use mathlib.Core.List.{List}
-use mathlib.Core.Bool.{Bool, true, false}
+use mathlib.Core.Bool.{true, false}
 use lib.ListN.{length, take}
 use lib.Dec.{lit<}
 use borrow.Author.Tests.{eq-eqb, ne_eqb}
@@ -21,8 +21,10 @@ use Rattle.expr_refusal.proofs.RefusalLaws.{accepted_root, sized_accepted}
 use Rattle.expr.proofs.IsExprLaws.{expr_encodable}
 use Rattle.expr.proofs.AcceptLaws.{accept_expr, expr_accept, size_accepted}
 use Rattle.expr.proofs.ExprValueLaws.{accepted_tree}
+use Rattle.std.specs.Prelude.{Result}
+use Rattle.base.specs.declared.refusal.Refusal.{Refusal}
 use Rattle.semilinear.specs.declared.outcome.Answer.{Answer}
-use Rattle.semilinear.specs.Answers.{GivesForm}
+use Rattle.semilinear.specs.Answers.{in_numbers, GivesForm}
 use Rattle.atom_table.proofs.PassLaws.{gives_same}
 use Rattle.normalizer_laws.specs.Normalize.{normalize_tree, normalize_to_semilinear}
 use Rattle.normalizer_laws.proofs.NormalizeLaws.{tree_collected, file_outcome, normalize_file, file_one, file_two}
@@ -77,15 +79,15 @@ module _ (s : List ℕ) (len : ℕ) where
 
 -- a refusal r that was found and handed over
 pub gives_refusal : (s : List ℕ) (len : ℕ) (u : Tree) {o : Outcome} → o ≡ file_outcome s len u → {n : ℕ}
-    → n ≡ file_refusal s len → (n ≡ 0 → ⊥) → (r : Answer) {e : List ℕ} → GivesForm (refused n) len r e
+    → n ≡ file_refusal s len → (n ≡ 0 → ⊥) → (r : Result Answer Refusal) {e : List ℕ} → GivesForm (refused n) len r e
     → GivesForm o len r e
 gives_refusal s len u is en nz r {e} g =
-    gives_same (file_refuses s len u is (λ z. nz (en ∙ z)) ∙ ap refused (sym en)) len r e g
+    gives_same (file_refuses s len u is (λ z. nz (en ∙ z)) ∙ ap refused (sym en)) len (in_numbers r) e g
 
 -- ---- the tree of a file that is accepted
 
 -- by rules 1
-pub gives_plain : (s : List ℕ) (len : ℕ) {w : ℕ} → w ≡ width s → file_refusal s len ≡ 0 → (r : Answer) {e : List ℕ}
+pub gives_plain : (s : List ℕ) (len : ℕ) {w : ℕ} → w ≡ width s → file_refusal s len ≡ 0 → (r : Result Answer Refusal) {e : List ℕ}
     → GivesForm (descended false w (decode s)) 57360 r e → GivesForm (normalize_to_semilinear s len) len r e
 gives_plain s len ew z r {e} g =
     let p = file_reached s len z in
@@ -94,16 +96,16 @@ gives_plain s len ew z r {e} g =
     rw p.1
     (gives_same
     (file_tree s 57360 (decode s) (normalize_file s 57360) p.0 refl
-    ∙ tree_collected (width s) (decode s) (sym one)) 57360 r e (rw ew at g))
+    ∙ tree_collected (width s) (decode s) (sym one)) 57360 (in_numbers r) e (rw ew at g))
 
 -- by rules 2
-pub gives_ruled : (s : List ℕ) (len : ℕ) {w : ℕ} → w ≡ width s → file_refusal s len ≡ 0 → (r : Answer) {e : List ℕ}
+pub gives_ruled : (s : List ℕ) (len : ℕ) {w : ℕ} → w ≡ width s → file_refusal s len ≡ 0 → (r : Result Answer Refusal) {e : List ℕ}
     → GivesForm (normalize_tree w (ruled_tree true w (decode s))) 57360 r e
     → GivesForm (normalize_ruled true s len) len r e
 gives_ruled s len ew z r {e} g =
     let p = file_reached s len z in
     rw p.1
-    (gives_same (file_tree s 57360 (ruled_tree true (width s) (decode s)) (ruled_file true s 57360) p.0 refl) 57360 r
+    (gives_same (file_tree s 57360 (ruled_tree true (width s) (decode s)) (ruled_file true s 57360) p.0 refl) 57360 (in_numbers r)
     e (rw ew at g))
 
 -- ---- the folded copy
@@ -149,11 +151,11 @@ module _ (w : ℕ) (s : List ℕ) (h : IsBytes s) (ok : tree_refusal w s ≡ 0) 
 
 -- the descent over the copy t turns its Nots
 pub gives_folded : (w : ℕ) → w ≤ 64 → (s : List ℕ) {after : List ℕ} {end : ℕ} → Copied w s after end → {t : List ℕ}
-    → t ≡ take end after → (r : Answer) {e : List ℕ} → GivesForm (descended true w (decode t)) 57360 r e
+    → t ≡ take end after → (r : Result Answer Refusal) {e : List ℕ} → GivesForm (descended true w (decode t)) 57360 r e
     → GivesForm (normalize_tree w (ruled_tree true w (decode s))) 57360 r e
 unfolding ruled_tree
 gives_folded w hw s copy et r {e} g =
     let f : Tree = fold_literals w false (decode s) in
     gives_same
     (tree_collected w (rewrite_nots w f) (sym (descend_two w hw 1 f (lit< tt)))
-    ∙ ap (λ (x : Tree). descended true w x) (sym (ap decode et ∙ copy.tree))) 57360 r e g
+    ∙ ap (λ (x : Tree). descended true w x) (sym (ap decode et ∙ copy.tree))) 57360 (in_numbers r) e g

@@ -20,11 +20,15 @@ use Rattle.record.proofs.SizedLaws.{sized_length}
 use Rattle.expr_refusal.specs.Refusal.{is_expr, tree_refusal}
 use Rattle.expr_refusal.proofs.RefusalLaws.{accepted_root, sized_accepted}
 use Rattle.expr.proofs.AcceptLaws.{accept_expr}
+use Rattle.std.specs.Prelude.{Result}
+use Rattle.base.specs.declared.refusal.Refusal.{Refusal}
 use Rattle.semilinear.specs.declared.outcome.Answer.{Answer}
 use Rattle.base.specs.Outcome.{Outcome, refused}
-use Rattle.semilinear.specs.Answers.{GivesForm}
+use Rattle.semilinear.specs.Answers.{in_numbers, GivesForm}
 use Rattle.atom_table.proofs.PassLaws.{gives_same}
 use Rattle.ways.specs.declared.side.Spot.{Spot}
+use Rattle.std.specs.Prelude.{Option, None, Some}
+use Rattle.descent.specs.declared.collect.Atom.{Atom}
 use Rattle.descent.specs.declared.collect.Descent.{Descent}
 use Rattle.normalizer_laws.specs.Collect.{Collected, nonlinear, linear, join_collected}
 use Rattle.rules_laws.specs.Rules.{rewrite_nots}
@@ -39,7 +43,6 @@ use Rattle.normalizer_laws.specs.Normalize.{collected_outcome}
 use Rattle.normalizer_laws.proofs.EmittedLaws.{GoodCollected, collect_good}
 use Rattle.ways.proofs.MarksLaws.{length_marks}
 use Rattle.ways.proofs.SpanOfLaws.{size_sized}
-use Rattle.descent.proofs.SpotsLaws.{collected_linear, collected_nonlinear}
 
 -- what is collected from nothing on
 from_nothing : (w : ℕ) (hw : w ≤ 64) (x : Collected) → GoodCollected w hw x → join_collected w (linear 0 []) x ≡ x
@@ -59,7 +62,7 @@ descend_good true w hw t e one =
 
 -- the descent as it starts
 abbrev pub nothing : Descent
-nothing = record { linear = true; constant = 0; count = 0 }
+nothing = record { constant = 0; count = 0 }
 
 module _ (w : ℕ) (t : List ℕ) (h : IsBytes t) (ok : tree_refusal w t ≡ 0) where
   abbrev whole : Spot
@@ -91,28 +94,25 @@ module _ (w : ℕ) (t : List ℕ) (h : IsBytes t) (ok : tree_refusal w t ≡ 0) 
             ∙ ap (λ (s : List ℕ). marks_of (decode s)) (sym whole_span);
       }
 
-  pub whole_ready : {words : List ℕ} {d : Descent} → 5 * size t ≤ length words → d ≡ nothing
-      → Ready w (size_of (tree_at t whole)) words d
+  pub whole_ready : {spots : List Atom} {d : Descent} → size t ≤ length spots → d ≡ nothing
+      → Ready w (size_of (tree_at t whole)) spots d
   whole_ready room e =
-      rw e
-      (record {
-        width = width_le;
-        linear = refl;
-        fits = pow_pos w;
-        room = omega (arith, whole_size);
-      })
+      rw e (record { width = width_le; fits = pow_pos w; room = omega (arith, whole_size) })
 
   -- ---- what the descent collects
 
-  module _ (nots : Bool) {d : Descent} (start : d ≡ nothing) {before after : List ℕ} {r : Descent}
-      (all : Collects w t (size_of (tree_at t whole)) (descend nots w 1 (tree_at t whole)) before d after r) where
-    collected_whole : collected_in t after r ≡ descend nots w 1 (decode t)
+  module _ (nots : Bool) {d : Descent} (start : d ≡ nothing) where
+    abbrev All : List Atom → List Atom → Option Descent → Type 0
+    All before after r = Collects w t (size_of (tree_at t whole)) (descend nots w 1 (tree_at t whole)) before d after r
+
+    collected_whole : {before after : List Atom} (r : Option Descent) → All before after r
+        → collected_in t after r ≡ descend nots w 1 (decode t)
     unfolding spots_in
-    collected_whole =
+    collected_whole {before} {after} r all =
         let hw = width_le in
         let two : 2 ^ 1 ≤ 2 ^ w = pow_mono (accepted_root w t ok).width_pos in
         let one : 1 < 2 ^ w = omega arith in
-        let nil : collected_in t before d ≡ linear 0 [] = rw start (collected_linear t before nothing refl) in
+        let nil : linear d.constant (spots_in t before d.count) ≡ linear 0 [] = rw start refl in
         all.collected
         ∙ ap₂ (join_collected w) nil (ap (λ (s : List ℕ). descend nots w 1 (decode s)) whole_span)
         ∙ from_nothing w hw (descend nots w 1 (decode t)) (descend_good nots w hw (decode t) (accept_expr w t h ok) one)
@@ -120,30 +120,32 @@ module _ (w : ℕ) (t : List ℕ) (h : IsBytes t) (ok : tree_refusal w t ≡ 0) 
     abbrev whole_outcome : Outcome
     whole_outcome = collected_outcome w (descend nots w 1 (decode t))
 
-    outcome_of : {x : Collected} → collected_in t after r ≡ x → whole_outcome ≡ collected_outcome w x
-    outcome_of e = ap (collected_outcome w) (sym collected_whole ∙ e)
-
-    pub gives_eight : r.linear ≡ false → {n : ℕ} → n ≡ 57360 → (a : Answer) {e : List ℕ}
+    pub gives_eight : {before after : List Atom} → All before after None → {n : ℕ} → n ≡ 57360 → (a : Result Answer Refusal) {e : List ℕ}
         → GivesForm (refused 8) n a e → GivesForm whole_outcome 57360 a e
-    unfolding collected_outcome
-    gives_eight lin en a {e} g =
-        gives_same (outcome_of (collected_nonlinear t after r lin)) 57360 a e (rw en at g)
+    unfolding collected_outcome collected_in
+    gives_eight all en a {e} g =
+        gives_same (ap (collected_outcome w) (sym (collected_whole None all))) 57360 (in_numbers a) e (rw en at g)
 
-    pub gives_collected : r.linear ≡ true → (a : Answer) {e : List ℕ}
-        → GivesForm (collected_outcome w (linear r.constant (spots_in t after r.count))) 57360 a e
-        → GivesForm whole_outcome 57360 a e
-    gives_collected lin a {e} g =
-        gives_same (outcome_of (collected_linear t after r lin)) 57360 a e g
+    module _ {before after : List Atom} {r : Descent} (all : All before after (Some r)) where
+      pub gives_collected : (a : Result Answer Refusal) {e : List ℕ}
+          → GivesForm (collected_outcome w (linear r.constant (spots_in t after r.count))) 57360 a e
+          → GivesForm whole_outcome 57360 a e
+      unfolding collected_in
+      gives_collected a {e} g =
+          gives_same (ap (collected_outcome w) (sym (collected_whole (Some r) all))) 57360 (in_numbers a) e g
 
-    pub spots_whole : SpotsOk w t after r.count
-    spots_whole = all.spots (λ i l. absurd (omega (arith, ap (λ (x : Descent). x.count) start)))
+      count : d.count ≡ 0
+      count = ap (λ (x : Descent). x.count) start
 
-    pub count_whole : 5 * size t ≤ length before → 5 * r.count ≤ length after
-    count_whole room = omega (arith, all.few, whole_size, all.same_length, ap (λ (x : Descent). x.count) start)
+      pub spots_whole : SpotsOk w t after r.count
+      spots_whole = all.stepped.spots (λ i l. absurd (omega (arith, count)))
 
-    -- eleven words for each record are as many for each spot
-    pub index_whole : {n : ℕ} → min 2816 (11 * size t) ≤ n → min 2816 (11 * r.count) ≤ n
-    index_whole room = omega (arith, all.few, whole_size, ap (λ (x : Descent). x.count) start)
+      pub count_whole : size t ≤ length before → r.count ≤ length after
+      count_whole room = omega (arith, all.stepped.few, whole_size, all.same_length, count)
+
+      -- an entry for each record is one for each spot
+      pub index_whole : {n : ℕ} → min 256 (size t) ≤ n → min 256 r.count ≤ n
+      index_whole room = omega (arith, all.stepped.few, whole_size, count)
 
 -- the records of an accepted span
 pub size_room : (w n : ℕ) (s : List ℕ) → tree_refusal w s ≡ 0 → length s ≤ 16 * n → size s ≤ n

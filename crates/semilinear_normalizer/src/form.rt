@@ -8,8 +8,10 @@ ghost use Rattle.normalizer_laws.specs.Normalize.{collected_outcome};
 ghost use Rattle.base.specs.Limits.{form_bytes};
 
 use atom_table::pass;
-use descent::collect::Descent;
-use register::index;
+use base::limits;
+use base::refusal::Refusal;
+use descent::collect::{Atom, Descent};
+use register::index::Entry;
 use semilinear::outcome::Answer;
 
 // The form of a descent that was linear, written to a slice of 57,360 bytes; or 9. The descent's
@@ -18,26 +20,21 @@ pub fn write_form(
     found: Descent,
     file: &[u8],
     w: u8,
-    spots: &[u64],
+    spots: &[Atom],
     tree: &mut [u8],
-    index: &mut [u64],
+    index: &mut [Entry],
     out: &mut [u8],
-) -> Answer
+) -> Result<Answer, Refusal>
     requires { SpotsRoom w found.count spots.now file.now tree.old index.old
         × (length out.old ≡ form_bytes) }
     ensures { GivesForm (collected_outcome w (linear found.constant
         (spots_in file.now spots.now found.count)))
         form_bytes result out.new }
 {
-    base::write::clear(out);
+    out.fill(0);
     let table = register::register_all(found.count, spots, file, w, tree, index, out);
-    pass::finish(
-        table,
-        index,
-        index::ENTRY_WORDS,
-        found.constant,
-        w,
-        false,
-        out,
-    )
+    // The end of a pass takes coefficients that stand one behind the other.
+    let mut coeffs = [0u64; limits::ATOM_LIMIT];
+    register::put_coeffs(index, &mut coeffs);
+    pass::finish(table, &coeffs, 1, found.constant, w, false, out)
 }

@@ -10,15 +10,16 @@ ghost use Rattle.expr_refusal.specs.Refusal.{tree_refusal};
 ghost use Rattle.semilinear.specs.Answers.{GivesForm};
 ghost use Rattle.normalizer_laws.specs.Normalize.{normalize_tree, normalize_to_semilinear};
 ghost use Rattle.rules_laws.specs.Rules.{ruled_tree, normalize_ruled, normalize_by_rules};
+ghost use Rattle.base.specs.Refusal.{number_of};
 ghost use Rattle.base.specs.Limits.{expr_bytes, form_bytes, record_length};
-ghost use Rattle.semilinear_normalizer.specs.WorkRoom.{WorkRoom, descended};
+ghost use Rattle.semilinear_normalizer.specs.WorkRoom.{WorkRoom, Sizes, descended};
 ghost use Rattle.semilinear_normalizer.specs.Copy.{CopyRoom, Copied};
 ghost use Rattle.semilinear_normalizer.specs.FileRefusal.{file_refusal};
 
 use base::limits;
-use descent::collect;
-use descent::collect::Descent;
-use register::index;
+use base::refusal::Refusal;
+use descent::collect::{Atom, Descent};
+use register::index::Entry;
 use semilinear::outcome;
 use semilinear::outcome::Answer;
 use ways::marks;
@@ -29,35 +30,34 @@ const SHORT_RECORDS: usize = 64;
 
 const SHORT_BYTES: usize = SHORT_RECORDS * limits::RECORD_LENGTH;
 
-// The words of what is collected, for a short and for a long file.
-const SHORT_SPOTS: usize = collect::SPOT_WORDS * SHORT_RECORDS;
+const LONG_RECORDS: usize = limits::EXPR_RECORDS;
 
-const LONG_SPOTS: usize = collect::SPOT_WORDS * limits::EXPR_RECORDS;
+const LONG_BYTES: usize = limits::EXPR_BYTES;
 
 // The bytes of a tree: those of a subtree, a literal and an And.
 const SHORT_TREE: usize = (SHORT_RECORDS + 2) * limits::RECORD_LENGTH;
 
-const LONG_TREE: usize = (limits::EXPR_RECORDS + 2) * limits::RECORD_LENGTH;
+const LONG_TREE: usize = (LONG_RECORDS + 2) * limits::RECORD_LENGTH;
 
-// The words of the index.
-const SHORT_INDEX: usize = index::ENTRY_WORDS * SHORT_RECORDS;
+// The atoms of a table: at most one for each record.
+const SHORT_ATOMS: usize = SHORT_RECORDS;
 
-const LONG_INDEX: usize = index::ENTRY_WORDS * limits::ATOM_LIMIT;
+const LONG_ATOMS: usize = limits::ATOM_LIMIT;
 
 // The form of the accepted expression t, written to a slice of 57,360 bytes; or 8 or 9. With `nots`
-// a Not over an Add, Mul or Neg is turned. All room to work in is lent: a mark and five words for
-// each record, a tree's bytes, and eleven words for each atom, of which there are at most 256 and at
-// most one for each record.
+// a Not over an Add, Mul or Neg is turned. All room to work in is lent: a mark and an atom for
+// each record, a tree's bytes, and an entry for each atom of the table, of which there are at most
+// 256 and at most one for each record.
 pub fn normalize_tree(
     t: &[u8],
     w: u8,
     nots: bool,
     marks: &mut [u8],
-    spots: &mut [u64],
+    spots: &mut [Atom],
     tree: &mut [u8],
-    index: &mut [u64],
+    index: &mut [Entry],
     out: &mut [u8],
-) -> Answer
+) -> Result<Answer, Refusal>
     requires { WorkRoom w t.now marks.old spots.old tree.old index.old out.old }
     ensures { GivesForm (descended nots w (decode t.now)) form_bytes result
         out.new }
@@ -70,40 +70,29 @@ pub fn normalize_tree(
     };
     let n = record::size(t) as usize;
     let found = Descent::start().collect_terms(whole, t, &marks[..n], nots, w as u32, spots);
-    if !found.linear {
-        return outcome::refuse(out, 8);
-    }
+    let Some(found) = found else {
+        return outcome::refuse(out, Refusal::NotLinear);
+    };
     form::write_form(found, t, w, spots, tree, index, out)
 }
 
-// The same for a file of at most 64 records. A short file pays for short arrays: clearing the long
-// ones would add about as much again.
-fn normalize_short(t: &[u8], w: u8, nots: bool, out: &mut [u8]) -> Answer
-    requires { (tree_refusal w t.now ≡ 0) × (length t.now ≤ 64 * record_length)
-        × (length out.old ≡ form_bytes) }
+// The same for a file of at most R records, with room for a tree of T bytes and a table of A atoms. A
+// short file pays for short arrays: clearing the long ones would add about as much again.
+fn normalize_sized<const R: usize, const T: usize, const A: usize>(
+    t: &[u8],
+    w: u8,
+    nots: bool,
+    out: &mut [u8],
+) -> Result<Answer, Refusal>
+    requires { (tree_refusal w t.now ≡ 0) × (length t.now ≤ R * record_length)
+        × (length out.old ≡ form_bytes) × Sizes R T A }
     ensures { GivesForm (descended nots w (decode t.now)) form_bytes result
         out.new }
 {
-    let mut marks = [0u8; SHORT_RECORDS];
-    let mut spots = [0u64; SHORT_SPOTS];
-    let mut tree = [0u8; SHORT_TREE];
-    let mut index = [0u64; SHORT_INDEX];
-    normalize_tree(
-        t, w, nots, &mut marks, &mut spots, &mut tree, &mut index, out,
-    )
-}
-
-// The same for a file of at most 1,024 records.
-fn normalize_long(t: &[u8], w: u8, nots: bool, out: &mut [u8]) -> Answer
-    requires { (tree_refusal w t.now ≡ 0) × (length t.now ≤ expr_bytes)
-        × (length out.old ≡ form_bytes) }
-    ensures { GivesForm (descended nots w (decode t.now)) form_bytes result
-        out.new }
-{
-    let mut marks = [0u8; limits::EXPR_RECORDS];
-    let mut spots = [0u64; LONG_SPOTS];
-    let mut tree = [0u8; LONG_TREE];
-    let mut index = [0u64; LONG_INDEX];
+    let mut marks = [0u8; R];
+    let mut spots = [Atom::NONE; R];
+    let mut tree = [0u8; T];
+    let mut index = [Entry::NONE; A];
     normalize_tree(
         t, w, nots, &mut marks, &mut spots, &mut tree, &mut index, out,
     )
@@ -111,16 +100,16 @@ fn normalize_long(t: &[u8], w: u8, nots: bool, out: &mut [u8]) -> Answer
 
 // The same in arrays by the length of the file. It is called where a copy is in the frame, and has
 // the arrays in a frame of its own.
-fn normalize_file(t: &[u8], w: u8, nots: bool, out: &mut [u8]) -> Answer
+fn normalize_file(t: &[u8], w: u8, nots: bool, out: &mut [u8]) -> Result<Answer, Refusal>
     requires { (tree_refusal w t.now ≡ 0) × (length t.now ≤ expr_bytes)
         × (length out.old ≡ form_bytes) }
     ensures { GivesForm (descended nots w (decode t.now)) form_bytes result
         out.new }
 {
     if t.len() <= SHORT_BYTES {
-        return normalize_short(t, w, nots, out);
+        return normalize_sized::<SHORT_RECORDS, SHORT_TREE, SHORT_ATOMS>(t, w, nots, out);
     }
-    normalize_long(t, w, nots, out)
+    normalize_sized::<LONG_RECORDS, LONG_TREE, LONG_ATOMS>(t, w, nots, out)
 }
 
 // Puts a copy of the accepted expression t into `folded`, with its variable-free subtrees below a
@@ -134,83 +123,68 @@ fn fold_file(t: &[u8], w: u8, marks: &mut [u8], folded: &mut [u8]) -> usize
     literals::fold_literals(t, &marks[..n], false, w, folded, 0)
 }
 
-// The form of the accepted expression t of at most 64 records by rules 2: that of a copy with its
+// The form of the accepted expression t of at most B bytes by rules 2: that of a copy with its
 // literals folded, of which the descent turns the Nots. The marks for the copy stand in the result
 // slice, all of which is written afterwards.
-fn folded_short(t: &[u8], w: u8, out: &mut [u8]) -> Answer
-    requires { (tree_refusal w t.now ≡ 0) × (length t.now ≤ 64 * record_length)
-        × (length out.old ≡ form_bytes) }
+fn folded_sized<const B: usize>(t: &[u8], w: u8, out: &mut [u8]) -> Result<Answer, Refusal>
+    requires { (tree_refusal w t.now ≡ 0) × (length t.now ≤ B)
+        × (length out.old ≡ form_bytes) × (B ≤ expr_bytes) }
     ensures { GivesForm (normalize_tree w (ruled_tree true w (decode t.now)))
         form_bytes result out.new }
 {
-    let mut folded = [0u8; SHORT_BYTES];
+    let mut folded = [0u8; B];
     let end = fold_file(t, w, out, &mut folded);
     normalize_file(&folded[..end], w, true, out)
 }
 
-// The same for at most 1,024 records.
-fn folded_long(t: &[u8], w: u8, out: &mut [u8]) -> Answer
-    requires { (tree_refusal w t.now ≡ 0) × (length t.now ≤ expr_bytes)
-        × (length out.old ≡ form_bytes) }
-    ensures { GivesForm (normalize_tree w (ruled_tree true w (decode t.now)))
-        form_bytes result out.new }
+// Refusals 1 to 6 of the expression t beside a result slice of so many bytes, the first that applies.
+fn file_refusal(t: &[u8], length: usize) -> Result<(), Refusal>
+    ensures { number_of result ≡ file_refusal t.now length }
 {
-    let mut folded = [0u8; limits::EXPR_BYTES];
-    let end = fold_file(t, w, out, &mut folded);
-    normalize_file(&folded[..end], w, true, out)
-}
-
-// Refusals 1 to 6 of the expression t beside a result slice of so many bytes, the first that applies;
-// 0 where none does.
-fn file_refusal(t: &[u8], length: usize) -> u64
-    ensures { result ≡ file_refusal t.now length }
-{
-    let number = expr_refusal::expr_refusal(t);
-    if number == 1 {
-        return 1;
+    let own = expr_refusal::expr_refusal(t);
+    if own == Err(Refusal::Length) {
+        return own;
     }
     if length != limits::FORM_BYTES {
-        return 2;
+        return Err(Refusal::ResultLength);
     }
-    number
+    own
 }
 
 // The semilinear form of the expression t, written to out; or a refusal: 1 to 6, 8 or 9.
 // Corresponds to `normalize_to_semilinear`.
-pub fn normalize_to_semilinear(t: &[u8], out: &mut [u8]) -> Answer
+pub fn normalize_to_semilinear(t: &[u8], out: &mut [u8]) -> Result<Answer, Refusal>
     ensures { GivesForm (normalize_to_semilinear t.now (length out.old))
         (length out.old) result out.new }
 {
-    let number = file_refusal(t, out.len());
-    if number != 0 {
-        return outcome::refuse(out, number);
+    if let Err(refusal) = file_refusal(t, out.len()) {
+        return outcome::refuse(out, refusal);
     }
     let w = record::width(t);
     if t.len() <= SHORT_BYTES {
-        return normalize_short(t, w, false, out);
+        return normalize_sized::<SHORT_RECORDS, SHORT_TREE, SHORT_ATOMS>(t, w, false, out);
     }
-    normalize_long(t, w, false, out)
+    normalize_sized::<LONG_RECORDS, LONG_TREE, LONG_ATOMS>(t, w, false, out)
 }
 
 // The same by rules 2.
-fn normalize_by_two(t: &[u8], out: &mut [u8]) -> Answer
+fn normalize_by_two(t: &[u8], out: &mut [u8]) -> Result<Answer, Refusal>
     ensures { GivesForm (normalize_ruled true t.now (length out.old))
         (length out.old) result out.new }
 {
-    let number = file_refusal(t, out.len());
-    if number != 0 {
-        return outcome::refuse(out, number);
+    if let Err(refusal) = file_refusal(t, out.len()) {
+        return outcome::refuse(out, refusal);
     }
     let w = record::width(t);
     if t.len() <= SHORT_BYTES {
-        return folded_short(t, w, out);
+        return folded_sized::<SHORT_BYTES>(t, w, out);
     }
-    folded_long(t, w, out)
+    folded_sized::<LONG_BYTES>(t, w, out)
 }
 
 // The semilinear form of the expression t by the rules that the caller names, 1 or 2, written to
 // out; or a refusal: 18 for other rules, then 1 to 6, 8 or 9.
-pub fn normalize_by_rules(rules: u64, t: &[u8], out: &mut [u8]) -> Answer
+pub fn normalize_by_rules(rules: u64, t: &[u8], out: &mut [u8]) -> Result<Answer, Refusal>
     ensures { GivesForm (normalize_by_rules rules t.now (length out.old))
         (length out.old) result out.new }
 {
@@ -220,5 +194,5 @@ pub fn normalize_by_rules(rules: u64, t: &[u8], out: &mut [u8]) -> Answer
     if rules == 2 {
         return normalize_by_two(t, out);
     }
-    outcome::refuse(out, 18)
+    outcome::refuse(out, Refusal::Rules)
 }

@@ -2,9 +2,9 @@
 use mathlib.Core.Path.{◌≡◌, refl, ap, ap₂, sym, ◌∙◌}
 use Prim.Native.Nat.{ℕ, ◌+◌, ◌*◌, ◌%◌, ◌^◌, ◌≤◌, ◌<◌}
 use native.Mathlib.Omega.{arith}
-use native.Mathlib.Nat.{mod-lt, mod-eq_of_lt, add-zero, zero-mul, mod-add-mod, add-mod-mod, add_assoc}
+use native.Mathlib.Nat.{mod-lt, mod-eq_of_lt, add-zero, zero-add, zero-mul, mod-add-mod, add-mod-mod, add_assoc}
 use lib.Pow.{pow_pos}
-use mathlib.Core.List.{List, []}
+use mathlib.Core.List.{List}
 use mathlib.Core.Bool.{true, false}
 use lib.ListN.{length, drop, length-drop}
 use lib.Seq.{drop-drop}
@@ -12,76 +12,68 @@ use Rattle.arith.specs.Width.{mod_add, mod_mul}
 use Rattle.arith.proofs.WidthLaws.{mod_add_lem, mod_mul_lem}
 use Rattle.record.specs.Decode.{decode}
 use Rattle.expr.specs.Value.{value}
-use Rattle.semilinear_value.specs.declared.Running.{Running}
+use Rattle.std.specs.Prelude.{None, Some}
+use Rattle.semilinear.specs.declared.items.FormRow.{FormRow}
+use Rattle.semilinear.specs.Atoms.{RowsLeft, FrontRow}
+use Rattle.semilinear.proofs.WalkLaws.{rows_left, left_none, left_row, left_ok, row_coeff_none, row_coeff_some}
 use Rattle.semilinear.specs.Form.{Row, sum_rows}
-use Rattle.semilinear.specs.Items.{is_atom, front_number, front_word, atom_length, tree_span, after_atom, after_atoms}
+use Rattle.semilinear.specs.Items.{is_atom, front_number, front_word, atom_length, tree_span, after_atom}
 use Rattle.semilinear.specs.Valid.{atoms_ok}
-use Rattle.semilinear.specs.DecodeForm.{has_term, coeff_at, after_term, row_at, rows_of}
-use Rattle.semilinear.specs.Scan.{AtomsEnd}
-use Rattle.semilinear_value.specs.Running.{RowPassed, RowAdded}
-use Rattle.semilinear.proofs.ItemsLaws.{atom_room, rows_atom, rows_end, term_big, has_term_is}
+use Rattle.semilinear.specs.DecodeForm.{has_term, coeff_at, row_at}
+use Rattle.semilinear_value.specs.Running.{RowPassed}
+use Rattle.semilinear.proofs.ItemsLaws.{atom_room, term_big, has_term_is}
 use Rattle.semilinear.proofs.ItemsLaws.{after_some, after_none}
-use Rattle.semilinear.proofs.ValidLaws.{later_atoms_ok}
 
--- the rows of the atoms and terms that are left
-abbrev left : List ℕ → Running → List Row
-left f x = rows_of x.number (drop x.at f) (drop x.next f)
+-- the sum so far and the rows left give the whole
+pub record Summed (w : ℕ) (vars : List ℕ) (total sum : ℕ) (s : RowsLeft) : Type 0 where
+  pub fits : sum < 2 ^ w
+  pub atoms : atoms_ok w s.atoms ≡ true
+  pub value : (sum + sum_rows w vars (rows_left s)) % 2 ^ w ≡ total
 
-pub record Summed (w : ℕ) (vars f : List ℕ) (total : ℕ) (x : Running) : Type 0 where
-  pub inside : x.at ≤ length f
-  pub terms_inside : x.next ≤ length f
-  pub number_le : x.number ≤ x.at
-  pub fits : x.sum < 2 ^ w
-  pub atoms : atoms_ok w (drop x.at f) ≡ true
-  pub value : (x.sum + sum_rows w vars (left f x)) % 2 ^ w ≡ total
-
-module _ (w : ℕ) (vars f : List ℕ) where
-  pub summed_start : (terms constant : ℕ) → constant < 2 ^ w → atoms_ok w f ≡ true → AtomsEnd f terms
-      → Summed w vars f ((constant + sum_rows w vars (rows_of 0 f (after_atoms f))) % 2 ^ w)
-      (record { at = 0; next = terms; number = 0; sum = constant })
-  summed_start terms constant h ok end =
-      record {
-        inside = omega arith;
-        terms_inside = end.inside;
-        number_le = omega arith;
-        fits = h;
-        atoms = ok;
-        value =
-            ap (λ (q : List ℕ). (constant + sum_rows w vars (rows_of 0 f q)) % 2 ^ w) end.rest;
-      }
-
-  pub summed_end : (total : ℕ) (x : Running) → Summed w vars f total x → is_atom (drop x.at f) ≡ false
-      → x.sum ≡ total
+module _ (w : ℕ) (vars : List ℕ) where
+  pub summed_end : (total sum : ℕ) (s : RowsLeft) → Summed w vars total sum s → is_atom s.atoms ≡ false → sum ≡ total
   unfolding sum_rows
-  summed_end total x h e =
-      let none : left f x ≡ [] = rows_end x.number (drop x.at f) (drop x.next f) e in
-      let all : (x.sum + 0) % 2 ^ w ≡ total =
-      ap (λ (l : List Row). (x.sum + sum_rows w vars l) % 2 ^ w) (sym none) ∙ h.value in
-      sym (mod-eq_of_lt h.fits) ∙ ap (λ (n : ℕ). n % 2 ^ w) (sym (add-zero x.sum)) ∙ all
+  summed_end total sum s h e =
+      let all : (sum + 0) % 2 ^ w ≡ total =
+      ap (λ (l : List Row). (sum + sum_rows w vars l) % 2 ^ w) (sym (left_none s e)) ∙ h.value in
+      sym (mod-eq_of_lt h.fits) ∙ ap (λ (n : ℕ). n % 2 ^ w) (sym (add-zero sum)) ∙ all
 
-  pub summed_row : (total : ℕ) (x y : Running) → Summed w vars f total x → is_atom (drop x.at f) ≡ true
-      → RowAdded w vars f x y → Summed w vars f total y
-  unfolding sum_rows row_at
-  summed_row total x y h e a =
-      let r : List ℕ = drop x.at f in
-      let q : List ℕ = drop x.next f in
-      let c : ℕ = coeff_at x.number q * value w vars (decode (tree_span r)) in
-      let s : ℕ = sum_rows w vars (rows_of (x.number + 1) (after_atom r) (after_term x.number q)) in
-      let all : (x.sum + (c + s)) % 2 ^ w ≡ total =
-      ap (λ (l : List Row). (x.sum + sum_rows w vars l) % 2 ^ w) (sym (rows_atom x.number r q e)) ∙ h.value in
-      let same : sum_rows w vars (left f y) ≡ s = rw (a.passed.next_number, a.passed.rest, a.passed.terms) in
-      record {
-        inside = a.passed.inside;
-        terms_inside = a.passed.terms_inside;
-        number_le = omega (arith, h.number_le, a.passed.later, a.passed.next_number);
-        fits = rw a.sum (mod-lt _ (pow_pos w));
-        atoms = rw a.passed.rest (later_atoms_ok w r h.atoms e);
-        value =
-            ap₂ (λ (n m : ℕ). (n + m) % 2 ^ w) a.sum same
-            ∙ mod-add-mod (x.sum + c) (2 ^ w) s
-            ∙ ap (λ (n : ℕ). n % 2 ^ w) (add_assoc x.sum c s)
-            ∙ all;
-      }
+  module _ (total sum : ℕ) {s t : RowsLeft} {x : FormRow} (h : Summed w vars total sum s) (g : FrontRow s x t) where
+    rest : ℕ
+    rest = sum_rows w vars (rows_left t)
+
+    all : (n : ℕ) → coeff_at s.number s.terms * value w vars (decode (tree_span s.atoms)) ≡ n
+        → (sum + (n + rest)) % 2 ^ w ≡ total
+    unfolding sum_rows row_at coeff_at value rest
+    all n e =
+        ap (λ (k : ℕ). (sum + (k + rest)) % 2 ^ w) (sym e)
+        ∙ ap (λ (l : List Row). (sum + sum_rows w vars l) % 2 ^ w) (sym (left_row g))
+        ∙ h.value
+
+    pub summed_without : x.coeff ≡ None → Summed w vars total sum t
+    unfolding rest
+    summed_without e =
+        record {
+          fits = h.fits;
+          atoms = left_ok g w h.atoms;
+          value = ap (λ (k : ℕ). (sum + k) % 2 ^ w) (sym (zero-add rest)) ∙ all 0 (ap (λ (k : ℕ). k * value w vars (decode (tree_span s.atoms))) (row_coeff_none g e) ∙ zero-mul _);
+        }
+
+    pub summed_with : (c : ℕ) → x.coeff ≡ Some c → (y : ℕ)
+        → y ≡ (sum + c * value w vars (decode x.atom.tree.now)) % 2 ^ w → Summed w vars total y t
+    unfolding rest
+    summed_with c e y ey =
+        let n : ℕ = c * value w vars (decode x.atom.tree.now) in
+        record {
+          fits = rw ey (mod-lt _ (pow_pos w));
+          atoms = left_ok g w h.atoms;
+          value =
+              ap (λ (k : ℕ). (k + rest) % 2 ^ w) ey
+              ∙ mod-add-mod (sum + n) (2 ^ w) rest
+              ∙ ap (λ (k : ℕ). k % 2 ^ w) (add_assoc sum n rest)
+              ∙ all n
+              (ap₂ (λ (k : ℕ) (l : List ℕ). k * value w vars (decode l)) (row_coeff_some g c e) (sym g.atom.tree));
+        }
 
 -- ---- one turn, by whether the atom has a term
 module _ (f : List ℕ) (at next number : ℕ) (ha : at ≤ length f) (hn : next ≤ length f) (e : is_atom (drop at f) ≡ true)

@@ -1,12 +1,9 @@
 -- What one turn of a walk over atoms and terms, side by side, asks and does: of the walk that adds and of the one that
 -- copies.
-use Rattle.std.specs.Prelude.{◌≡◌, ℕ, ◌+◌, ◌*◌, ◌%◌, ◌^◌, ◌<◌, ◌≤◌, true, List, length, drop}
-use Rattle.record.specs.Decode.{decode}
-use Rattle.expr.specs.Value.{value}
-use Rattle.semilinear_value.specs.declared.Running.{Running}
-use Rattle.semilinear.specs.Items.{is_atom, tree_span, after_atom}
+use Rattle.std.specs.Prelude.{◌≡◌, ℕ, ◌+◌, ◌^◌, ◌<◌, ◌≤◌, true, List, length, drop}
+use Rattle.semilinear.specs.Items.{is_atom, after_atom}
 use Rattle.semilinear.specs.Valid.{atoms_ok}
-use Rattle.semilinear.specs.DecodeForm.{coeff_at, after_term}
+use Rattle.semilinear.specs.DecodeForm.{after_term}
 use Rattle.semilinear.specs.Scan.{AtomsEnd}
 use Rattle.base.specs.Limits.{record_length}
 
@@ -19,12 +16,6 @@ pub record AtRow (w : ℕ) (f : List ℕ) (at next : ℕ) : Type 0 where
   pub terms_inside : next ≤ length f
   pub atom : is_atom (drop at f) ≡ true
   pub atoms_ok_lem : atoms_ok w (drop at f) ≡ true
-
--- x is before an atom, and its sum is one of w bits
-pub record AddReady (w : ℕ) (f : List ℕ) (x : Running) : Type 0 where
-  pub row : AtRow w f x.at x.next
-  pub number_le : x.number ≤ x.at
-  pub fits : x.sum < 2 ^ w
 
 -- f is atoms as they must be and, from `terms` on, terms; the constant is one of w bits
 pub record SumReady (w : ℕ) (f : List ℕ) (terms constant : ℕ) : Type 0 where
@@ -43,10 +34,3 @@ pub record RowPassed (f : List ℕ) (at next number at' next' number' : ℕ) : T
   pub terms_inside : next' ≤ length f
   pub terms : drop next' f ≡ after_term number (drop next f)
   pub next_number : number' ≡ number + 1
-
--- y is x after the atom at x.at, whose coefficient times its value is added
-pub record RowAdded (w : ℕ) (vars f : List ℕ) (x y : Running) : Type 0 where
-  pub passed : RowPassed f x.at x.next x.number y.at y.next y.number
-  pub sum : y.sum
-      ≡ (x.sum
-      + coeff_at x.number (drop x.next f) * value w vars (decode (tree_span (drop x.at f)))) % 2 ^ w

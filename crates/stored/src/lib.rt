@@ -3,6 +3,8 @@
 
 pub mod answer;
 pub mod entry;
+pub mod kind;
 pub mod report;
 pub mod result;
+pub mod tally;
 pub mod words;

@@ -11,13 +11,12 @@ use lib.Bits.{bit_and}
 use lib.Dec.{eqb}
 use lib.Pow.{pow_mono}
 use borrow.Author.Tests.{eqb-true}
-use Rattle.arith.specs.Congruence.{Eqm}
-use Rattle.arith.proofs.CongruenceLaws.{eqm_of_eq, eqm_refl, eqm_trans, eqm_add}
+use Rattle.arith.proofs.CongruenceLaws.{eqm_of_eq}
 use Rattle.arith.proofs.MaskLaws.{and_full}
 use Rattle.record.specs.Tree.{Tree}
 use Rattle.expr.specs.Value.{value}
 use Rattle.expr.proofs.ValueLaws.{value_lt}
-use Rattle.semilinear.specs.Form.{Row, sum_rows, rows_ok}
+use Rattle.semilinear.specs.Form.{Row, rows_ok}
 use Rattle.made.specs.Rows.{create_masked, add_coeff}
 use Rattle.semilinear.proofs.AtomLaws.{Atom, atom_tree_lem}
 use Rattle.group.proofs.WorkLaws.{row_value, Added, added_refl, added_trans, added_eqm, Grown, grown_added}

@@ -16,7 +16,7 @@ use Rattle.base.specs.Loop.{for_in}
 use Rattle.base.proofs.BoolLaws.{and_true}
 use Rattle.base.proofs.LoopLaws.{for_ind, for_keeps}
 use Rattle.group.specs.declared.Group.{Group}
-use Rattle.group.specs.Group.{at, is_live}
+use Rattle.group.specs.Group.{Entry, used, at, is_live}
 use Rattle.group.proofs.TotalLaws.{total}
 use Rattle.structure_laws.specs.Carried.{Carried, bit_coeff, carry, carry_at, carried_of}
 use Rattle.structure_laws.proofs.BitSumLaws.{and_above, low_total, low_total_none, low_total_next}
@@ -115,61 +115,61 @@ module _ (x c p : ℕ) where
 
 -- ---- all bits
 
-module _ (w : ℕ) (hw : w ≤ 64) (x : ℕ) (coeffs masks : List ℕ) (len : ℕ) where
+module _ (w : ℕ) (hw : w ≤ 64) (x : ℕ) (es : List Entry) where
   -- after the bits below p
   record CarriedTo (p : ℕ) (l : List Carried) : Type 0 where
-    sum : Eqm (2 ^ w) (carried_sum x l) (low_total x coeffs masks len p)
+    sum : Eqm (2 ^ w) (carried_sum x l) (low_total x es p)
     below : bits_below (2 ^ p) l ≡ true
 
-  carry_turn : (p : ℕ) (l : List Carried) → CarriedTo p l → CarriedTo (p + 1) (carry_at w coeffs masks len p l)
+  carry_turn : (p : ℕ) (l : List Carried) → CarriedTo p l → CarriedTo (p + 1) (carry_at w es p l)
   unfolding carry_at
-  carry_turn p l h = go (eqb (bit_coeff w coeffs masks len p) 0) refl
+  carry_turn p l h = go (eqb (bit_coeff w es p) 0) refl
     where
       v : ℕ
       v = bit_and x (2 ^ p)
 
-      next : Eqm (2 ^ w) (bit_coeff w coeffs masks len p * v + carried_sum x l) (low_total x coeffs masks len (p + 1))
+      next : Eqm (2 ^ w) (bit_coeff w es p * v + carried_sum x l) (low_total x es (p + 1))
       next =
-          eqm_trans (eqm_add (eqm_mul_r v (bit_coeff_lem w hw coeffs masks len p)) h.sum)
-          (eqm_of_eq (omega (arith, low_total_next x coeffs masks len p)))
+          eqm_trans (eqm_add (eqm_mul_r v (bit_coeff_lem w hw es p)) h.sum)
+          (eqm_of_eq (omega (arith, low_total_next x es p)))
 
-      go : (b : Bool) → eqb (bit_coeff w coeffs masks len p) 0 ≡ b
-          → CarriedTo (p + 1) (when b (λ _. l) (λ _. carry (bit_coeff w coeffs masks len p) p l))
+      go : (b : Bool) → eqb (bit_coeff w es p) 0 ≡ b
+          → CarriedTo (p + 1) (when b (λ _. l) (λ _. carry (bit_coeff w es p) p l))
       go true e =
-          let none = ap (λ (n : ℕ). n * v) (eqb-true (bit_coeff w coeffs masks len p) 0 e) in
+          let none = ap (λ (n : ℕ). n * v) (eqb-true (bit_coeff w es p) 0 e) in
           record {
             sum = eqm_trans (eqm_of_eq (omega (arith, none))) next;
             below =
                 below_mono (2 ^ p) (2 ^ (p + 1)) (omega (arith, pow_next x 0 p)) l h.below;
           }
       go false e =
-          let j = carry_joins x (bit_coeff w coeffs masks len p) p l h.below in
+          let j = carry_joins x (bit_coeff w es p) p l h.below in
           record { sum = eqm_trans (eqm_of_eq j.sum) next; below = j.below }
 
   carry_start : CarriedTo 0 []
   unfolding carried_sum bits_below
-  carry_start = record { sum = eqm_of_eq (sym (low_total_none x coeffs masks len)); below = refl }
+  carry_start = record { sum = eqm_of_eq (sym (low_total_none x es)); below = refl }
 
-  carried_to_lem : (p : ℕ) → CarriedTo p (for_in (carry_at w coeffs masks len) 0 p [])
+  carried_to_lem : (p : ℕ) → CarriedTo p (for_in (carry_at w es) 0 p [])
   carried_to_lem p =
-      for_ind CarriedTo (carry_at w coeffs masks len) 0 [] p (omega arith) (λ k l a u h. carry_turn k l h) carry_start
+      for_ind CarriedTo (carry_at w es) 0 [] p (omega arith) (λ k l a u h. carry_turn k l h) carry_start
 
-  pub below_to : (p : ℕ) → bits_below (2 ^ p) (for_in (carry_at w coeffs masks len) 0 p []) ≡ true
+  pub below_to : (p : ℕ) → bits_below (2 ^ p) (for_in (carry_at w es) 0 p []) ≡ true
   below_to p = (carried_to_lem p).below
 
-  carried_all : CarriedTo w (carried_of w coeffs masks len)
+  carried_all : CarriedTo w (carried_of w es)
   unfolding carried_of
   carried_all = carried_to_lem w
 
-  pub carried_below : bits_below (2 ^ w) (carried_of w coeffs masks len) ≡ true
+  pub carried_below : bits_below (2 ^ w) (carried_of w es) ≡ true
   carried_below = carried_all.below
 
 -- the bits come to what a group of live entries comes to
 pub carried_sum_lem : (w : ℕ) → w ≤ 64 → (x : ℕ) (g : Group) → ((k : ℕ) → k < g.len → is_live (at g k) ≡ true)
     → ((k : ℕ) → k < g.len → (at g k).mask < 2 ^ w)
-    → Eqm (2 ^ w) (carried_sum x (carried_of w g.coeffs g.masks g.len)) (total x g)
+    → Eqm (2 ^ w) (carried_sum x (carried_of w (used g))) (total x g)
 carried_sum_lem w hw x g live small =
-    eqm_trans (carried_all w hw x g.coeffs g.masks g.len).sum (eqm_of_eq (low_total_all x g w live small))
+    eqm_trans (carried_all w hw x (used g)).sum (eqm_of_eq (low_total_all x g w live small))
 
 -- ---- the coefficients
 
@@ -201,16 +201,16 @@ module _ (n c p : ℕ) (ne : eqb c 0 ≡ false) (lt : c < n) where
       go one ok below false false = simp (one, below)
 
 -- each coefficient is one that a term may have
-pub carried_fits : (w : ℕ) → w ≤ 64 → (coeffs masks : List ℕ) (len : ℕ)
-    → coeffs_fit (2 ^ w) (carried_of w coeffs masks len) ≡ true
+pub carried_fits : (w : ℕ) → w ≤ 64 → (es : List Entry)
+    → coeffs_fit (2 ^ w) (carried_of w es) ≡ true
 unfolding carried_of carry_at coeffs_fit
-carried_fits w hw coeffs masks len =
-    for_keeps (λ l. coeffs_fit (2 ^ w) l ≡ true) (carry_at w coeffs masks len) 0 w []
-    (λ p l a u h. turn p l h (eqb (bit_coeff w coeffs masks len p) 0) refl) refl
+carried_fits w hw es =
+    for_keeps (λ l. coeffs_fit (2 ^ w) l ≡ true) (carry_at w es) 0 w []
+    (λ p l a u h. turn p l h (eqb (bit_coeff w es p) 0) refl) refl
   where
     turn : (p : ℕ) (l : List Carried) → coeffs_fit (2 ^ w) l ≡ true → (b : Bool)
-        → eqb (bit_coeff w coeffs masks len p) 0 ≡ b
-        → coeffs_fit (2 ^ w) (when b (λ _. l) (λ _. carry (bit_coeff w coeffs masks len p) p l)) ≡ true
+        → eqb (bit_coeff w es p) 0 ≡ b
+        → coeffs_fit (2 ^ w) (when b (λ _. l) (λ _. carry (bit_coeff w es p) p l)) ≡ true
     turn p l h true e = h
     turn p l h false e =
-        carry_fits (2 ^ w) (bit_coeff w coeffs masks len p) p e (bit_coeff_lt w hw coeffs masks len p) l h
+        carry_fits (2 ^ w) (bit_coeff w es p) p e (bit_coeff_lt w hw es p) l h

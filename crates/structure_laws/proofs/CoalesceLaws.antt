@@ -15,7 +15,7 @@ use Rattle.expr.specs.Hash.{structural_hash}
 use Rattle.expr.specs.Value.{value}
 use Rattle.group.specs.declared.Group.{Group}
 use Rattle.semilinear.specs.Form.{Row, Form, sum_rows, form_value, rows_ok, fits_table, valid_form, new_rows}
-use Rattle.group.specs.Group.{at, empty_group, group_of, settle}
+use Rattle.group.specs.Group.{used, at, empty_group, group_of, settle}
 use Rattle.views.specs.Grouping.{variable_basis, bases_of, ungrouped}
 use Rattle.semilinear.proofs.FormLaws.{form_parts}
 use Rattle.semilinear.proofs.AtomLaws.{Atom}
@@ -42,7 +42,7 @@ module _ (w : ℕ) (hw : w ≤ 64) (vars : List ℕ) (before : List Row)
   group_added b hb g fresh rows f = go (ltb g.len 2 || leb g.len (length own))
     where
       own : List Carried
-      own = carried_of w g.coeffs g.masks g.len
+      own = carried_of w (used g)
 
       v : ℕ
       v = value w vars b
@@ -56,7 +56,7 @@ module _ (w : ℕ) (hw : w ≤ 64) (vars : List ℕ) (before : List Row)
       go true = added_settled w hw vars b before g fresh rows f
       go false =
           added_eqm w vars same
-          (added_carried w hw vars b hb own (carried_below w hw v g.coeffs g.masks g.len) rows (f.ok ok))
+          (added_carried w hw vars b hb own (carried_below w hw v (used g)) rows (f.ok ok))
 
   -- all groups
   pub all_added : length before ≤ 256 → (l : List Tree) (n : ℕ) → rising_from n l ≡ true

@@ -4,11 +4,12 @@ use mathlib.Core.Path.{◌≡◌, sym, ap, ◌∙◌}
 use Prim.Native.Nat.{ℕ, ◌*◌, ◌≤◌, ◌<◌}
 use native.Mathlib.Omega.{arith}
 use mathlib.Core.List.{List}
-use mathlib.Core.Bool.{true, not}
-use lib.Dec.{eqb}
+use mathlib.Core.Bool.{true}
 use Rattle.arith.proofs.CongruenceLaws.{eqm_of_eq}
 use Rattle.record.specs.Tree.{Tree}
 use Rattle.expr.specs.Value.{value}
+use Rattle.entries.specs.declared.Mark.TheVariants.{Live}
+use Rattle.entries.specs.Marks.{not_consumed}
 use Rattle.group.specs.declared.Group.{Group}
 use Rattle.semilinear.specs.Form.{Row}
 use Rattle.group.specs.Group.{Entry, at, is_live, settle}
@@ -18,9 +19,9 @@ use Rattle.group.proofs.GroupOfLaws.{Fresh}
 use Rattle.group.proofs.WorkLaws.{Extends, Added, added_eqm}
 
 -- an entry without a mark is live
-pub live_fresh : (e : Entry) → e.mark ≡ 0 → is_live e ≡ true
+pub live_fresh : (e : Entry) → e.mark ≡ Live → is_live e ≡ true
 unfolding is_live
-live_fresh e h = ap (λ (n : ℕ). not (eqb n 1)) h
+live_fresh e h = ap not_consumed h
 
 module _ (w : ℕ) (hw : w ≤ 64) (vars : List ℕ) (b : Tree) (before : List Row) (g : Group)
     (fresh : (k : ℕ) → k < g.len → Fresh w vars b before (at g k)) where

@@ -13,7 +13,7 @@ use Rattle.arith.proofs.CongruenceLaws.{eqm_of_eq, eqm_refl, eqm_trans, eqm_add,
 use Rattle.record.specs.Tree.{Tree}
 use Rattle.group.specs.declared.Group.{Group}
 use Rattle.semilinear.specs.Form.{Row}
-use Rattle.entries.specs.Marks.{rewritten_mark}
+use Rattle.entries.specs.declared.Mark.TheVariants.{Rewritten}
 use Rattle.group.specs.Group.{Entry, at, put_entry, is_live}
 use Rattle.group.proofs.EntryLaws.{Sized, sized_put, at_put, at_put_other}
 use Rattle.group.proofs.TotalLaws.{sum_to, sum_ext, sum_but_one, len_put}
@@ -24,7 +24,7 @@ use Rattle.structure_laws.specs.RecoverStructure.{Recovery}
 
 -- of an entry that is not rewritten the row is the basis under the mask
 abbrev pub not_rewritten : Entry → Type 0
-not_rewritten e = e.mark ≢ rewritten_mark
+not_rewritten e = e.mark ≢ Rewritten
 
 -- what the entries of a group add to the sum
 unfoldable pub owed_sum : ℕ → List ℕ → List Row → Group → ℕ

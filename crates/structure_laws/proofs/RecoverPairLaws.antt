@@ -10,7 +10,6 @@ use mathlib.Core.Bool.{true}
 use lib.ListN.{length}
 use lib.Bits.{bit_and, bit_xor}
 use lib.Pow.{pow_mono, ones_lt}
-use borrow.Author.Tests.{ne_eqb}
 use Rattle.arith.specs.Congruence.{Eqm}
 use Rattle.arith.specs.Width.{mod_add, mod_sub, mod_mul}
 use Rattle.arith.proofs.CongruenceLaws.{eqm_of_eq, eqm_refl, eqm_sym, eqm_trans, eqm_add}
@@ -25,7 +24,8 @@ use Rattle.expr.proofs.IsExprLaws.{expr_of_constant}
 use Rattle.expr.proofs.ValueLaws.{value_lt}
 use Rattle.group.specs.declared.Group.{Group}
 use Rattle.semilinear.specs.Form.{Row, rows_ok}
-use Rattle.entries.specs.Marks.{consumed_mark, widened_mark, rewritten_mark}
+use Rattle.entries.specs.declared.Mark.TheVariants.{Widened, Rewritten}
+use Rattle.entries.specs.Marks.{not_consumed}
 use Rattle.group.specs.Group.{Entry, at, is_live, consumed}
 use Rattle.made.specs.Rows.{create_row}
 use Rattle.semilinear.proofs.AtomLaws.{Atom, atom_tree_lem, sides_atom}
@@ -38,9 +38,9 @@ use Rattle.structure_laws.specs.RecoverStructure.{Recovery, row_with, with_bare,
 use Rattle.structure_laws.proofs.BareLaws.{with_bare_lem}
 use Rattle.structure_laws.proofs.HeldLaws.{not_rewritten, KeptRecovery, kept_two}
 
-pub live_of_mark : (e : Entry) → e.mark ≢ consumed_mark → is_live e ≡ true
+pub live_of_mark : (e : Entry) → not_consumed e.mark ≡ true → is_live e ≡ true
 unfolding is_live
-live_of_mark e ne = simp (ne_eqb e.mark 1 ne)
+live_of_mark e h = h
 
 -- two entries that are live and not rewritten, with complement masks
 pub record Pair (w : ℕ) (g : Group) (i j : ℕ) : Type 0 where
@@ -49,8 +49,8 @@ pub record Pair (w : ℕ) (g : Group) (i j : ℕ) : Type 0 where
   pub apart : j ≢ i
   pub live_i : is_live (at g i) ≡ true
   pub live_j : is_live (at g j) ≡ true
-  pub plain_i : (at g i).mark ≢ rewritten_mark
-  pub plain_j : (at g j).mark ≢ rewritten_mark
+  pub plain_i : (at g i).mark ≢ Rewritten
+  pub plain_j : (at g j).mark ≢ Rewritten
   pub complement : (at g j).mask ≡ 2 ^ w - 1 - (at g i).mask
 
 -- the literal m beside the basis
@@ -83,7 +83,7 @@ module _ (w : ℕ) (hw : w ≤ 64) (vars : List ℕ) (b : Tree) (hb : Atom b) (g
   word h = lt_of_lt_of_le h (pow_mono hw)
 
   -- what a live entry with a mask adds
-  owed_masked : (l : List Row) (e : Entry) → is_live e ≡ true → e.mark ≢ rewritten_mark → Fits w vars b not_rewritten l e
+  owed_masked : (l : List Row) (e : Entry) → is_live e ≡ true → e.mark ≢ Rewritten → Fits w vars b not_rewritten l e
       → owed w vars l e ≡ e.coeff * bit_and v e.mask
   owed_masked l e live ne h =
       owed_live w vars l e live ∙ ap (λ (n : ℕ). e.coeff * n) (h.masked ne).atom_value
@@ -140,13 +140,13 @@ module _ (w : ℕ) (hw : w ≤ 64) (vars : List ℕ) (b : Tree) (hb : Atom b) (g
         grown_create w vars t x.rows (atom_tree_lem t (xor_atom b e.mask (word mask_lt) hb)) in
         let c : ℕ = mod_mul e.coeff e.mask w in
         let new : Entry =
-        record { coeff = f.coeff; mask = 2 ^ w - 1; atom = length x.rows; mark = rewritten_mark } in
+        record { coeff = f.coeff; mask = 2 ^ w - 1; atom = length x.rows; mark = Rewritten } in
         let row : row_value w vars l (length x.rows) ≡ bit_xor e.mask v =
         row_value_create w vars t x.rows ∙ xor_value w vars b e.mask mask_lt in
         let after : owed w vars l new + owed w vars l (consumed f) ≡ f.coeff * bit_xor e.mask v =
         omega (
           arith,
-          owed_live w vars l new (live_of_mark new (λ (q : 3 ≡ 1). omega arith)),
+          owed_live w vars l new (live_of_mark new refl),
           owed_consumed w vars l (consumed f) (live_consumed f),
           ap (λ (n : ℕ). f.coeff * n) row,
         ) in
@@ -185,7 +185,7 @@ module _ (w : ℕ) (hw : w ≤ 64) (vars : List ℕ) (b : Tree) (hb : Atom b) (g
         let more = bare.grown in
         let new-e : Entry = record { coeff = d; mask = e.mask; atom = e.atom; mark = e.mark } in
         let new-f : Entry =
-        record { coeff = f.coeff; mask = 2 ^ w - 1; atom = row_with w b 0 x.rows; mark = widened_mark } in
+        record { coeff = f.coeff; mask = 2 ^ w - 1; atom = row_with w b 0 x.rows; mark = Widened } in
         let more-i = fits_extends w vars b not_rewritten e more.extends held_i in
         let he : Fits w vars b not_rewritten l new-e =
         record {
@@ -209,7 +209,7 @@ module _ (w : ℕ) (hw : w ≤ 64) (vars : List ℕ) (b : Tree) (hb : Atom b) (g
         omega (
           arith,
           owed_masked l new-e (live_mark_lem new-e e refl ∙ p.live_i) p.plain_i he,
-          owed_live w vars l new-f (live_of_mark new-f (λ (q : 2 ≡ 1). omega arith)),
+          owed_live w vars l new-f (live_of_mark new-f refl),
           ap (λ (n : ℕ). f.coeff * n) bare.bare_value,
         ) in
         kept_two w vars b g0 rows0 c0 x h l more x.constant h.constant_lt i j new-e new-f

@@ -5,7 +5,7 @@ use Rattle.base.specs.Choice.{when}
 use Rattle.record.specs.Tree.{Tree}
 use Rattle.group.specs.declared.Group.{Group}
 use Rattle.semilinear.specs.Form.{Row, Form}
-use Rattle.group.specs.Group.{empty_group}
+use Rattle.group.specs.Group.{used, empty_group}
 use Rattle.made.specs.Rows.{create_masked, add_coeff}
 use Rattle.views.specs.Grouping.{variable_basis, bases_of, ungrouped}
 use Rattle.group.specs.Group.{group_of, settle}
@@ -25,8 +25,8 @@ carried_rows w b (x ∷ l) rows =
 -- a group of two or more is rewritten where that leaves strictly fewer terms
 unfoldable pub coalesce_group : ℕ → Tree → Group → List Row → List Row
 coalesce_group w b g rows =
-    when (ltb g.len 2 || leb g.len (length (carried_of w g.coeffs g.masks g.len)))
-    (λ _. settle w g rows) (λ _. carried_rows w b (carried_of w g.coeffs g.masks g.len) rows)
+    when (ltb g.len 2 || leb g.len (length (carried_of w (used g))))
+    (λ _. settle w g rows) (λ _. carried_rows w b (carried_of w (used g)) rows)
 
 unfoldable pub coalesce_all : ℕ → List Row → List Tree → List Row → List Row
 coalesce_all w before [] rows = rows

@@ -1,6 +1,6 @@
 -- Xor recovery and mask elimination (structure_recovery.rs 194-331). Differs from the Rust in differences 1 to 4.
 -- A widened entry is found by nobody and still looks; a rewritten one does neither.
-use Rattle.std.specs.Prelude.{ℕ, ◌+◌, ◌-◌, ◌^◌, List, [], ◌∷◌, Bool, false, ◌&&◌, ◌||◌, length, eqb, ltb, leb}
+use Rattle.std.specs.Prelude.{ℕ, ◌+◌, ◌-◌, ◌^◌, List, [], ◌∷◌, Bool, true, false, not, ◌&&◌, length, eqb, ltb, leb}
 use Rattle.std.specs.Int.Count.{ones_in}
 use Rattle.arith.specs.Width.{mod_add, mod_sub, mod_mul}
 use Rattle.base.specs.Choice.{when}
@@ -9,7 +9,8 @@ use Rattle.record.specs.Tree.Tree.{Constant, Binary}
 use Rattle.group.specs.declared.Group.{Group}
 use Rattle.semilinear.specs.Form.{Row, Form, eq_tree}
 use Rattle.base.specs.Loop.{for_in, first_in}
-use Rattle.entries.specs.Marks.{live_mark, consumed_mark, widened_mark, rewritten_mark}
+use Rattle.entries.specs.declared.Mark.{Mark}
+use Rattle.entries.specs.declared.Mark.TheVariants.{Live, Consumed, Widened, Rewritten}
 use Rattle.group.specs.Group.{Entry, at, put_entry, consumed, empty_group}
 use Rattle.made.specs.Rows.{create_row}
 use Rattle.views.specs.Grouping.{any_basis, bases_of, ungrouped}
@@ -46,7 +47,7 @@ recover_xor w b src dst x =
             coeff = (at x.group dst).coeff;
             mask = 2 ^ w - 1;
             atom = length x.rows;
-            mark = rewritten_mark;
+            mark = Rewritten;
           }))
           dst (consumed (at x.group dst));
       rows = create_row (Binary 6 (Constant (at x.group src).mask) b) x.rows;
@@ -61,7 +62,7 @@ eliminate_mask w b diff i j x =
           put_entry
           (put_entry x.group i
           (record { coeff = diff; mask = e.mask; atom = e.atom; mark = e.mark }))
-          j (record { coeff = f.coeff; mask = 2 ^ w - 1; atom = row_with w b 0 x.rows; mark = widened_mark });
+          j (record { coeff = f.coeff; mask = 2 ^ w - 1; atom = row_with w b 0 x.rows; mark = Widened });
       rows = with_bare w b x.rows;
       constant = x.constant;
     }
@@ -92,9 +93,23 @@ recover_pair w b i j x =
 
 -- ---- a group
 
+-- an entry as it was in the list of masks
+abbrev pub as_gathered : Mark → Bool
+as_gathered Live = true
+as_gathered Consumed = false
+as_gathered Widened = false
+as_gathered Rewritten = false
+
+-- an entry that looks for a partner
+abbrev pub looks : Mark → Bool
+looks Live = true
+looks Consumed = false
+looks Widened = true
+looks Rewritten = false
+
 -- entry j is as it was in the list of masks, and has the mask m
 unfoldable pub is_partner : ℕ → Group → ℕ → Bool
-is_partner m g j = eqb (at g j).mark live_mark && eqb (at g j).mask m
+is_partner m g j = as_gathered (at g j).mark && eqb (at g j).mask m
 
 -- the first later entry with the complement mask
 unfoldable pub partner_of : ℕ → Group → ℕ → ℕ
@@ -102,7 +117,7 @@ partner_of w g i = first_in (is_partner (2 ^ w - 1 - (at g i).mask) g) (i + 1) g
 
 unfoldable pub recover_at : ℕ → Tree → ℕ → Recovery → Recovery
 recover_at w b i x =
-    when (eqb (at x.group i).mark consumed_mark || eqb (at x.group i).mark rewritten_mark) (λ _. x)
+    when (not (looks (at x.group i).mark)) (λ _. x)
     (λ _. when (ltb (partner_of w x.group i) x.group.len)
     (λ _. recover_pair w b i (partner_of w x.group i) x) (λ _. x))
 

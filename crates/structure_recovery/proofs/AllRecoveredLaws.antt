@@ -1,5 +1,6 @@
 -- Laws of the loop over the groups (recover_pair/specs/Recovering.antt): the loop of group/proofs/TurnsLaws.antt, with a
 -- turn that recovers a group and settles it; a table that is full ends it, and then what all groups make passes a limit.
+use Rattle.made.specs.declared.Made.{Made}
 use mathlib.Core.Path.{◌≡◌, refl, sym, subst, ◌∙◌}
 use Prim.Native.Nat.{ℕ, ◌+◌, ◌≤◌}
 use mathlib.Core.List.{List, [], ◌∷◌}
@@ -14,16 +15,18 @@ use Rattle.semilinear.specs.DecodeForm.{read_rows}
 use Rattle.group.specs.declared.Group.{Group}
 use Rattle.group.specs.Group.{empty_group, group_of}
 use Rattle.views.specs.Grouping.{any_basis, bases_of, ungrouped}
-use Rattle.made.specs.Made.{table_of, Room}
+use Rattle.made.specs.Made.{Room}
 use Rattle.made.specs.Shown.{Shown}
+use Rattle.std.specs.Prelude.{Option}
+use Rattle.views.specs.declared.View.{View}
 use Rattle.views.specs.Views.{only_of, Views, ViewsRead}
 use Rattle.group.specs.Turns.{in_turn}
 use Rattle.group.proofs.PassLaws.{read_wide, read_shown}
 use Rattle.group.proofs.ShownLaws.{settle_fits}
 use Rattle.group.proofs.TurnsLaws as turns
 use Rattle.views.proofs.SplitLaws.{only_any}
-use Rattle.structure_laws.specs.RecoverStructure.{recover_all}
-use Rattle.pairing.specs.Recovering.{recovery, settled_form, ShowsForm, GroupRecovered, one_recovered}
+use Rattle.structure_laws.specs.RecoverStructure.{recover_group, recover_all}
+use Rattle.pairing.specs.Recovering.{recovery, FairRecovery, settled_form, ShowsForm, GroupRecovered, one_recovered}
 use Rattle.pairing.specs.Recovering.{recover_turn, FairTurn, AllRecovered, RowsRecovered}
 use Rattle.pairing.proofs.RecoveredLaws.{past_group}
 use Rattle.bare.proofs.ShowsLaws.{shows_shown}
@@ -53,41 +56,48 @@ module _ (w : ℕ) (before : List Row) where
       ∙ past_group w b (recovery (group_of any_basis w b 0 before empty_group) x.rows x.constant) h)
 
   module _ (bases : List Tree) where
-    abbrev pub Going : (k : ℕ) (made₀ out₀ coeffs₀ made out coeffs : List ℕ) → Type 0
+    abbrev pub Going : (k : ℕ) (made₀ : Made) (out₀ coeffs₀ : List ℕ) (made : Made) (out coeffs : List ℕ) → Type 0
     Going = turns.Going (recover_turn w before) (FairTurn w before) (ShowsForm w) 256 bases
 
-    pub going_start : (made out coeffs : List ℕ) → Room made out → Going 0 made out coeffs made out coeffs
+    pub going_start : (made : Made) (out coeffs : List ℕ) → Room made out → Going 0 made out coeffs made out coeffs
     going_start = turns.turns_start (recover_turn w before) (FairTurn w before) (ShowsForm w) 256 bases
 
     -- what is shown of the first rows
-    shown_form : {made out coeffs : List ℕ} {l : List Row} → Shown w made out coeffs l
-        → ShowsForm w made out coeffs (form_of l (get_or made 5 0))
+    shown_form : {made : Made} {out coeffs : List ℕ} {l : List Row} → Shown w made out coeffs l
+        → ShowsForm w made out coeffs (form_of l made.constant)
     shown_form h = record { shows = shows_shown h; constant = λ _. refl }
 
-    module _ (k : ℕ) {made₀ out₀ coeffs₀ made out coeffs : List ℕ} (g : Going k made₀ out₀ coeffs₀ made out coeffs) where
+    module _ (k : ℕ) {made₀ : Made} {out₀ coeffs₀ : List ℕ} {made : Made} {out coeffs : List ℕ} (g : Going k made₀ out₀ coeffs₀ made out coeffs) where
       -- one group more
-      pub going_next : (table_of made).full ≡ false → {b : Tree} {h : Group} {made' out' coeffs' : List ℕ}
+      pub going_next : made.table.full ≡ false → {b : Tree} {h : Group} {made' : Made} {out' coeffs' : List ℕ}
           → drop k bases ≡ b ∷ drop (k + 1) bases → h ≡ group_of any_basis w b 0 before empty_group
           → GroupRecovered w 256 b h made out coeffs made' out' coeffs'
           → Going (k + 1) made₀ out₀ coeffs₀ made' out' coeffs'
       unfolding recover_turn FairTurn
-      going_next more next own r =
+      going_next more {b} {made' = made'} {out'} {coeffs'} next own r =
           turns.turns_next (recover_turn w before) (FairTurn w before) (ShowsForm w) 256 bases k g next r.room
           r.rows_le r.long r.wide
           (λ x fair s.
-          let turn = rw (own, s.constant more) at (r.shown x.rows) in
-          turn fair (s.shows.shown more))
+          let q : Group = group_of any_basis w b 0 before empty_group in
+          let turn = rw own at (r.shown x.rows) in
+          let same =
+          subst
+          (λ (c : ℕ).
+          FairRecovery x.rows (recover_group w b (recovery q x.rows c)) → Shown w made out coeffs x.rows
+          → ShowsForm w made' out' coeffs' (settled_form w (recover_group w b (recovery q x.rows c))))
+          (s.constant more) turn in
+          same fair (s.shows.shown more))
 
       -- the table is full
-      pub going_stop : (table_of made).full ≡ true → AllRecovered w before bases made₀ out₀ coeffs₀ made out coeffs
+      pub going_stop : made.table.full ≡ true → AllRecovered w before bases made₀ out₀ coeffs₀ made out coeffs
       going_stop full =
           record {
             room = g.room;
             long = g.long;
             wide = g.wide;
             shown = λ l fair shown.
-                let last = g.still (form_of l (get_or made₀ 5 0)) fair (shown_form shown) in
-                let same = last.same ∙ all_in_turn bases l (get_or made₀ 5 0) in
+                let last = g.still (form_of l made₀.constant) fair (shown_form shown) in
+                let same = last.same ∙ all_in_turn bases l made₀.constant in
                 record {
                   shows = record {
                     shown = λ more. false_true (sym more ∙ full);
@@ -107,20 +117,20 @@ module _ (w : ℕ) (before : List Row) where
             long = g.long;
             wide = g.wide;
             shown = λ l fair shown.
-                rw (← all_in_turn bases l (get_or made₀ 5 0))
+                rw (← all_in_turn bases l made₀.constant)
                 (turns.turns_done (recover_turn w before) (FairTurn w before) (ShowsForm w) 256 bases k g none
-                (form_of l (get_or made₀ 5 0)) fair (shown_form shown));
+                (form_of l made₀.constant) fair (shown_form shown));
           }
 
 -- ---- the rows of a form
 
-module _ {w : ℕ} {f coeffs views coeffs' : List ℕ} {n : ℕ}
+module _ {w : ℕ} {f coeffs : List ℕ} {views : List (Option View)} {coeffs' : List ℕ} {n : ℕ}
     (v : ViewsRead (only_of false) w f (read_rows 0 f (after_atoms f)) coeffs views coeffs' n) where
   pub read_any : Views any_basis w f views (read_rows 0 f (after_atoms f))
   read_any = rw only_any at v.views
 
   -- all groups recovered, of the rows without their terms
-  pub rows_recovered_lem : coeffs ≡ padded 256 [] → atom_count f ≤ 256 → {made out made' out' coeffs'' : List ℕ}
+  pub rows_recovered_lem : coeffs ≡ padded 256 [] → atom_count f ≤ 256 → {made : Made} {out : List ℕ} {made' : Made} {out' coeffs'' : List ℕ}
       → AllRecovered w (read_rows 0 f (after_atoms f)) (bases_of any_basis w (read_rows 0 f (after_atoms f)) []) made out coeffs'
       made' out' coeffs''
       → RowsRecovered w (read_rows 0 f (after_atoms f)) made out made' out' coeffs''

@@ -1,5 +1,6 @@
 -- The begin and the end of recovering (recover_pair/specs/Recovering.antt): the words of the copied table hold the rows
 -- of the form, and what the end of a pass gives of the recovered rows is the recovered form, or 9.
+use Rattle.made.specs.declared.Made.{Made}
 use mathlib.Core.Path.{◌≡◌, refl, ap, ap₂, sym}
 use Prim.Native.Nat.{ℕ}
 use mathlib.Core.List.{List, [], ◌∷◌}
@@ -8,6 +9,8 @@ use lib.ListN.{length, get_or}
 use Rattle.record.specs.Fields.{width, literal}
 use Rattle.record.specs.Span.{body}
 use Rattle.record.specs.Tree.{Tree, IsBytes}
+use Rattle.std.specs.Prelude.{Result}
+use Rattle.base.specs.declared.refusal.Refusal.{Refusal}
 use Rattle.semilinear.specs.declared.outcome.Answer.{Answer}
 use Rattle.atom_table.specs.declared.table.Table.{Table}
 use Rattle.semilinear.specs.Form.{Row, Form, fits_table}
@@ -18,7 +21,6 @@ use Rattle.semilinear.specs.Answers.{GivesForm}
 use Rattle.semilinear.specs.PassOutcome.{limit_outcome}
 use Rattle.atom_table.specs.Terms.{Copied, FinishRoom, Finished}
 use Rattle.semilinear.proofs.RetiredLaws.{read_valid}
-use Rattle.made.specs.Made.{table_of}
 use Rattle.group.proofs.PassLaws.{held_form, pass_room}
 use Rattle.group.proofs.ShownLaws.{begun}
 use Rattle.structure_laws.specs.RecoverStructure.{recover_all, recover_form}
@@ -33,20 +35,20 @@ unfolding limit_outcome
 limit_past f h flag p q = simp (p, q)
 
 -- the form with the constant among the words
-module _ {w : ℕ} {made out coeffs : List ℕ} (f : Form) (wide : f.bitwidth ≡ w) (s : ShowsForm w made out coeffs f) where
+module _ {w : ℕ} {made : Made} {out coeffs : List ℕ} (f : Form) (wide : f.bitwidth ≡ w) (s : ShowsForm w made out coeffs f) where
   abbrev ended : Form
-  ended = record { bitwidth = w; constant = get_or made 5 0; rows = f.rows }
+  ended = record { bitwidth = w; constant = made.constant; rows = f.rows }
 
   limit_same : limit_outcome ended false ≡ limit_outcome f false
-  limit_same = go (table_of made).full refl
+  limit_same = go made.table.full refl
     where
-      go : (b : Bool) → (table_of made).full ≡ b → limit_outcome ended false ≡ limit_outcome f false
+      go : (b : Bool) → made.table.full ≡ b → limit_outcome ended false ≡ limit_outcome f false
       go true e = limit_past ended f false (s.shows.past e) (s.shows.past e)
       go false e =
           ap (λ (h : Form). limit_outcome h false)
           (ap₂ (λ (a b : ℕ). record { bitwidth = a; constant = b; rows = f.rows }) (sym wide) (s.constant e))
 
-  shows_gives : {end : Table} {c : ℕ} → end ≡ table_of made → c ≡ get_or made 5 0 → (r : Answer) {out' : List ℕ}
+  shows_gives : {end : Table} {c : ℕ} → end ≡ made.table → c ≡ made.constant → (r : Result Answer Refusal) {out' : List ℕ}
       → Finished w end 1 coeffs c false out r out' → GivesForm (limit_outcome f false) 57360 r out'
   shows_gives et ec r {out'} finished =
       let end = rw (et, ec) at finished in
@@ -63,9 +65,9 @@ all_width w before (b ∷ bases) l c = all_width w before bases _ _
 module _ (s : List ℕ) (bytes : IsBytes s) (ok : is_semilinear s ≡ true) where
   -- the end gives the recovered form, or 9
   pub recover_end : {w k : ℕ} {b : List ℕ} → w ≡ width s → k ≡ literal s → b ≡ body s → {tab : Table} {out : List ℕ}
-      → Copied (read_form s) tab out → {made out' coeffs : List ℕ}
+      → Copied (read_form s) tab out → {made : Made} {out' coeffs : List ℕ}
       → RowsRecovered w (read_rows 0 b (after_atoms b)) (begun tab k) out made out' coeffs
-      → {end : Table} {c : ℕ} → end ≡ table_of made → c ≡ get_or made 5 0 → (r : Answer) {out'' : List ℕ}
+      → {end : Table} {c : ℕ} → end ≡ made.table → c ≡ made.constant → (r : Result Answer Refusal) {out'' : List ℕ}
       → Finished w end 1 coeffs c false out' r out''
       → GivesForm (limit_outcome (recover_form (read_form s)) false) 57360 r out''
   unfolding recover_form decode_form
@@ -77,7 +79,7 @@ module _ (s : List ℕ) (bytes : IsBytes s) (ok : is_semilinear s ≡ true) wher
       shows_gives (rows_recovered (width s) rows (literal s)) (all_width (width s) rows _ _ (literal s)) shown et ec r end
 
 -- the end has room for all terms
-pub recover_room : {w : ℕ} {rows : List Row} {before out made out' coeffs : List ℕ}
-    → RowsRecovered w rows before out made out' coeffs → {tab : Table} → tab ≡ table_of made → length out ≡ 57360
+pub recover_room : {w : ℕ} {rows : List Row} {before : Made} {out : List ℕ} {made : Made} {out' coeffs : List ℕ}
+    → RowsRecovered w rows before out made out' coeffs → {tab : Table} → tab ≡ made.table → length out ≡ 57360
     → FinishRoom tab 1 coeffs out'
 recover_room {out = out} {coeffs = coeffs} r et e = pass_room out coeffs r.room r.long r.wide et e

@@ -1,5 +1,5 @@
 // Recovering the structure of a semilinear form: the groups in turn.
-ghost use Rattle.std.specs.Prelude.{◌≡◌, true, false, [], length};
+ghost use Rattle.std.specs.Prelude.{◌≡◌, ◌≤◌, true, false, [], length};
 ghost use Rattle.base.specs.Put.{padded};
 ghost use Rattle.record.specs.Decode.{decode};
 ghost use Rattle.semilinear.specs.Items.{atom_count, after_atoms};
@@ -10,31 +10,32 @@ ghost use Rattle.semilinear.specs.PassOutcome.{limit_outcome};
 ghost use Rattle.views.specs.Grouping.{any_basis, bases_of};
 ghost use Rattle.views.specs.Views.{view_at, basis_bytes};
 ghost use Rattle.group.specs.Gathered.{gathered};
-ghost use Rattle.group.specs.Ready.{FormReady, RowsReady, AllReady, AtReady, GroupReady};
+ghost use Rattle.group.specs.Ready.{FormReady, AllReady, AtReady, GroupReady};
 ghost use Rattle.structure_laws.specs.RecoverStructure.{recover_form, recover_structure};
 ghost use Rattle.pairing.specs.Recovering.{GroupRecovered, AllRecovered, RowsRecovered};
-ghost use Rattle.base.specs.Limits.{atom_limit, form_bytes, short_atoms};
+ghost use Rattle.base.specs.Limits.{atom_limit, form_bytes};
 
 use atom_table::{pass, read};
 use base::limits;
-use group::{Group, settle};
+use base::refusal::Refusal;
+use group::{Basis, Group, settle};
+use made::Made;
 use pairing::partner;
 use recover_pair::pair;
-use semilinear::outcome;
 use semilinear::outcome::Answer;
-use views::bases;
+use views::{View, bases};
 
 // One group: the rows, of n, that have the basis b with this hash are gathered, the pairs of entries
 // with complement masks are recovered, and what is left is added to the rows. Where no entry has a
-// partner the group does not move, and to a full table nothing is added.
+// partner the group stays as it is, and to a full table nothing is added.
 fn recover_group(
     hash: u64,
     b: &[u8],
     n: usize,
-    views: &[u64],
+    views: &[Option<View>],
     f: &[u8],
     w: u8,
-    made: &mut [u64],
+    made: &mut Made,
     coeffs: &mut [u64],
     out: &mut [u8],
 )
@@ -45,25 +46,24 @@ fn recover_group(
         made.new out.new coeffs.new }
 {
     let mut g = Group::gather(n, hash, b, views, f);
-    let len = g.len;
-    let full = arith::bitmask(w as u32);
-    if partner::any_partner(&g.masks, &g.marks, len, full) {
-        g = pair::recover_entries(g, b, hash, w, made, out);
+    if partner::any_partner(g.used(), arith::bitmask(u32::from(w))) {
+        let basis = Basis { bytes: b, hash };
+        pair::recover_entries(&mut g, basis, w, made, out);
     }
-    if made[3] == 1 {
+    if made.table.full {
         return;
     }
-    settle::settle(&g.coeffs, &g.atoms, &g.marks, len, coeffs, w as u32);
+    settle::settle(g.used(), coeffs, u32::from(w));
 }
 
 // The group of the basis of row `first`; where that row is alone, none is gathered.
 fn recover_at(
     first: usize,
     n: usize,
-    views: &[u64],
+    views: &[Option<View>],
     f: &[u8],
     w: u8,
-    made: &mut [u64],
+    made: &mut Made,
     coeffs: &mut [u64],
     out: &mut [u8],
 )
@@ -75,27 +75,26 @@ fn recover_at(
         made.old out.old coeffs.old
         made.new out.new coeffs.new }
 {
-    let v = views::VIEW_WORDS * first;
-    let hash = views[v + 1];
-    let start = views[v + 2] as usize;
-    let end = views[v + 3] as usize;
-    if lone::is_lone(first, n, hash, &f[start..end], views, f) {
-        settle::add_word(coeffs, first as u64, views[v], w as u32);
+    let v = views[first].unwrap();
+    let b = &f[v.start..v.end];
+    if lone::is_lone(first, n, v.hash, b, views, f) {
+        settle::add_word(coeffs, first as u64, v.coeff, w as u32);
         return;
     }
-    recover_group(hash, &f[start..end], n, views, f, w, made, coeffs, out);
+    recover_group(v.hash, b, n, views, f, w, made, coeffs, out);
 }
 
-// The groups in turn, until the table is full; the first `count` of the words in `bases` name their
+// The groups in turn, until the table is full; the first `count` of `bases` name their
 // bases.
+// A twin of refine_all and coalesce_all (term_refiner says why it is one).
 fn recover_all(
     count: usize,
-    bases: &[u64],
+    bases: &[usize],
     n: usize,
-    views: &[u64],
+    views: &[Option<View>],
     f: &[u8],
     w: u8,
-    made: &mut [u64],
+    made: &mut Made,
     coeffs: &mut [u64],
     out: &mut [u8],
 )
@@ -105,73 +104,41 @@ fn recover_all(
         made.old out.old coeffs.old
         made.new out.new coeffs.new }
 {
-    let mut k = 0;
-    while k < count {
-        if made[3] == 1 {
+    for first in &bases[..count] {
+        if made.table.full {
             return;
         }
-        let first = bases[k] as usize;
-        recover_at(first, n, views, f, w, made, coeffs, out);
-        k += 1;
+        recover_at(*first, n, views, f, w, made, coeffs, out);
     }
 }
 
-// The rows of f, whose terms begin at `terms`; `views` and `bases` are room to work in.
-fn recover_rows(
+// The rows of f, of at most N atoms, whose terms begin at `terms`.
+fn recover_sized<const N: usize>(
     f: &[u8],
     terms: usize,
     w: u8,
-    views: &mut [u64],
-    bases: &mut [u64],
-    made: &mut [u64],
+    made: &mut Made,
     coeffs: &mut [u64],
     out: &mut [u8],
 )
-    requires { RowsReady w f.now terms views.old bases.old coeffs.old made.old out.old }
+    requires { (N ≤ atom_limit) × FormReady w N f.now terms coeffs.old made.old out.old }
     ensures { RowsRecovered w (read_rows 0 f.now (after_atoms f.now))
         made.old out.old made.new out.new coeffs.new }
 {
-    let n = views::read_views(f, terms, w, false, views, coeffs);
-    let count = bases::find_bases(views, n, f, bases);
-    recover_all(count, bases, n, views, f, w, made, coeffs, out);
+    let mut views = [None; N];
+    let mut bases = [0; N];
+    let n = views::read_views(f, terms, w, false, &mut views, coeffs);
+    let count = bases::find_bases(&views, n, f, &mut bases);
+    recover_all(count, &bases, n, &views, f, w, made, coeffs, out);
 }
 
-// The same for at most 16 atoms. Most forms are so short, and clearing long arrays costs.
-fn recover_short(
-    f: &[u8],
-    terms: usize,
-    w: u8,
-    made: &mut [u64],
-    coeffs: &mut [u64],
-    out: &mut [u8],
-)
-    requires { FormReady w short_atoms f.now terms coeffs.old made.old out.old }
-    ensures { RowsRecovered w (read_rows 0 f.now (after_atoms f.now))
-        made.old out.old made.new out.new coeffs.new }
-{
-    let mut views = [0u64; views::SHORT_VIEWS];
-    let mut bases = [0u64; limits::SHORT_ATOMS];
-    recover_rows(f, terms, w, &mut views, &mut bases, made, coeffs, out);
-}
-
-// The same for at most 256 atoms.
-fn recover_long(f: &[u8], terms: usize, w: u8, made: &mut [u64], coeffs: &mut [u64], out: &mut [u8])
-    requires { FormReady w atom_limit f.now terms coeffs.old made.old out.old }
-    ensures { RowsRecovered w (read_rows 0 f.now (after_atoms f.now))
-        made.old out.old made.new out.new coeffs.new }
-{
-    let mut views = [0u64; views::LONG_VIEWS];
-    let mut bases = [0u64; limits::ATOM_LIMIT];
-    recover_rows(f, terms, w, &mut views, &mut bases, made, coeffs, out);
-}
-
-// The same for `count` atoms.
+// The same for `count` atoms. Most forms are short, and clearing long arrays costs.
 fn recover_table(
     f: &[u8],
     terms: usize,
     count: u64,
     w: u8,
-    made: &mut [u64],
+    made: &mut Made,
     coeffs: &mut [u64],
     out: &mut [u8],
 )
@@ -181,14 +148,14 @@ fn recover_table(
         made.old out.old made.new out.new coeffs.new }
 {
     if count <= limits::SHORT_ATOMS_U64 {
-        recover_short(f, terms, w, made, coeffs, out);
+        recover_sized::<{ limits::SHORT_ATOMS }>(f, terms, w, made, coeffs, out);
         return;
     }
-    recover_long(f, terms, w, made, coeffs, out);
+    recover_sized::<{ limits::ATOM_LIMIT }>(f, terms, w, made, coeffs, out);
 }
 
 // Recovers the structure of a form into a slice of 57,360 bytes, which is all zeros.
-fn recover_form(s: &[u8], out: &mut [u8]) -> Answer
+fn recover_form(s: &[u8], out: &mut [u8]) -> Result<Answer, Refusal>
     requires { (is_semilinear s.now ≡ true) × (out.old ≡ padded form_bytes []) }
     ensures { GivesForm (limit_outcome (recover_form (read_form s.now)) false) form_bytes result out.new }
 {
@@ -197,7 +164,11 @@ fn recover_form(s: &[u8], out: &mut [u8]) -> Answer
     let tab = pass::copy_atoms(s, out);
     let terms = tab.at;
     let count = tab.count;
-    let mut made = [terms as u64, count, tab.records, 0, count, constant];
+    let mut made = Made {
+        table: tab,
+        rows: count,
+        constant,
+    };
     let mut coeffs = [0u64; limits::ATOM_LIMIT];
     recover_table(
         record::body(s),
@@ -208,18 +179,16 @@ fn recover_form(s: &[u8], out: &mut [u8]) -> Answer
         &mut coeffs,
         out,
     );
-    let last = made[5];
-    pass::finish(made::load(&made), &coeffs, 1, last, w, false, out)
+    let last = made.constant;
+    pass::finish(made.table, &coeffs, 1, last, w, false, out)
 }
 
 // The form s with its structure recovered, written to out; or a refusal: 1, 2, 9 or 10.
-pub fn recover_structure(s: &[u8], out: &mut [u8]) -> Answer
+// Each pass has its own such function: two lines, and a clause of its own.
+pub fn recover_structure(s: &[u8], out: &mut [u8]) -> Result<Answer, Refusal>
     ensures { GivesForm (recover_structure s.now (length out.old))
         (length out.old) result out.new }
 {
-    let number = read::open_bytes(s, out);
-    if number != 0 {
-        return outcome::refusal(number);
-    }
+    read::open_bytes(s, out)?;
     recover_form(s, out)
 }

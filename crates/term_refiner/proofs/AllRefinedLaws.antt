@@ -1,5 +1,6 @@
 -- Laws of the loop over the groups (specs/Refining.antt): the loop of group/proofs/TurnsLaws.antt, with a turn that
 -- refines a group and settles it.
+use Rattle.made.specs.declared.Made.{Made}
 use mathlib.Core.Path.{◌≡◌, refl}
 use Prim.Native.Nat.{ℕ, ◌+◌}
 use mathlib.Core.List.{List, [], ◌∷◌}
@@ -22,15 +23,15 @@ module _ (w : ℕ) (before : List Row) (bases : List Tree) where
   all_in_turn [] rows = refl
   all_in_turn (b ∷ l) rows = all_in_turn l (refine_turn w before b rows)
 
-  abbrev pub Going : (k : ℕ) (made₀ out₀ coeffs₀ made out coeffs : List ℕ) → Type 0
+  abbrev pub Going : (k : ℕ) (made₀ : Made) (out₀ coeffs₀ : List ℕ) (made : Made) (out coeffs : List ℕ) → Type 0
   Going = turns.Going (refine_turn w before) (FairTurn w before) (Shown w) 262144 bases
 
-  pub going_start : (made out coeffs : List ℕ) → Room made out → Going 0 made out coeffs made out coeffs
+  pub going_start : (made : Made) (out coeffs : List ℕ) → Room made out → Going 0 made out coeffs made out coeffs
   going_start = turns.turns_start (refine_turn w before) (FairTurn w before) (Shown w) 262144 bases
 
-  module _ (k : ℕ) {made₀ out₀ coeffs₀ made out coeffs : List ℕ} (g : Going k made₀ out₀ coeffs₀ made out coeffs) where
+  module _ (k : ℕ) {made₀ : Made} {out₀ coeffs₀ : List ℕ} {made : Made} {out coeffs : List ℕ} (g : Going k made₀ out₀ coeffs₀ made out coeffs) where
     -- one group more
-    pub going_next : {b : Tree} {h : Group} {made' out' coeffs' : List ℕ} → drop k bases ≡ b ∷ drop (k + 1) bases
+    pub going_next : {b : Tree} {h : Group} {made' : Made} {out' coeffs' : List ℕ} → drop k bases ≡ b ∷ drop (k + 1) bases
         → h ≡ group_of any_basis w b 0 before empty_group
         → GroupRefined w 262144 b h made out coeffs made' out' coeffs'
         → Going (k + 1) made₀ out₀ coeffs₀ made' out' coeffs'

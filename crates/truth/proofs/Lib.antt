@@ -2,6 +2,7 @@
 pub mod BitwiseLaws
 pub mod BitOfLaws
 pub mod TruthLaws
+pub mod PlaceLaws
 pub mod RowsLaws
 pub mod FirstVarsLaws
 mod WordTableLaws

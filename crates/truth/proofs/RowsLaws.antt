@@ -4,12 +4,10 @@ use mathlib.Core.Path.{◌≡◌, refl, ap, ap₂, sym, ◌∙◌}
 use Prim.Native.Nat.{ℕ, zero, suc, ◌+◌, ◌-◌, ◌/◌, ◌%◌, ◌^◌, ◌≤◌, ◌<◌}
 use native.Mathlib.Omega.{arith}
 use native.Mathlib.Nat.{mod-lt, zero-add}
-use native.Mathlib.Numerals.{add-one}
 use native.Mathlib.Decide.{ℕ_discrete}
 use mathlib.Core.List.{List, [], ◌∷◌}
 use mathlib.Core.Bool.{Bool, true, false, ◌&&◌}
-use lib.ListN.{length, get_or, drop, drop_of_length-le}
-use lib.Seq.{drop-cons}
+use lib.ListN.{length}
 use lib.Dec.{eqb}
 use lib.Bits.{bit_and, bit_or, bit_xor}
 use lib.Pow.{pow_pos, ones_lt}
@@ -111,25 +109,6 @@ module _ (k x y i : ℕ) where
   join_xor d e = bit_xor_lem x y i ∙ simp (ne_eqb k 4 d, ne_eqb k 5 e)
 
 -- ---- the place of a variable in the list
-
-module _ (v : ℕ) (l : List ℕ) where
-  pub place_start : place_of v l ≡ 0 + place_of v (drop 0 l)
-  place_start = omega arith
-
-  pub place_end : (j : ℕ) → length l ≤ j → j + place_of v (drop j l) ≡ j
-  unfolding place_of
-  place_end j h = rw (drop_of_length-le l h) (omega arith)
-
-  module _ (j : ℕ) (h : j < length l) where
-    place_head : place_of v (drop j l) ≡ when (eqb (get_or l j 0) v) (λ _. 0) (λ _. place_of v (drop (suc j) l) + 1)
-    unfolding place_of
-    place_head = ap (place_of v) (drop-cons l j 0 h)
-
-    pub place_found : get_or l j 0 ≡ v → j + place_of v (drop j l) ≡ j
-    place_found e = rw place_head (simp (eq-eqb (get_or l j 0) v e) (omega arith))
-
-    pub place_next : (get_or l j 0 ≡ v → ⊥) → j + place_of v (drop j l) ≡ j + 1 + place_of v (drop (j + 1) l)
-    place_next d = rw (add-one, place_head) (simp (ne_eqb (get_or l j 0) v d) (omega arith))
 
 pub place_le : (v : ℕ) (l : List ℕ) → place_of v l ≤ length l
 unfolding place_of

@@ -8,7 +8,7 @@ ghost use Rattle.truth.specs.Key.{key_of};
 // The first word of the key of a tree that is not shared by its table: no table has this number.
 pub const NOT_PURE: u64 = u64::MAX;
 
-// The key of the tree of t.
+// The key of the tree of t. Seven words, as the definition has them: keys are compared as lists of words.
 pub fn key_of(t: &[u8]) -> [u64; 7]
     requires { sized t.now ≡ true }
     ensures { result ≡ key_of (decode t.now) }

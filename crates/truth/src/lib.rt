@@ -4,7 +4,7 @@
 
 pub mod key;
 
-ghost use Rattle.std.specs.Prelude.{◌≡◌, true, ℕ, ◌-◌, ◌^◌, ◌/◌, ◌%◌, ◌<◌, ◌≤◌, length};
+ghost use Rattle.std.specs.Prelude.{◌≡◌, true, ℕ, ◌-◌, ◌^◌, ◌/◌, ◌%◌, ◌<◌, ◌≤◌, ◌==◌, length, position};
 ghost use Rattle.arith.specs.Bit.{bit_at};
 ghost use Rattle.base.specs.Choice.{when};
 ghost use Rattle.record.specs.Span.{sized};
@@ -14,6 +14,7 @@ ghost use Rattle.truth.specs.Truth.{place_of, bit_binary, table_f};
 ghost use Rattle.base.specs.Limits.{record_length};
 
 use base::limits;
+use record::kinds::Kind;
 
 // Bit i is bit j of i.
 fn column(j: usize) -> u64
@@ -30,29 +31,29 @@ fn column(j: usize) -> u64
     }
 }
 
-// The place of the first v in the list, its length where there is none.
+// The place of the first v in the list.
+fn place_in(v: u64, vars: &[u64]) -> Option<usize>
+    ensures { result ≡ position (λ x. x == v) vars.now }
+{
+    vars.iter().position(|x| *x == v)
+}
+
+// The place of the first v in the list, its length where there is none: the count of the words
+// before v, which callers ask for.
 pub fn place_of(v: u64, vars: &[u64]) -> usize
     ensures { result ≡ place_of v vars.now }
 {
-    let mut j = 0;
-    while j < vars.len() {
-        if vars[j] == v {
-            return j;
-        }
-        j += 1;
-    }
-    j
+    place_in(v, vars).unwrap_or(vars.len())
 }
 
 // The rows of the variable v, the same at every width and place.
 fn variable_rows(vars: &[u64], v: u64) -> u64
     ensures { (w p : ℕ) → result ≡ table_f 64 w p vars.now (Variable v) }
 {
-    let j = place_of(v, vars);
-    if j == vars.len() {
-        return 0;
+    match place_in(v, vars) {
+        Some(j) => column(j),
+        None => 0,
     }
-    column(j)
 }
 
 // The rows of a root without children, the same at every width.
@@ -61,7 +62,7 @@ fn leaf_rows(t: &[u8], vars: &[u64], place: u32) -> u64
     ensures { (w : ℕ) → result ≡ table_f 64 w place vars.now
         (leaf t.now) }
 {
-    if record::kind(t) == 0 {
+    if record::kind(t) == Kind::Constant as u8 {
         if arith::bit(record::literal(t), place) == 0 {
             return 0;
         }
@@ -74,10 +75,12 @@ fn leaf_rows(t: &[u8], vars: &[u64], place: u32) -> u64
 fn join_rows(k: u8, x: u64, y: u64) -> u64
     ensures { (i : ℕ) → bit_at result i ≡ bit_binary k (bit_at x i) (bit_at y i) }
 {
-    match k {
-        4 => x & y,
-        5 => x | y,
-        _ => x ^ y,
+    if k == Kind::And as u8 {
+        x & y
+    } else if k == Kind::Or as u8 {
+        x | y
+    } else {
+        x ^ y
     }
 }
 
@@ -126,7 +129,7 @@ fn rows_in(t: &[u8], vars: &[u64], at: u64) -> u64
             };
             return complement(flip, join_rows(k, x, y));
         }
-        if k == 7 {
+        if k == Kind::Not as u8 {
             flip = !flip;
         } else {
             let a = record::amount(s);

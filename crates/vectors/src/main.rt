@@ -8,11 +8,15 @@ mod columns;
 mod lists;
 mod one_entry;
 mod pairs;
+mod parts;
+mod room;
 mod rules;
 
+use room::Room;
 use std::io;
 use std::io::Read;
 use stored::report;
+use stored::tally::Tally;
 
 // A file of more entries is malformed. The bound makes the loop end on any input.
 const MOST_ENTRIES: u64 = 1_000_000;
@@ -23,46 +27,25 @@ fn replay<R: Read>(
     rt: &impl Print,
     reader: &mut R,
     bytes: &mut [u8; 193056],
-    out: &mut [u8; 57376],
-    classes: &mut [u64; 16464],
-    entries: &mut [u64; 18],
-    differences: &mut [u64; 18],
+    room: &mut Room,
+    tally: &mut Tally,
 ) -> io::Result<()> {
-    let mut at = 0;
-    while at < MOST_ENTRIES {
-        if !one_entry::step(rt, reader, at, bytes, out, classes, entries, differences)? {
+    for at in 0..MOST_ENTRIES {
+        if !one_entry::step(rt, reader, at, bytes, room, tally)? {
             return Ok(());
         }
-        at += 1;
     }
-    report::malformed(rt, at, b"too many entries")
-}
-
-// A line for each type.
-fn summary(rt: &impl Print, entries: &[u64; 18], differences: &[u64; 18]) -> io::Result<()> {
-    let mut kind = 1;
-    while kind < 18 {
-        report::summary(rt, kind, entries[kind], differences[kind])?;
-        kind += 1;
-    }
-    Ok(())
+    report::malformed(rt, MOST_ENTRIES, "too many entries")
 }
 
 // Room for the longest payload and for the longest result slices is lent to every entry.
 fn main(rt: HostRuntime) -> io::Result<()> {
     let mut bytes = [0u8; 193056];
-    let mut out = [0u8; 57376];
-    let mut classes = [0u64; 16464];
-    let mut entries = [0u64; 18];
-    let mut differences = [0u64; 18];
-    replay(
-        &rt,
-        &mut rt.reader(),
-        &mut bytes,
-        &mut out,
-        &mut classes,
-        &mut entries,
-        &mut differences,
-    )?;
-    summary(&rt, &entries, &differences)
+    let mut room = Room {
+        out: [0; 57376],
+        classes: [0; 16464],
+    };
+    let mut tally = Tally::NONE;
+    replay(&rt, &mut rt.reader(), &mut bytes, &mut room, &mut tally)?;
+    tally.print(&rt)
 }

@@ -2,30 +2,28 @@
 ghost use Rattle.std.specs.Prelude.{◌+◌, ◌*◌, ◌<◌, ◌≤◌, length};
 
 use crate::calls;
+use crate::room::Room;
 use std::io;
 use std::io::Read;
-use stored::answer::Answer;
+use stored::answer::{Answer, Fault};
 use stored::entry::Head;
+use stored::kind::EntryKind;
+use stored::tally::Tally;
 use stored::{entry, report};
 
+const MOST_BYTES: u32 = 188960;
+
 // What the function under test gives for an entry whose words and bytes stand in bytes.
-fn run(head: Head, bytes: &[u8], out: &mut [u8], classes: &mut [u64]) -> Answer
+fn run(kind: EntryKind, head: Head, bytes: &[u8], room: &mut Room) -> Result<Answer, Fault>
     requires { (head.words ≤ 512) × (8 * head.words + head.size ≤ length bytes.now) }
 {
-    let mut words = entry::word_buffer();
+    let mut words = [0; entry::MOST_WORDS];
     let count = head.words as usize;
     let start = 8 * count;
     let stop = start + head.size as usize;
     entry::read_words(bytes, &mut words, count);
-    let expected = head.expected;
-    calls::answer_of(
-        head.kind,
-        expected.value,
-        &bytes[start..stop],
-        &words[..count],
-        out,
-        classes,
-    )
+    let value = head.expected.value;
+    calls::answer_of(kind, value, &bytes[start..stop], &words[..count], room)
 }
 
 // Reads the rest of an entry, runs and compares it; false where it is not whole. An error leaves what
@@ -34,36 +32,27 @@ fn body<R: Read>(
     rt: &impl Print,
     reader: &mut R,
     at: u64,
+    kind: EntryKind,
     head: Head,
     bytes: &mut [u8; 193056],
-    out: &mut [u8; 57376],
-    classes: &mut [u64; 16464],
-    entries: &mut [u64; 18],
-    differences: &mut [u64; 18],
-) -> io::Result<bool>
-    requires { head.kind < 18 }
-{
-    if 512 < head.words {
-        report::malformed(rt, at, b"too many words")?;
+    room: &mut Room,
+    tally: &mut Tally,
+) -> io::Result<bool> {
+    if head.words as usize > entry::MOST_WORDS {
+        report::malformed(rt, at, "too many words")?;
         return Ok(false);
     }
-    if 188960 < head.size {
-        report::malformed(rt, at, b"too many bytes")?;
+    if head.size > MOST_BYTES {
+        report::malformed(rt, at, "too many bytes")?;
         return Ok(false);
     }
     let payload = 8 * (head.words as usize) + head.size as usize;
     if !entry::read_payload(reader, bytes, entry::padded(payload))? {
-        report::malformed(rt, at, b"the file ends in an entry")?;
+        report::malformed(rt, at, "the file ends in an entry")?;
         return Ok(false);
     }
-    entry::compare(
-        rt,
-        at,
-        head,
-        run(head, bytes, out, classes),
-        entries,
-        differences,
-    )?;
+    let found = run(kind, head, bytes, room);
+    tally.compare(rt, at, kind, head.expected, found)?;
     Ok(true)
 }
 
@@ -73,35 +62,22 @@ pub fn step<R: Read>(
     reader: &mut R,
     at: u64,
     bytes: &mut [u8; 193056],
-    out: &mut [u8; 57376],
-    classes: &mut [u64; 16464],
-    entries: &mut [u64; 18],
-    differences: &mut [u64; 18],
+    room: &mut Room,
+    tally: &mut Tally,
 ) -> io::Result<bool> {
     let mut front = [0u8; 16];
     if io_form::read_full(reader, &mut front)? != 16 {
-        report::malformed(rt, at, b"the file ends without an end entry")?;
+        report::malformed(rt, at, "the file ends without an end entry")?;
         return Ok(false);
     }
     let head = entry::read_head(&front);
     if head.kind == 0 {
-        let expected = head.expected;
-        entry::end(rt, reader, at, expected.value)?;
+        entry::end(rt, reader, at, head.expected.value)?;
         return Ok(false);
     }
-    if 17 < head.kind {
-        report::malformed(rt, at, b"unknown type")?;
+    let Ok(kind) = EntryKind::try_from(head.kind) else {
+        report::malformed(rt, at, "unknown type")?;
         return Ok(false);
-    }
-    body(
-        rt,
-        reader,
-        at,
-        head,
-        bytes,
-        out,
-        classes,
-        entries,
-        differences,
-    )
+    };
+    body(rt, reader, at, kind, head, bytes, room, tally)
 }

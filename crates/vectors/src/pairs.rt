@@ -1,11 +1,11 @@
-// Types 16 and 17: two expressions or two semilinear forms judged, run on an entry's words and
-// bytes.
+// Two expressions or two semilinear forms judged, run on an entry's words and bytes.
+use crate::parts::fitting;
 use judge_laws::Verdict;
 use stored::answer;
-use stored::answer::Answer;
+use stored::answer::{Answer, Fault};
 
-// Type 16.
-fn of_expressions(left: &[u8], right: &[u8]) -> Verdict {
+// The verdict on two expressions, as it is exported.
+pub fn of_expressions(left: &[u8], right: &[u8]) -> Verdict {
     let mut equal = answer::UNWRITTEN;
     let mut place = answer::UNWRITTEN;
     let mut index = answer::UNWRITTEN;
@@ -18,30 +18,22 @@ fn of_expressions(left: &[u8], right: &[u8]) -> Verdict {
     }
 }
 
-fn verdict_of(kind: u8, left: &[u8], right: &[u8]) -> Verdict {
-    match kind {
-        16 => of_expressions(left, right),
-        _ => judge::judge_forms(left, right),
-    }
-}
-
-// The refusal, and index, place and equal in one number.
-fn judged(kind: u8, left: &[u8], right: &[u8]) -> Answer {
-    let verdict = verdict_of(kind, left, right);
-    Answer {
+// An entry has one word, the length of the left in bytes: the bytes behind the left are the right.
+// The refusal of a verdict, and its index, place and equal in one number.
+pub fn judging<F: FnOnce(&[u8], &[u8]) -> Verdict>(
+    bytes: &[u8],
+    words: &[u64],
+    judge: F,
+) -> Result<Answer, Fault>
+    requires { F.IsAlwaysCallable judge }
+{
+    let [length] = words else {
+        return Err(Fault::Malformed);
+    };
+    let n = fitting(*length, bytes.len())?;
+    let verdict = judge(&bytes[..n], &bytes[n..]);
+    Ok(Answer {
         refusal: verdict.refusal,
         value: answer::packed(verdict.index, verdict.place, verdict.equal),
-    }
-}
-
-// An entry has one word, the length of the left in bytes: the bytes behind the left are the right.
-pub fn judging(kind: u8, bytes: &[u8], words: &[u64]) -> Answer {
-    if words.len() != 1 {
-        return answer::malformed();
-    }
-    let length = words[0] as usize;
-    if bytes.len() < length {
-        return answer::malformed();
-    }
-    judged(kind, &bytes[..length], &bytes[length..])
+    })
 }

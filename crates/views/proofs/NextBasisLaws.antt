@@ -7,16 +7,18 @@ use mathlib.Core.List.{List, [], ◌∷◌}
 use mathlib.Core.Bool.{Bool}
 use lib.ListN.{length, get_or, drop, drop_of_length-le}
 use lib.Seq.{get_or-take}
+use Rattle.std.specs.Prelude.{Option, Some}
 use Rattle.record.specs.Tree.{Tree}
 use Rattle.record.specs.Decode.{decode}
 use Rattle.semilinear.specs.Form.{Row}
 use Rattle.views.specs.Grouping.{bases_of}
-use Rattle.views.specs.Views.{view_at, basis_bytes, InGroup, Views}
+use Rattle.views.specs.declared.View.{View}
+use Rattle.views.specs.Views.{found_at, view_at, basis_bytes, InGroup, Views}
 use Rattle.views.specs.Bases.{first_rows, trees_of, FirstAre}
 use Rattle.views.proofs.InsertLaws.{each_get_or}
 use Rattle.views.proofs.FirstRowsLaws.{Named, first_rows_lem, first_trees}
 
-module _ (f views : List ℕ) where
+module _ (f : List ℕ) (views : List (Option View)) where
   length_trees : (l : List ℕ) → length (trees_of f views l) ≡ length l
   unfolding trees_of
   length_trees [] = refl
@@ -30,14 +32,15 @@ module _ (f views : List ℕ) where
   drop_trees (x ∷ l) (suc k) h = drop_trees l k (omega (arith, h))
 
 -- row x names the basis k
-pub record NextBasis (only : Tree → Bool) (w : ℕ) (f views : List ℕ) (rows : List Row) (k x : ℕ) : Type 0 where
+pub record NextBasis (only : Tree → Bool) (w : ℕ) (f : List ℕ) (views : List (Option View)) (rows : List Row) (k x : ℕ)
+    : Type 0 where
   pub below : x < length rows
-  pub some : (view_at views x).end ≡ 0 → ⊥
+  pub some : found_at views x ≡ Some (view_at views x)
   pub group : InGroup w f (view_at views x)
   pub next : drop k (bases_of only w rows [])
       ≡ decode (basis_bytes f (view_at views x)) ∷ drop (k + 1) (bases_of only w rows [])
 
-module _ (only : Tree → Bool) (w : ℕ) (f views : List ℕ) (rows : List Row) (h : Views only w f views rows)
+module _ (only : Tree → Bool) (w : ℕ) (f : List ℕ) (views : List (Option View)) (rows : List Row) (h : Views only w f views rows)
     {before bases : List ℕ} {r : ℕ} (s : FirstAre (first_rows f views (length rows)) before bases r) (k : ℕ) where
   abbrev first : List ℕ
   first = first_rows f views (length rows)
@@ -54,7 +57,7 @@ module _ (only : Tree → Bool) (w : ℕ) (f views : List ℕ) (rows : List Row)
       record {
         below = named.below;
         some = named.some;
-        group = (h.each (get_or bases k 0) named.below).in_group named.some;
+        group = (h.each (get_or bases k 0) named.below).in_group _ named.some;
         next = rw (one, e, ← first_trees only w f views rows h) (drop_trees f views first k in-first);
       }
 

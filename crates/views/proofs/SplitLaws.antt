@@ -8,6 +8,7 @@ use mathlib.Core.List.{List}
 use mathlib.Core.Bool.{Bool, true, false}
 use lib.ListN.{length, take, drop, length-take, length-drop}
 use borrow.Author.Tests.{eq-eqb, ne_eqb}
+use Rattle.std.specs.Prelude.{Some, None}
 use Rattle.base.specs.Choice.{when}
 use Rattle.base.proofs.PartLaws.{part_part}
 use Rattle.record.specs.Fields.{kind, arity}
@@ -25,7 +26,7 @@ use Rattle.expr.proofs.IsExprLaws.{expr_encodable}
 use Rattle.expr.proofs.AcceptLaws.{accept_encode, accept_expr}
 use Rattle.decompose.specs.declared.Basis as found
 use Rattle.semilinear.specs.Form.{Row}
-use Rattle.decompose.specs.Basis.{basis_span, view_of, IsDecomposed}
+use Rattle.decompose.specs.Basis.{basis_span, BasisOf}
 use Rattle.decompose.specs.Decompose.{no_basis, masked, decompose_atom}
 use Rattle.views.specs.declared.View.{View}
 use Rattle.views.specs.Grouping.{view_row, any_basis, variable_basis}
@@ -64,7 +65,7 @@ other_kind b ok n = go (ℕ_discrete (arity (kind b)) 0) (ℕ_discrete (arity (k
 
 module _ (w : ℕ) (f : List ℕ) (bytes : IsBytes f) (from to : ℕ) (le : from ≤ to) (inside : to ≤ length f)
     (ok : tree_refusal w (take (to - from) (drop from f)) ≡ 0) {r : found.Basis}
-    (d : IsDecomposed w (take (to - from) (drop from f)) r) where
+    (d : BasisOf w (take (to - from) (drop from f)) r) where
   abbrev t : List ℕ
   t = take (to - from) (drop from f)
 
@@ -80,10 +81,9 @@ module _ (w : ℕ) (f : List ℕ) (bytes : IsBytes f) (from to : ℕ) (le : from
   basis_part =
       sym (part_part f from (to - from) r.start r.end d.start_le (omega (arith, d.end_le, t_length)))
 
-  module _ (valid : r.valid ≡ true) {b : List ℕ}
-      (eb : b ≡ take (from + r.end - (from + r.start)) (drop (from + r.start) f)) where
+  module _ {b : List ℕ} (eb : b ≡ take (from + r.end - (from + r.start)) (drop (from + r.start) f)) where
     basis_accepted : tree_refusal w b ≡ 0
-    basis_accepted = rw (eb, basis_part) (d.accepted valid ok)
+    basis_accepted = rw (eb, basis_part) (d.accepted ok)
 
     pub basis_sized : sized b ≡ true
     basis_sized = sized_accepted w b basis_accepted
@@ -97,10 +97,7 @@ module _ (w : ℕ) (f : List ℕ) (bytes : IsBytes f) (from to : ℕ) (le : from
         (bytes_drop (from + r.start) f bytes))
 
     view_tree : decompose_atom w (decode t) ≡ masked (decode b) r.mask
-    unfolding view_of
-    view_tree =
-        let v : view_of t r ≡ masked (decode (basis_span t r)) r.mask = simp valid in
-        sym d.view ∙ v ∙ ap (λ (l : List ℕ). masked (decode l) r.mask) (sym (eb ∙ basis_part))
+    view_tree = d.view ∙ ap (λ (l : List ℕ). masked (decode l) r.mask) (sym (eb ∙ basis_part))
 
     module _ (only : Bool) (x : Row) (et : x.tree ≡ decode t) (n : x.coeff ≡ 0 → ⊥) where
       row_view : view_row (only_of only) w x ≡ when (only_of only (decode b)) (λ _. masked (decode b) r.mask)
@@ -112,8 +109,8 @@ module _ (w : ℕ) (f : List ℕ) (bytes : IsBytes f) (from to : ℕ) (le : from
       unfolding only_of
       counts_not o k = rw o (other_kind b basis_sized k)
 
-      pub viewed_other : (v : View) → v.end ≡ 0 → only ≡ true → (kind b ≡ 1 → ⊥) → Viewed (only_of only) w f v x
-      viewed_other v z o k = viewed_none (only_of only) w f v x z (row_view ∙ simp (counts_not o k))
+      pub viewed_other : only ≡ true → (kind b ≡ 1 → ⊥) → Viewed (only_of only) w f None x
+      viewed_other o k = viewed_none (only_of only) w f x (row_view ∙ simp (counts_not o k))
 
       pub counts_variable : only ≡ true → kind b ≡ 1 → only_of only (decode b) ≡ true
       unfolding only_of
@@ -126,13 +123,13 @@ module _ (w : ℕ) (f : List ℕ) (bytes : IsBytes f) (from to : ℕ) (le : from
       pub viewed_basis : {h : ℕ} → h ≡ structural_hash (decode b) → {c : ℕ} → x.coeff ≡ c → only_of only (decode b) ≡
           true
           → Viewed (only_of only) w f
-          (record { coeff = c; hash = h; start = from + r.start; end = from + r.end; mask = r.mask }) x
+          (Some (record { coeff = c; hash = h; start = from + r.start; end = from + r.end; mask = r.mask })) x
       unfolding basis_bytes
       viewed_basis {h} eh {c} ec counts =
           let v : View = record { coeff = c; hash = h; start = from + r.start; end = from + r.end; mask = r.mask } in
           let seen : when (only_of only (decode b)) (λ _. masked (decode b) r.mask) (λ _. no_basis)
           ≡ masked (decode b) r.mask = simp counts in
-          viewed_some (only_of only) w f v x basis_empty
+          viewed_some (only_of only) w f x v
           (record {
             start_le = omega (arith, d.start_le);
             end_le = omega (arith, end_inside);
@@ -144,18 +141,9 @@ module _ (w : ℕ) (f : List ℕ) (bytes : IsBytes f) (from to : ℕ) (le : from
                 };
           })
           (sym ec) (row_view ∙ seen ∙ ap (λ (l : List ℕ). masked (decode l) r.mask) eb)
-        where
-          b_length : length b ≤ from + r.end
-          b_length = omega
-              (arith, ap length eb, length-take (from + r.end - (from + r.start)) (drop (from + r.start) f))
 
-          basis_empty : from + r.end ≡ 0 → ⊥
-          basis_empty z = omega (arith, b_length, basis_big)
-
-  -- no basis at all
-  pub viewed_no_basis : r.valid ≡ false → (only : Bool) (x : Row) → x.tree ≡ decode t → (x.coeff ≡ 0 → ⊥)
-      → (v : View) → v.end ≡ 0 → Viewed (only_of only) w f v x
-  unfolding view_of
-  viewed_no_basis bad only x et n v z =
-      viewed_none (only_of only) w f v x z
-      (view_no_basis (only_of only) w x n (ap (decompose_atom w) et ∙ sym d.view ∙ simp bad))
+-- no basis at all
+pub viewed_no_basis : (w : ℕ) (f t : List ℕ) → decompose_atom w (decode t) ≡ no_basis → (only : Bool) (x : Row)
+    → x.tree ≡ decode t → (x.coeff ≡ 0 → ⊥) → Viewed (only_of only) w f None x
+viewed_no_basis w f t none only x et n =
+    viewed_none (only_of only) w f x (view_no_basis (only_of only) w x n (ap (decompose_atom w) et ∙ none))

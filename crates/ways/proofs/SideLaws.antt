@@ -1,4 +1,4 @@
--- The sides of a root with two children (specs/Sides.antt, `SideOf`): their trees, marks and spans, and which
+-- The sides of a root with two children (specs/Sides.antt, `OneSide`): their trees, marks and spans, and which
 -- of the three cases holds by the marks of the two; and that their numbers, times 16, are their byte places.
 use mathlib.Core.Path.{◌≡◌, refl, ap, sym, ◌∙◌}
 use Prim.Native.Nat.{ℕ, ◌+◌, ◌-◌, ◌*◌, ◌≤◌}
@@ -21,7 +21,7 @@ use Rattle.ways.specs.declared.side.Spot.{Spot}
 use Rattle.ways.specs.declared.side.Side.{Side}
 use Rattle.ways.specs.Marks.{marks_of, mark_of, mark_variable, mark_arith}
 use Rattle.ways.specs.Spans.{span_of}
-use Rattle.ways.specs.Sides.{tree_at, AtSpot, SideAt, side_tree, SideOf, is_binary, left_of, right_of}
+use Rattle.ways.specs.Sides.{tree_at, AtSpot, SideAt, side_tree, OneSide, is_binary, left_of, right_of}
 use Rattle.ways.proofs.MarksLaws.{length_marks, left_mark, right_mark, left_marks, right_marks}
 use Rattle.ways.proofs.MarksLaws.{root_mark_lem, mark_variable_lem, mark_arith_lem}
 use Rattle.ways.proofs.SpanOfLaws.{size_sized, span_sized, binary_zero, binary_one}
@@ -138,11 +138,11 @@ module _ {w : ℕ} {file marks : List ℕ} {x : Spot} (at : AtSpot w file marks 
   -- i is where the right side's span begins in the root's, n how many records the left side has
   module _ {i n : ℕ} (ei : i ≡ cut span) (en : n ≡ size_of l) (v : ℕ) where
     abbrev left_side : Side
-    left_side = record { found = true; start = x.start; end = x.start + i; from = 0; to = n; value = v }
+    left_side = record { start = x.start; end = x.start + i; from = 0; to = n; value = v }
 
     abbrev right_side : Side
     right_side =
-        record { found = true; start = x.start + i; end = x.end - 16; from = n; to = length marks - 1; value = v }
+        record { start = x.start + i; end = x.end - 16; from = n; to = length marks - 1; value = v }
 
     pub left_side_tree : side_tree file left_side ≡ l
     left_side_tree =
@@ -191,9 +191,9 @@ module _ {w : ℕ} {file marks : List ℕ} {x : Spot} (at : AtSpot w file marks 
               };
         }
 
-    pub side_right : has_var_dep l ≡ false → v ≡ value w [] l → SideOf w file marks x.start l r right_side
-    side_right h ev = SideOf.at_right refl h right_side_tree ev right_side_lem
+    pub side_right : has_var_dep l ≡ false → v ≡ value w [] l → OneSide w file marks x.start l r right_side
+    side_right h ev = OneSide.at_right h right_side_tree ev right_side_lem
 
     pub side_left : has_var_dep l ≡ true → has_var_dep r ≡ false → v ≡ value w [] r
-        → SideOf w file marks x.start l r left_side
-    side_left hl hr ev = SideOf.at_left refl hl hr left_side_tree ev left_side_lem
+        → OneSide w file marks x.start l r left_side
+    side_left hl hr ev = OneSide.at_left hl hr left_side_tree ev left_side_lem

@@ -1,11 +1,11 @@
 -- Laws of spans of a file (specs/Spans.antt): how many records a span holds, where its children's spans lie,
 -- and that these are accepted where it is.
 use mathlib.Core.Path.{◌≡◌, refl, ap, sym, subst, ◌∙◌}
-use Prim.Native.Nat.{ℕ, zero, ◌+◌, ◌-◌, ◌*◌, ◌≤◌, ◌<◌}
+use Prim.Native.Nat.{ℕ, ◌+◌, ◌-◌, ◌*◌, ◌≤◌, ◌<◌}
 use native.Mathlib.Omega.{arith}
 use mathlib.Core.List.{List}
 use mathlib.Core.Bool.{true, false}
-use lib.ListN.{length, take}
+use lib.ListN.{length}
 use Rattle.record.specs.Fields.{kind, size, amount, arity}
 use Rattle.record.specs.Tree.{Tree, size_of}
 use Rattle.record.specs.Tree.Tree.{Unary, Binary}

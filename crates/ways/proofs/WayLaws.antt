@@ -20,17 +20,18 @@ use Rattle.record.proofs.FieldsLaws.{kind_of_arity_one, kind_of_arity_two, arity
 use Rattle.base.proofs.BoolLaws.{false_true, and_true}
 use Rattle.record.proofs.LeafLaws.{leaf_both}
 use Rattle.expr_utils.specs.Utils.{has_kind, has_var_dep, is_arith, has_arith}
-use Rattle.expr.specs.Value.{value}
 use Rattle.expr.proofs.ValueLaws.{value_lt}
 use Rattle.ways.specs.declared.side.Spot.{Spot}
 use Rattle.ways.specs.declared.side.Side.{Side}
 use Rattle.ways.specs.declared.side.Way.{Way}
+use Rattle.ways.specs.declared.side.Way.TheVariants.{End, Child, Both}
 use Rattle.normalizer_laws.specs.Collect.{join_collected}
 use Rattle.rules_laws.specs.Descend.{descend}
 use Rattle.ways.specs.Marks.{mark_of, mark_arith, marks_of}
 use Rattle.ways.specs.Spans.{span_of}
-use Rattle.ways.specs.Sides.{tree_at, AtSpot, SideAt, SideOf, is_binary, left_of, right_of}
-use Rattle.ways.specs.Sides.{collect_literal, is_turned, collect_whole, WayOf}
+use Rattle.ways.specs.Sides.{tree_at, AtSpot, SideAt, OneSide, is_binary, left_of, right_of}
+use Rattle.ways.specs.Sides.{collect_literal, is_turned, collect_whole, join_turned, WayOf, WayDown}
+use Rattle.ways.specs.Sides.{Collectable, FirstOf}
 use Rattle.ways.proofs.MarksLaws.{mark_arith_lem, body_marks}
 use Rattle.ways.proofs.SpanOfLaws.{span_kind, body_accepted, tree_leaf, tree_one, binary_zero}
 use Rattle.ways.proofs.SpanOfLaws.{binary_one}
@@ -59,51 +60,73 @@ module _ (nots : Bool) (w : ℕ) (file marks : List ℕ) (start k c : ℕ) (l r 
   abbrev root : Tree
   root = Binary k l r
 
-  -- a product
-  root_mul : k ≡ 3 → {b : Side} {d : ℕ} → SideOf w file marks start l r b → d ≡ mod_mul c b.value w
-      → WayOf nots w file marks start k c root
-      (record { found = b.found; more = false; turned = false; coeff = d; child = b })
-  root_mul e (SideOf.neither f hl hr) ed = WayOf.ends f (mul_both nots w c hc k l r add e hl hr)
-  root_mul e {b} {d} (SideOf.at_right f hl tree ev side) ed =
-      WayOf.goes f refl refl side (subst (λ (t : Tree). size_of t < size_of root) (sym tree) (size_right k l r))
-      (mul_right nots w c hc k l r add e hl (other_right hv hl)
-      ∙ ap₂ (descend nots w) (ap (λ (v : ℕ). mod_mul c v w) (sym ev) ∙ sym ed) (sym tree))
-  root_mul e {b} {d} (SideOf.at_left f hl hr tree ev side) ed =
-      WayOf.goes f refl refl side (subst (λ (t : Tree). size_of t < size_of root) (sym tree) (size_left k l r))
-      (mul_left nots w c hc k l r add e hl hr
-      ∙ ap₂ (descend nots w) (ap (λ (v : ℕ). mod_mul c v w) (sym ev) ∙ sym ed) (sym tree))
+  abbrev AtRootOf : Way → Type 0
+  AtRootOf b = WayOf nots w file marks start k c root b
 
-  root_and : k ≡ 4 → {b : Way} → b.found ≡ false → WayOf nots w file marks start k c root b
-  root_and e f = WayOf.ends f (and_whole nots w c hc k l r add e hv)
+  -- a product
+  root_mul : k ≡ 3 → {b : Side} {d : ℕ} → OneSide w file marks start l r b → d ≡ mod_mul c b.value w
+      → AtRootOf (Child d false b)
+  unfolding join_turned
+  root_mul e {b} {d} (OneSide.at_right hl tree ev side) ed =
+      record {
+        side = side;
+        smaller = subst (λ (t : Tree). size_of t < size_of root) (sym tree) (size_right k l r);
+        cut = λ on. false_true on;
+        same =
+            mul_right nots w c hc k l r add e hl (other_right hv hl)
+            ∙ ap₂ (descend nots w) (ap (λ (v : ℕ). mod_mul c v w) (sym ev) ∙ sym ed) (sym tree);
+      }
+  root_mul e {b} {d} (OneSide.at_left hl hr tree ev side) ed =
+      record {
+        side = side;
+        smaller = subst (λ (t : Tree). size_of t < size_of root) (sym tree) (size_left k l r);
+        cut = λ on. false_true on;
+        same =
+            mul_left nots w c hc k l r add e hl hr
+            ∙ ap₂ (descend nots w) (ap (λ (v : ℕ). mod_mul c v w) (sym ev) ∙ sym ed) (sym tree);
+      }
+
+  root_mul_end : k ≡ 3 → has_var_dep l ≡ true → has_var_dep r ≡ true → AtRootOf End
+  root_mul_end e hl hr = mul_both nots w c hc k l r add e hl hr
+
+  root_and : k ≡ 4 → AtRootOf End
+  root_and e = and_whole nots w c hc k l r add e hv
 
   -- an Or or Xor
   module _ (low : 2 ≤ k) (high : k < 7) (mul : k ≡ 3 → ⊥) (and : k ≡ 4 → ⊥) where
     plain : is_arith k ≡ false
     plain = not_arith k (eqb-false k 2 add) mul (omega arith)
 
-    root_arith : has_arith root ≡ true → {b : Way} → b.found ≡ false → WayOf nots w file marks start k c root b
-    root_arith h f = WayOf.ends f (arith_whole nots w c hc k l r add plain (ne_eqb k 3 mul) (ne_eqb k 4 and) hv h)
+    root_arith : has_arith root ≡ true → AtRootOf End
+    root_arith h = arith_whole nots w c hc k l r add plain (ne_eqb k 3 mul) (ne_eqb k 4 and) hv h
 
-    root_masked : has_arith root ≡ false → {b : Side} → SideOf w file marks start l r b
-        → WayOf nots w file marks start k c root
-        (record { found = b.found; more = true; turned = false; coeff = c; child = b })
-    root_masked h (SideOf.neither f hl hr) =
-        WayOf.ends f (both_whole nots w c hc k l r add plain (ne_eqb k 3 mul) (ne_eqb k 4 and) hl hr h)
-    root_masked h {b} (SideOf.at_right f hl tree ev side) =
+    root_both : has_arith root ≡ false → has_var_dep l ≡ true → has_var_dep r ≡ true → AtRootOf End
+    root_both h hl hr = both_whole nots w c hc k l r add plain (ne_eqb k 3 mul) (ne_eqb k 4 and) hl hr h
+
+    root_masked : has_arith root ≡ false → {b : Side} → OneSide w file marks start l r b → AtRootOf (Both b)
+    root_masked h {b} (OneSide.at_right hl tree ev side) =
         let hr = other_right hv hl in
-        WayOf.masks f refl side (subst (λ (t : Tree). size_of t < size_of root) (sym tree) (size_right k l r)) refl
-        (ap has_var_dep tree ∙ hr)
-        (masked_right nots w c hc k l r add plain (ne_eqb k 3 mul) (ne_eqb k 4 and) hl hr h
-        ∙ ap₂ (λ (t : Tree) (v : ℕ). join_collected w (descend nots w c t) (collect_literal w k c t v)) (sym tree)
-        (sym ev))
-        (subst (λ (v : ℕ). v < 2 ^ w) (sym ev) (value_lt w [] l))
-    root_masked h {b} (SideOf.at_left f hl hr tree ev side) =
-        WayOf.masks f refl side (subst (λ (t : Tree). size_of t < size_of root) (sym tree) (size_left k l r)) refl
-        (ap has_var_dep tree ∙ hl)
-        (masked_left nots w c hc k l r add plain (ne_eqb k 3 mul) (ne_eqb k 4 and) hl hr h
-        ∙ ap₂ (λ (t : Tree) (v : ℕ). join_collected w (descend nots w c t) (collect_literal w k c t v)) (sym tree)
-        (sym ev))
-        (subst (λ (v : ℕ). v < 2 ^ w) (sym ev) (value_lt w [] r))
+        record {
+          side = side;
+          smaller = subst (λ (t : Tree). size_of t < size_of root) (sym tree) (size_right k l r);
+          variable = ap has_var_dep tree ∙ hr;
+          same =
+              masked_right nots w c hc k l r add plain (ne_eqb k 3 mul) (ne_eqb k 4 and) hl hr h
+              ∙ ap₂ (λ (t : Tree) (v : ℕ). join_collected w (descend nots w c t) (collect_literal w k c t v)) (sym tree)
+              (sym ev);
+          value_lt = subst (λ (v : ℕ). v < 2 ^ w) (sym ev) (value_lt w [] l);
+        }
+    root_masked h {b} (OneSide.at_left hl hr tree ev side) =
+        record {
+          side = side;
+          smaller = subst (λ (t : Tree). size_of t < size_of root) (sym tree) (size_left k l r);
+          variable = ap has_var_dep tree ∙ hl;
+          same =
+              masked_left nots w c hc k l r add plain (ne_eqb k 3 mul) (ne_eqb k 4 and) hl hr h
+              ∙ ap₂ (λ (t : Tree) (v : ℕ). join_collected w (descend nots w c t) (collect_literal w k c t v)) (sym tree)
+              (sym ev);
+          value_lt = subst (λ (v : ℕ). v < 2 ^ w) (sym ev) (value_lt w [] r);
+        }
 
 -- the same of the tree of a spot, whose root has two children and the kind k
 module _ (nots : Bool) {w : ℕ} {file marks : List ℕ} {x : Spot} (at : AtSpot w file marks x)
@@ -132,27 +155,39 @@ module _ (nots : Bool) {w : ℕ} {file marks : List ℕ} {x : Spot} (at : AtSpot
   abbrev There : Tree → Way → Type 0
   There t b = WayOf nots w file marks x.start k x.coeff t b
 
-  over : {b : Way} → There (Binary k l r) b → There (tree_at file x) b
-  over {b} h = subst (λ (t : Tree). There t b) tree_is h
+  over : (b : Way) → There (Binary k l r) b → There (tree_at file x) b
+  over b h = subst (λ (t : Tree). There t b) tree_is h
 
-  pub way_mul : k ≡ 3 → {b : Side} {d : ℕ} → SideOf w file marks x.start l r b → d ≡ mod_mul x.coeff b.value w
-      → There (tree_at file x) (record { found = b.found; more = false; turned = false; coeff = d; child = b })
-  way_mul e side ed = over (root_mul nots w file marks x.start k x.coeff l r hc sides add e side ed)
+  pub way_mul : k ≡ 3 → {b : Side} {d : ℕ} → OneSide w file marks x.start l r b → d ≡ mod_mul x.coeff b.value w
+      → There (tree_at file x) (Child d false b)
+  way_mul e {b} {d} side ed =
+      over (Child d false b) (root_mul nots w file marks x.start k x.coeff l r hc sides add e side ed)
 
-  pub way_and : k ≡ 4 → {b : Way} → b.found ≡ false → There (tree_at file x) b
-  way_and e {b} f = over (root_and nots w file marks x.start k x.coeff l r hc sides add e {b = b} f)
+  pub way_mul_end : k ≡ 3 → has_var_dep l ≡ true → has_var_dep r ≡ true → There (tree_at file x) End
+  way_mul_end e hl hr =
+      over End (root_mul_end nots w file marks x.start k x.coeff l r hc sides add e hl hr)
+
+  pub way_and : k ≡ 4 → There (tree_at file x) End
+  way_and e = over End (root_and nots w file marks x.start k x.coeff l r hc sides add e)
 
   module _ (mul : k ≡ 3 → ⊥) (and : k ≡ 4 → ⊥) where
-    pub way_arith : has_arith (tree_at file x) ≡ true → {b : Way} → b.found ≡ false → There (tree_at file x) b
-    way_arith h {b} f =
-        over
+    pub way_arith : has_arith (tree_at file x) ≡ true → There (tree_at file x) End
+    way_arith h =
+        over End
         (root_arith nots w file marks x.start k x.coeff l r hc sides add kinds.0 kinds.1 mul and
-        (ap has_arith tree_is ∙ h) {b = b} f)
+        (ap has_arith tree_is ∙ h))
 
-    pub way_masked : has_arith (tree_at file x) ≡ false → {b : Side} → SideOf w file marks x.start l r b
-        → There (tree_at file x) (record { found = b.found; more = true; turned = false; coeff = x.coeff; child = b })
-    way_masked h side =
-        over
+    pub way_both : has_arith (tree_at file x) ≡ false → has_var_dep l ≡ true → has_var_dep r ≡ true
+        → There (tree_at file x) End
+    way_both h hl hr =
+        over End
+        (root_both nots w file marks x.start k x.coeff l r hc sides add kinds.0 kinds.1 mul and
+        (ap has_arith tree_is ∙ h) hl hr)
+
+    pub way_masked : has_arith (tree_at file x) ≡ false → {b : Side} → OneSide w file marks x.start l r b
+        → There (tree_at file x) (Both b)
+    way_masked h {b} side =
+        over (Both b)
         (root_masked nots w file marks x.start k x.coeff l r hc sides add kinds.0 kinds.1 mul and
         (ap has_arith tree_is ∙ h) side)
 
@@ -206,7 +241,7 @@ module _ (nots : Bool) {w : ℕ} {file marks : List ℕ} {x : Spot} (at : AtSpot
   module _ (a : arity (kind span) ≡ 1) where
     abbrev only : Side
     only =
-        record { found = true; start = x.start; end = x.end - 16; from = 0; to = length marks - 1; value = 0 }
+        record { start = x.start; end = x.end - 16; from = 0; to = length marks - 1; value = 0 }
 
     only_count : length marks ≡ size_of child + 1
     unfolding size_of
@@ -233,21 +268,21 @@ module _ (nots : Bool) {w : ℕ} {file marks : List ℕ} {x : Spot} (at : AtSpot
 
   abbrev under : Bool → Way
   under turned =
-      record {
-        found = true;
-        more = false;
-        turned = turned;
-        coeff = mod_neg x.coeff w;
-        child =
-            record { found = true; start = x.start; end = x.end - 16; from = 0; to = length marks - 1; value = 0 };
-      }
+      Child (mod_neg x.coeff w) turned
+      (record { start = x.start; end = x.end - 16; from = 0; to = length marks - 1; value = 0 })
 
   pub way_neg : kind span ≡ 8 → Here (under false)
+  unfolding join_turned
   way_neg e =
       let a : arity (kind span) ≡ 1 = arity_one_of_le (kind span) (omega arith) (omega arith) in
-      WayOf.goes refl refl refl (only_side a) (only_size a)
-      (ap (descend nots w x.coeff) (tree_one at.span refl a)
-      ∙ terms_neg nots w x.coeff hc (kind span) (amount span) child (one_variable a) e)
+      record {
+        side = only_side a;
+        smaller = only_size a;
+        cut = λ on. false_true on;
+        same =
+            ap (descend nots w x.coeff) (tree_one at.span refl a)
+            ∙ terms_neg nots w x.coeff hc (kind span) (amount span) child (one_variable a) e;
+      }
 
   -- the rule for Not, by the mark of the root
   module _ (n : kind span ≡ 8 → ⊥) {m : ℕ} (em : m ≡ get_or marks (length marks - 1) 0) where
@@ -273,16 +308,21 @@ module _ (nots : Bool) {w : ℕ} {file marks : List ℕ} {x : Spot} (at : AtSpot
         (and_true (eqb (kind span) 7) (mark_arith m) (and_true nots (eqb (kind span) 7 && mark_arith m) e).1).0
 
     pub way_not : w ≤ 64 → is_turned nots (kind span) m ≡ true → Here (under true)
+    unfolding join_turned
     way_not hw e =
         let seven = turned_seven e in
         let a : arity (kind span) ≡ 1 = arity_one_of_le (kind span) (omega arith) (omega arith) in
-        WayOf.turns refl refl refl (only_side a) (only_size a) (mod_neg_lt x.coeff w hw)
-        (ap (descend nots w x.coeff) (tree_one at.span refl a)
-        ∙ terms_not nots w x.coeff hc (kind span) (amount span) child (one_variable a) n (turned_is a e))
+        record {
+          side = only_side a;
+          smaller = only_size a;
+          cut = λ _. mod_neg_lt x.coeff w hw;
+          same =
+              ap (descend nots w x.coeff) (tree_one at.span refl a)
+              ∙ terms_not nots w x.coeff hc (kind span) (amount span) child (one_variable a) n (turned_is a e);
+        }
 
-    pub way_end : (arity (kind span) ≡ 2 → ⊥) → is_turned nots (kind span) m ≡ false → {b : Way} → b.found ≡ false
-        → Here b
-    way_end two off {b} f = WayOf.ends f (go (ℕ_discrete (arity (kind span)) 0) (ℕ_discrete (arity (kind span)) 1))
+    pub way_end : (arity (kind span) ≡ 2 → ⊥) → is_turned nots (kind span) m ≡ false → Here End
+    way_end two off = go (ℕ_discrete (arity (kind span)) 0) (ℕ_discrete (arity (kind span)) 1)
       where
         go : Dec (arity (kind span) ≡ 0) → Dec (arity (kind span) ≡ 1)
             → descend nots w x.coeff (tree_at file x) ≡ collect_whole w x.coeff (tree_at file x)
@@ -294,3 +334,14 @@ module _ (nots : Bool) {w : ℕ} {file marks : List ℕ} {x : Spot} (at : AtSpot
             (terms_one nots w x.coeff hc (kind span) (amount span) child (one_variable a)
             (kind_of_arity_one (kind span) a) n (turned_is a off))
         go (no p) (no q) = absurd (two (arity_two (kind span) p q))
+
+-- ---- any root
+
+-- a root with a variable that is no Add, under a coefficient other than 0
+pub way_other : (nots : Bool) (w : ℕ) {file : List ℕ} (marks : List ℕ) {x : Spot} (b : Way)
+    → eqb (kind (span_of file x.start x.end)) 2 ≡ false → Collectable file x
+    → WayOf nots w file marks x.start (kind (span_of file x.start x.end)) x.coeff (tree_at file x) b
+    → WayDown nots w file marks x b
+way_other nots w marks End n here h = λ _ _. h
+way_other nots w marks (Child d turned b) n here h = (n, here, h)
+way_other nots w marks (Both b) n here h = FirstOf.masks n here h

@@ -1,6 +1,6 @@
 -- Where the descent stands in the file and where it can go on from there: a subtree with its marks, the sides of a root
 -- with two children, and how what is collected below makes up what is collected here.
-use Rattle.std.specs.Prelude.{◌≡◌, ℕ, ◌+◌, ◌-◌, ◌*◌, ◌^◌, ◌≤◌, ◌<◌, List, [], Bool, true, false, ◌&&◌, length, eqb}
+use Rattle.std.specs.Prelude.{◌≡◌, ℕ, ◌+◌, ◌-◌, ◌*◌, ◌^◌, ◌≤◌, ◌<◌, List, [], Bool, true, false, ◌&&◌, length, eqb, Option, None, Some}
 use Rattle.arith.specs.Width.{mod_mul}
 use Rattle.base.specs.Choice.{when}
 use Rattle.record.specs.Tree.{Tree, size_of}
@@ -13,6 +13,7 @@ use Rattle.expr.specs.Value.{value}
 use Rattle.ways.specs.declared.side.Spot.{Spot}
 use Rattle.ways.specs.declared.side.Side.{Side}
 use Rattle.ways.specs.declared.side.Way.{Way}
+use Rattle.ways.specs.declared.side.Way.TheVariants.{End, Child, Both}
 use Rattle.normalizer_laws.specs.Collect.{Collected, nonlinear, linear, join_collected, collect_atom}
 use Rattle.normalizer_laws.specs.Collect.{collect_and, and_coeff}
 use Rattle.rules_laws.specs.Descend.{descend}
@@ -96,7 +97,6 @@ right_of (Binary k l r) = r
 unfoldable pub left_side : List ℕ → Spot → Side
 left_side file x =
     record {
-      found = true;
       start = x.start;
       end = x.start + cut (span_of file x.start x.end);
       from = 0;
@@ -108,7 +108,6 @@ left_side file x =
 unfoldable pub right_side : List ℕ → List ℕ → Spot → Side
 right_side file marks x =
     record {
-      found = true;
       start = x.start + cut (span_of file x.start x.end);
       end = x.end - record_length;
       from = size (left (span_of file x.start x.end));
@@ -121,12 +120,16 @@ abbrev pub IsAnd : Tree → Type 0
 IsAnd t = t ≡ Binary 4 (left_of t) (right_of t)
 
 -- the side with a variable of a root over l and r, where the other has none; the root's bytes begin at `start`
-pub data SideOf (w : ℕ) (file marks : List ℕ) (start : ℕ) (l r : Tree) (b : Side) : Type 0 where
-  neither : b.found ≡ false → has_var_dep l ≡ true → has_var_dep r ≡ true → SideOf w file marks start l r b
-  at_right : b.found ≡ true → has_var_dep l ≡ false → side_tree file b ≡ r → b.value ≡ value w [] l
-      → SideAt w file marks start b → SideOf w file marks start l r b
-  at_left : b.found ≡ true → has_var_dep l ≡ true → has_var_dep r ≡ false → side_tree file b ≡ l → b.value ≡ value w [] r
-      → SideAt w file marks start b → SideOf w file marks start l r b
+pub data OneSide (w : ℕ) (file marks : List ℕ) (start : ℕ) (l r : Tree) (b : Side) : Type 0 where
+  at_right : has_var_dep l ≡ false → side_tree file b ≡ r → b.value ≡ value w [] l → SideAt w file marks start b
+      → OneSide w file marks start l r b
+  at_left : has_var_dep l ≡ true → has_var_dep r ≡ false → side_tree file b ≡ l → b.value ≡ value w [] r
+      → SideAt w file marks start b → OneSide w file marks start l r b
+
+-- that side, or none where both have a variable
+abbrev pub SideOf : ℕ → List ℕ → List ℕ → ℕ → Tree → Tree → Option Side → Type 0
+SideOf w file marks start l r None = (has_var_dep l ≡ true) × (has_var_dep r ≡ true)
+SideOf w file marks start l r (Some b) = OneSide w file marks start l r b
 
 -- the rule for Not is taken at a root of kind k and of the mark m
 unfoldable pub is_turned : Bool → ℕ → ℕ → Bool
@@ -142,39 +145,58 @@ collect_whole w c (Binary k l r) =
     when (has_arith (Binary k l r)) (λ _. nonlinear)
     (λ _. when (eqb k 4) (λ _. collect_and w c l r) (λ _. collect_atom c (Binary k l r)))
 
+-- what is collected of a child with the coefficient d, from a Not that is turned with the constant d besides
+unfoldable pub join_turned : ℕ → Bool → ℕ → Collected → Collected
+join_turned w turned d x = when turned (λ _. join_collected w (linear d []) x) (λ _. x)
+
+-- the descent goes from a tree t under a coefficient c to the one child b under the coefficient d; the tree's bytes begin
+-- at `start`
+pub record Goes (nots : Bool) (w : ℕ) (file marks : List ℕ) (start c : ℕ) (t : Tree) (d : ℕ) (turned : Bool)
+    (b : Side) : Type 0 where
+  pub side : SideAt w file marks start b
+  pub smaller : size_of (side_tree file b) < size_of t
+  pub cut : turned ≡ true → d < 2 ^ w
+  pub same : descend nots w c t ≡ join_turned w turned d (descend nots w d (side_tree file b))
+
+-- it goes from a tree t of kind k to the child b and then to the And of it and a literal
+pub record Masks (nots : Bool) (w : ℕ) (file marks : List ℕ) (start k c : ℕ) (t : Tree) (b : Side) : Type 0 where
+  pub side : SideAt w file marks start b
+  pub smaller : size_of (side_tree file b) < size_of t
+  pub variable : has_var_dep (side_tree file b) ≡ true
+  pub same :
+      descend nots w c t
+      ≡ join_collected w (descend nots w c (side_tree file b)) (collect_literal w k c (side_tree file b) b.value)
+  pub value_lt : b.value < 2 ^ w
+
 -- how the descent, with the rule for Not or without it, goes on at a tree t of kind k with a variable that is no Add,
--- under a coefficient c other than 0: it ends there; or goes to one child, from a Not that is turned with a constant
--- besides; or to one child and then to the And of it and a literal. The tree's bytes begin at `start`
-pub data WayOf (nots : Bool) (w : ℕ) (file marks : List ℕ) (start k c : ℕ) (t : Tree) (b : Way) : Type 0 where
-  ends : b.found ≡ false → descend nots w c t ≡ collect_whole w c t → WayOf nots w file marks start k c t b
-  goes : b.found ≡ true → b.more ≡ false → b.turned ≡ false → SideAt w file marks start b.child
-      → size_of (side_tree file b.child) < size_of t
-      → descend nots w c t ≡ descend nots w b.coeff (side_tree file b.child)
-      → WayOf nots w file marks start k c t b
-  turns : b.found ≡ true → b.more ≡ false → b.turned ≡ true → SideAt w file marks start b.child
-      → size_of (side_tree file b.child) < size_of t → b.coeff < 2 ^ w
-      → descend nots w c t
-      ≡ join_collected w (linear b.coeff []) (descend nots w b.coeff (side_tree file b.child))
-      → WayOf nots w file marks start k c t b
-  masks : b.found ≡ true → b.more ≡ true → SideAt w file marks start b.child
-      → size_of (side_tree file b.child) < size_of t → b.coeff ≡ c → has_var_dep (side_tree file b.child) ≡ true
-      → descend nots w c t
-      ≡ join_collected w (descend nots w c (side_tree file b.child))
-      (collect_literal w k c (side_tree file b.child) b.child.value)
-      → b.child.value < 2 ^ w → WayOf nots w file marks start k c t b
+-- under a coefficient c other than 0
+abbrev pub WayOf : Bool → ℕ → List ℕ → List ℕ → ℕ → ℕ → ℕ → Tree → Way → Type 0
+WayOf nots w file marks start k c t End = descend nots w c t ≡ collect_whole w c t
+WayOf nots w file marks start k c t (Child d turned b) = Goes nots w file marks start c t d turned b
+WayOf nots w file marks start k c t (Both b) = Masks nots w file marks start k c t b
 
 -- at a tree with a variable under a coefficient other than 0 the descent ends
 abbrev pub EndsHere : Bool → ℕ → ℕ → Tree → Type 0
 EndsHere nots w c t = eqb c 0 ≡ false → has_var_dep t ≡ true → descend nots w c t ≡ collect_whole w c t
 
--- how the descent goes on at any spot: it ends there, or goes to the left side of an Add and then to the right one, or
--- as at a root that is no Add
-pub data WayDown (nots : Bool) (w : ℕ) (file marks : List ℕ) (x : Spot) (b : Way) : Type 0 where
-  none : b.found ≡ false → EndsHere nots w x.coeff (tree_at file x) → WayDown nots w file marks x b
-  sum : kind (span_of file x.start x.end) ≡ 2 → eqb x.coeff 0 ≡ false → has_var_dep (tree_at file x) ≡ true
-      → b ≡ record { found = true; more = true; turned = false; coeff = x.coeff; child = left_side file x }
-      → Places x.start b.child → WayDown nots w file marks x b
-  other : eqb (kind (span_of file x.start x.end)) 2 ≡ false → eqb x.coeff 0 ≡ false
-      → has_var_dep (tree_at file x) ≡ true
-      → WayOf nots w file marks x.start (kind (span_of file x.start x.end)) x.coeff (tree_at file x) b
-      → WayDown nots w file marks x b
+-- a tree with a variable under a coefficient other than 0
+pub record Collectable (file : List ℕ) (x : Spot) : Type 0 where
+  pub some : eqb x.coeff 0 ≡ false
+  pub variable : has_var_dep (tree_at file x) ≡ true
+
+-- the child b, under the same coefficient, is the left side of an Add, or stands beside a literal
+pub data FirstOf (nots : Bool) (w : ℕ) (file marks : List ℕ) (x : Spot) (b : Side) : Type 0 where
+  sum : kind (span_of file x.start x.end) ≡ 2 → Collectable file x → b ≡ left_side file x → Places x.start b
+      → FirstOf nots w file marks x b
+  masks : eqb (kind (span_of file x.start x.end)) 2 ≡ false → Collectable file x
+      → Masks nots w file marks x.start (kind (span_of file x.start x.end)) x.coeff (tree_at file x) b
+      → FirstOf nots w file marks x b
+
+-- how the descent goes on at any spot: it ends there, or goes to one child of a root that is no Add, or first to one child
+-- of two
+abbrev pub WayDown : Bool → ℕ → List ℕ → List ℕ → Spot → Way → Type 0
+WayDown nots w file marks x End = EndsHere nots w x.coeff (tree_at file x)
+WayDown nots w file marks x (Child d turned b) =
+    (eqb (kind (span_of file x.start x.end)) 2 ≡ false) × Collectable file x
+    × Goes nots w file marks x.start x.coeff (tree_at file x) d turned b
+WayDown nots w file marks x (Both b) = FirstOf nots w file marks x b

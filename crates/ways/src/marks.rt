@@ -1,6 +1,8 @@
 // What the descent asks of every subtree, found in one walk: a mark for each record, the subtree's
 // root, in the order of the records. It is 1 where the tree has a variable, and 2 more where it has
 // an Add, a Mul or a Neg.
+// Kept as a byte: the marks for the copy of rules 2 stand in the result slice, the caller's bytes, so
+// that no array more lies below the recursion.
 ghost use Rattle.std.specs.Prelude.{◌≡◌, [], ◌∷◌, ◌<◌, ◌≤◌, length};
 ghost use Rattle.record.specs.Decode.{leaf, decode};
 ghost use Rattle.base.specs.Put.{put};
@@ -9,19 +11,21 @@ ghost use Rattle.ways.specs.Marks.{mark_of, root_mark, mark_variable, mark_arith
 ghost use Rattle.ways.specs.Marks.{MarkRoom, Marked};
 
 use base::limits;
+use record::kinds::Kind;
 
 // The mark of a root without children.
 fn leaf_mark(t: &[u8]) -> u8
     requires { record_length ≤ length t.now }
     ensures { result ≡ mark_of (leaf t.now) }
 {
-    if record::kind(t) == 0 {
+    if record::kind(t) == Kind::Constant as u8 {
         return 0;
     }
     1
 }
 
 // The mark of a root of kind k over children whose marks have the bits of m.
+#[tactic(auto, unfolding(crate::specs::Marks::root_mark))]
 fn root_mark(k: u8, m: u8) -> u8
     ensures { result ≡ root_mark k m }
 {
@@ -32,6 +36,7 @@ fn root_mark(k: u8, m: u8) -> u8
 }
 
 // Whether the mark m is of a tree with a variable.
+#[tactic(auto, unfolding(crate::specs::Marks::mark_variable))]
 pub fn has_variable(m: u8) -> bool
     ensures { result ≡ mark_variable m }
 {
@@ -39,6 +44,7 @@ pub fn has_variable(m: u8) -> bool
 }
 
 // Whether the mark m is of a tree with an Add, a Mul or a Neg.
+#[tactic(auto, unfolding(crate::specs::Marks::mark_arith))]
 pub fn has_arith(m: u8) -> bool
     ensures { result ≡ mark_arith m }
 {
@@ -46,6 +52,7 @@ pub fn has_arith(m: u8) -> bool
 }
 
 // Puts the mark m at i.
+#[tactic(auto, using(crate::proofs::MarksLaws::put_one))]
 fn put_mark(m: u8, marks: &mut [u8], i: usize) -> u8
     requires { i < length marks.old }
     ensures { (result ≡ m) × (marks.new ≡ put marks.old i (m ∷ [])) }

@@ -10,6 +10,7 @@ ghost use Rattle.base.specs.Limits.{record_length};
 
 use crate::marks;
 use base::limits;
+use record::kinds::Kind;
 
 // A coefficient, and the bytes of the file that hold a subtree.
 #[derive(Clone, Copy)]
@@ -23,7 +24,6 @@ pub struct Spot {
 // bytes, its marks, and the other side's value.
 #[derive(Clone, Copy)]
 pub struct Side {
-    pub found: bool,
     pub start: usize,
     pub end: usize,
     pub from: usize,
@@ -31,19 +31,24 @@ pub struct Side {
     pub value: u64,
 }
 
-// Where the descent goes on from a root: to one child with this coefficient, which is added as a
-// constant too where the root is a Not that is turned; where there is more, then to the right side
-// of a sum, or to the child and a literal; or nowhere.
-#[derive(Drop)]
-pub struct Way {
-    pub found: bool,
-    pub more: bool,
-    pub turned: bool,
-    pub coeff: u64,
-    pub child: Side,
+// Where the descent goes on from a root.
+#[derive(Clone, Copy)]
+pub enum Way {
+    // Nowhere.
+    End,
+    // To one child with this coefficient, which is added as a constant too where a Not is turned.
+    Child {
+        coeff: u64,
+        turned: bool,
+        child: Side,
+    },
+    // With the same coefficient first to the left side of a sum, then to the right one; or to the
+    // child and then to the And of it and a literal.
+    Both(Side),
 }
 
 // The bytes of the file from start to end.
+#[tactic(auto, unfolding(crate::specs::Spans::span_of))]
 pub fn span_of(file: &[u8], start: usize, end: usize) -> &[u8]
     requires { (start ≤ end) × (end ≤ length file.now) }
     ensures { result.now ≡ span_of file.now start end }
@@ -59,7 +64,6 @@ pub fn left_side(x: Spot, file: &[u8]) -> Side
     let t = span_of(file, x.start, x.end);
     let cut = record::cut(t);
     Side {
-        found: true,
         start: x.start,
         end: x.start + cut,
         from: 0,
@@ -76,7 +80,6 @@ pub fn right_side(x: Spot, file: &[u8], marks: &[u8]) -> Side
     let t = span_of(file, x.start, x.end);
     let cut = record::cut(t);
     Side {
-        found: true,
         start: x.start + cut,
         end: x.end - limits::RECORD_LENGTH,
         from: record::number_of(cut),
@@ -90,28 +93,14 @@ pub fn side_spot(coeff: u64, side: Side) -> Spot
     ensures { result ≡ record { coeff = coeff; start = side.start; end = side.end } }
 {
     Spot {
-        coeff: coeff,
+        coeff,
         start: side.start,
         end: side.end,
     }
 }
 
-// No side without a variable.
-fn no_side() -> Side
-    ensures { result.found ≡ false }
-{
-    Side {
-        found: false,
-        start: 0,
-        end: 0,
-        from: 0,
-        to: 0,
-        value: 0,
-    }
-}
-
-// The sides of a root with two children, one of them with a variable.
-pub fn side_of(x: Spot, file: &[u8], marks: &[u8], w: u32) -> Side
+// The side of a root with two children that alone has a variable.
+pub fn side_of(x: Spot, file: &[u8], marks: &[u8], w: u32) -> Option<Side>
     requires { AtSpot w file.now marks.now x × (w ≤ 64)
         × (is_binary (tree_at file.now x) ≡ true) }
     ensures { SideOf w file.now marks.now x.start
@@ -126,91 +115,59 @@ pub fn side_of(x: Spot, file: &[u8], marks: &[u8], w: u32) -> Side
     let last = marks.len() - 1;
     if !marks::has_variable(marks[number - 1]) {
         let value = expr::value::constant_value(record::left(t), w);
-        let stop = end - limits::RECORD_LENGTH;
-        return Side {
-            found: true,
+        return Some(Side {
             start: middle,
-            end: stop,
+            end: end - limits::RECORD_LENGTH,
             from: number,
             to: last,
-            value: value,
-        };
+            value,
+        });
     }
     if marks::has_variable(marks[last - 1]) {
-        return no_side();
+        return None;
     }
     let value = expr::value::constant_value(record::right(t), w);
-    Side {
-        found: true,
-        start: start,
+    Some(Side {
+        start,
         end: middle,
         from: 0,
         to: number,
-        value: value,
-    }
-}
-
-// No way on.
-fn nowhere() -> Way
-    ensures { result.found ≡ false }
-{
-    Way {
-        found: false,
-        more: false,
-        turned: false,
-        coeff: 0,
-        child: no_side(),
-    }
+        value,
+    })
 }
 
 // The way on from a Neg, or from a Not that is turned: to its child.
 fn way_neg(x: Spot, marks: &[u8], turned: bool, w: u32) -> Way
     requires { (record_length ≤ x.end) × (1 ≤ length marks.now) }
-    ensures { result ≡ record {
-      found = true;
-      more = false;
-      turned = turned;
-      coeff = mod_neg x.coeff w;
-      child = record {
-        found = true;
-        start = x.start;
-        end = x.end - record_length;
-        from = 0;
-        to = length marks.now - 1;
-        value = 0;
-      };
+    ensures { result ≡ Way.Child (mod_neg x.coeff w) turned record {
+      start = x.start;
+      end = x.end - record_length;
+      from = 0;
+      to = length marks.now - 1;
+      value = 0;
     } }
 {
-    let stop = x.end - limits::RECORD_LENGTH;
     let last = marks.len() - 1;
     let child = Side {
-        found: true,
         start: x.start,
-        end: stop,
+        end: x.end - limits::RECORD_LENGTH,
         from: 0,
         to: last,
         value: 0,
     };
-    Way {
-        found: true,
-        more: false,
-        turned: turned,
+    Way::Child {
         coeff: arith::mod_neg(x.coeff, w),
-        child: child,
+        turned,
+        child,
     }
 }
 
 // Whether the rule for Not is taken at a root of kind k and of the mark m.
+#[tactic(auto, unfolding(crate::specs::Sides::is_turned, crate::specs::Marks::mark_arith))]
 fn is_turned(nots: bool, k: u8, m: u8) -> bool
     ensures { result ≡ is_turned nots k m }
 {
-    if !nots {
-        return false;
-    }
-    if k != 7 {
-        return false;
-    }
-    marks::has_arith(m)
+    nots && k == Kind::Not as u8 && marks::has_arith(m)
 }
 
 // The way on from a root with two children that is no Add: a product by a constant, or an Or or
@@ -220,30 +177,22 @@ fn way_two(x: Spot, k: u8, file: &[u8], marks: &[u8], nots: bool, w: u32) -> Way
     ensures { WayOf nots w file.now marks.now x.start k x.coeff
         (tree_at file.now x) result }
 {
-    if k == 3 {
-        let side = side_of(x, file, marks, w);
-        return Way {
-            found: side.found,
-            more: false,
-            turned: false,
-            coeff: arith::mod_mul(x.coeff, side.value, w),
-            child: side,
+    if k == Kind::Mul as u8 {
+        return match side_of(x, file, marks, w) {
+            Some(child) => Way::Child {
+                coeff: arith::mod_mul(x.coeff, child.value, w),
+                turned: false,
+                child,
+            },
+            None => Way::End,
         };
     }
-    if k == 4 {
-        return nowhere();
+    if k == Kind::And as u8 || marks::has_arith(marks[marks.len() - 1]) {
+        return Way::End;
     }
-    let last = marks.len() - 1;
-    if marks::has_arith(marks[last]) {
-        return nowhere();
-    }
-    let side = side_of(x, file, marks, w);
-    Way {
-        found: side.found,
-        more: true,
-        turned: false,
-        coeff: x.coeff,
-        child: side,
+    match side_of(x, file, marks, w) {
+        Some(child) => Way::Both(child),
+        None => Way::End,
     }
 }
 
@@ -254,19 +203,16 @@ pub fn way_on(x: Spot, file: &[u8], marks: &[u8], nots: bool, w: u32) -> Way
         (kind (span_of file.now x.start x.end)) x.coeff
         (tree_at file.now x) result }
 {
-    let start = x.start;
-    let end = x.end;
-    let t = &file[start..end];
+    let t = &file[x.start..x.end];
     let k = record::kind(t);
-    if k == 8 {
+    if k == Kind::Neg as u8 {
         return way_neg(x, marks, false, w);
     }
-    let last = marks.len() - 1;
-    if is_turned(nots, k, marks[last]) {
+    if is_turned(nots, k, marks[marks.len() - 1]) {
         return way_neg(x, marks, true, w);
     }
     if record::root_arity(t) != 2 {
-        return nowhere();
+        return Way::End;
     }
     way_two(x, k, file, marks, nots, w)
 }
@@ -277,25 +223,11 @@ pub fn way_down(x: Spot, file: &[u8], marks: &[u8], nots: bool, w: u32) -> Way
     requires { AtSpot w file.now marks.now x × (w ≤ 64) }
     ensures { WayDown nots w file.now marks.now x result }
 {
-    let coeff = x.coeff;
-    if coeff == 0 {
-        return nowhere();
+    if x.coeff == 0 || !marks::has_variable(marks[marks.len() - 1]) {
+        return Way::End;
     }
-    let last = marks.len() - 1;
-    if !marks::has_variable(marks[last]) {
-        return nowhere();
-    }
-    let start = x.start;
-    let end = x.end;
-    if record::kind(span_of(file, start, end)) == 2 {
-        let child = left_side(x, file);
-        return Way {
-            found: true,
-            more: true,
-            turned: false,
-            coeff: coeff,
-            child: child,
-        };
+    if record::kind(span_of(file, x.start, x.end)) == Kind::Add as u8 {
+        return Way::Both(left_side(x, file));
     }
     way_on(x, file, marks, nots, w)
 }

@@ -9,13 +9,8 @@ slice_bounds-row_with-end c = atoms_inside c.requires.room
 pub slice_bounds-row_with-end-2 : goal.slice_bounds-row_with-end-2
 slice_bounds-row_with-end-2 c = taken_atoms c.requires.room
 
-pub returns-then-i-made : goal.returns-then-i-made
-returns-then-i-made c =
-    let pre = c.requires in
-    bare_found pre.basis (omega arith) c.row_with-i.ensures pre.room c.if-i-made.true
+pub returns-in-Some : goal.returns-in-Some
+returns-in-Some c = bare_found c.requires.basis (omega arith) c.requires.room c.in-Some.ensures
 
 pub returns : goal.returns
-returns c =
-    let pre = c.requires in
-    bare_created pre.basis (omega arith) c.row_with-i.ensures
-    (omega (arith, c.if-i-made.false)) c.create_row.ensures
+returns c = bare_created c.requires.basis (omega arith) c.in_default.ensures c.create_row.ensures

@@ -7,9 +7,9 @@ pub front_word-requires : goal.front_word-requires
 front_word-requires c = (atom_room _ c.requires).big
 
 pub returns-then-front_word-hash : goal.returns-then-front_word-hash
-returns-then-front_word-hash c = tree_other _ c.args.t.now _ c.front_word.ensures c.if-front_word-hash.true
-
-pub returns : goal.returns
-returns c =
+returns-then-front_word-hash c =
     tree_same _ c.args.t.now _ c.front_word.ensures
-    c.if-front_word-hash.false c.tree_span.ensures c.same_bytes.ensures
+    c.if-front_word-hash.true c.tree_span.ensures c.same_bytes.ensures
+
+pub returns-else-front_word-hash : goal.returns-else-front_word-hash
+returns-else-front_word-hash c = tree_other _ c.args.t.now _ c.front_word.ensures c.if-front_word-hash.false

@@ -1,10 +1,6 @@
 -- `best_of` meets its contract: the loop keeps the streak that ends before record `i`, and the best week up to there.
-use Prim.Native.Nat.{◌-◌, ◌≤◌}
 use Rattle.best_week.specs.Walk.{StreakAt, BestUpTo}
 use Rattle.best_week.proofs.best_of.Given as goal
 
 abbrev pub invariant-loop-i : goal.invariant-loop-i
-invariant-loop-i l = StreakAt l.run l.i l.streak × BestUpTo l.run l.i l.best × (1 ≤ l.i) × (l.i ≤ l.n)
-
-abbrev pub decreases-loop-i : goal.decreases-loop-i
-decreases-loop-i l = l.n - l.i
+invariant-loop-i l = StreakAt l.run l.i l.streak × BestUpTo l.run l.i l.best

@@ -1,4 +1,5 @@
 -- `coalesce_form` meets its contract: the copied table, its rows coalesced, and the end of a pass.
+use mathlib.Core.Path.{refl}
 use Rattle.base.proofs.PutLaws.{padded_nil}
 use Rattle.semilinear.proofs.ValidLaws.{semilinear_parts}
 use Rattle.group.proofs.PassLaws.{pass_begin}
@@ -18,12 +19,12 @@ coalesce_table-requires c =
 
 pub finish-requires : goal.finish-requires
 finish-requires c =
-    coalesce_room c.coalesce_table.ensures c.load.ensures
+    coalesce_room c.coalesce_table.ensures refl
     c.copy_atoms-tab.ensures.long
 
 pub returns : goal.returns
 returns c =
     coalesce_end c.args.s.now (λ i. (c.shared_slice_known-1.given i).fits) c.requires.0
     c.width-w.ensures c.literal-constant.ensures c.body.ensures c.copy_atoms-tab.ensures
-    c.coalesce_table.ensures c.load.ensures
+    c.coalesce_table.ensures refl
     c.finish.result c.finish.ensures

@@ -3,10 +3,10 @@ use native.Mathlib.Omega.{arith}
 use Rattle.group.proofs.PassLaws.{form_fewer}
 use Rattle.coalesce.proofs.coalesce_table.Goals as goal
 
-pub coalesce_short-requires : goal.coalesce_short-requires
-coalesce_short-requires c =
+pub coalesce_sized-requires : goal.coalesce_sized-requires
+coalesce_sized-requires c =
     let pre = c.requires in
-    form_fewer pre.1 (omega (arith, pre.0, c.if-count-le-SHORT_ATOMS_U64.true))
+    (omega arith, form_fewer pre.1 (omega (arith, pre.0, c.if-count-le-SHORT_ATOMS_U64.true)))
 
-pub coalesce_long-requires : goal.coalesce_long-requires
-coalesce_long-requires c = c.requires.1
+pub coalesce_sized-requires-2 : goal.coalesce_sized-requires-2
+coalesce_sized-requires-2 c = (omega arith, c.requires.1)

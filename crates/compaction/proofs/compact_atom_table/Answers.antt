@@ -1,22 +1,18 @@
 -- `compact_atom_table` meets its contract: the front door, and then the form.
-use Rattle.compaction.specs.Compact.{compact_atom_table}
+use Rattle.base.proofs.RefusalLaws.{passed_on}
 use Rattle.atom_table.proofs.ReadLaws.{pass_shut, pass_open, pass_zeros, pass_given}
+use Rattle.compaction.specs.Compact.{compact_atom_table}
 use Rattle.compaction.proofs.compact_atom_table.Goals as goal
 
-pub returns-then-number-ne0 : goal.returns-then-number-ne0
+pub returns-in_err-open_bytes : goal.returns-in_err-open_bytes
 unfolding compact_atom_table
-returns-then-number-ne0 c = pass_shut _ _ _ c.open_bytes-number.ensures c.if-number-ne0.true c.refusal.result c.refusal.ensures
+returns-in_err-open_bytes c = pass_shut _ _ _ c.in_err-open_bytes.ensures (passed_on c.from_residual.ensures)
 
 pub compact_form-requires : goal.compact_form-requires
 compact_form-requires c =
-    let door = c.open_bytes-number.ensures in
-    let no = c.if-number-ne0.false in
-    let let-in = pass_open _ _ door no in
-    (let-in.form, let-in.short, pass_zeros _ _ door no)
+    let let-in = pass_open _ _ c.in_ok-open_bytes.ensures in
+    (let-in.form, let-in.short, pass_zeros _ _ c.in_ok-open_bytes.ensures)
 
 pub returns : goal.returns
 unfolding compact_atom_table
-returns c =
-    let compacted = c.compact_form in
-    let door = c.open_bytes-number in
-    pass_given _ _ _ door.ensures c.if-number-ne0.false compacted.result compacted.ensures
+returns c = pass_given _ _ c.in_ok-open_bytes.ensures _ _ c.compact_form.ensures

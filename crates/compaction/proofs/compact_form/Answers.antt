@@ -26,7 +26,7 @@ copy_front-copied-requires c = (
 pub put_sum-requires : goal.put_sum-requires
 put_sum-requires c =
     let p =
-    sum_room c.args.s.now (λ i. (c.shared_slice_known-1.given i).fits)
+    sum_room c.args.s.now (λ i. (c.type_inv.s i).fits)
     c.requires.0 c.width-w.ensures c.body.ensures _
     c.copy_front-copied.result c.copy_front-copied.ensures in
     omega (arith, p.0, p.1)
@@ -35,7 +35,7 @@ pub overflow_add-result : goal.overflow_add-result
 overflow_add-result c =
     omega (
       arith,
-      (sum_room c.args.s.now (λ i. (c.shared_slice_known-1.given i).fits)
+      (sum_room c.args.s.now (λ i. (c.type_inv.s i).fits)
           c.requires.0 c.width-w.ensures c.body.ensures _
           c.copy_front-copied.result c.copy_front-copied.ensures).0,
     )

@@ -1,6 +1,6 @@
 -- `decompose_atom` meets its contract: the loop keeps a split on its way, whose part falls.
 use Prim.Native.Nat.{◌-◌}
-use Rattle.decompose.specs.Basis.{Splitting}
+use Rattle.decompose.proofs.DecomposeLaws.{Splitting}
 use Rattle.decompose.proofs.decompose_atom.Given as goal
 
 abbrev pub invariant-loop-next : goal.invariant-loop-next

@@ -1,8 +1,8 @@
 -- `split` meets its contract: no And, an And with one variable-free side, or one whose sides both have a variable.
 use mathlib.Core.Path.{ap, sym, ◌∙◌}
 use Prim.Native.Nat.{ℕ}
-use native.Mathlib.Omega.{arith}
 use mathlib.Core.List.{List, []}
+use Rattle.std.specs.Prelude.{Some}
 use Rattle.record.specs.Decode.{decode}
 use Rattle.expr.specs.Value.{value}
 use Rattle.decompose.specs.Basis.{basis_span}
@@ -12,72 +12,46 @@ use Rattle.decompose.proofs.split.Goals as goal
 
 pub kind-requires : goal.kind-requires
 unfolding basis_span
-kind-requires c =
-    let under = c.requires.1 in
-    basis_big _ _ _ under
+kind-requires c = basis_big _ _ _ c.requires.1
 
-pub returns-then-kind-ne4 : goal.returns-then-kind-ne4
+pub returns-then-kind : goal.returns-then-kind
 unfolding basis_span
-returns-then-kind-ne4 c =
-    let under = c.requires.1 in
-    rw c.no_more.ensures
-    (split_other _ _ _ under (λ e. c.if-kind-ne4.true (c.kind.ensures ∙ e)))
+returns-then-kind c = split_other _ _ _ c.requires.1 (λ e. c.if-kind.true (c.kind.ensures ∙ e))
 
-pub free_sides-free-requires : goal.free_sides-free-requires
+pub free_side-requires : goal.free_side-requires
 unfolding basis_span
-free_sides-free-requires c =
-    let under = c.requires.1 in
-    (under.ok, sym c.kind.ensures ∙ c.if-kind-ne4.false, under.variable)
+free_side-requires c = (c.requires.1.ok, sym c.kind.ensures ∙ c.if-kind.false, c.requires.1.variable)
 
-pub constant_value-left-requires : goal.constant_value-left-requires
+pub returns-in_err-free_side : goal.returns-in_err-free_side
 unfolding basis_span
-constant_value-left-requires c =
-    let under = c.requires.1 in
-    let four = sym c.kind.ensures ∙ c.if-kind-ne4.false in
-    (rw c.left.ensures (split_sized _ _ _ under four).0, c.requires.0)
+returns-in_err-free_side c =
+    rw c.from_residual.ensures
+    (split_neither _ _ _ c.requires.1 (sym c.kind.ensures ∙ c.if-kind.false)
+    (sym c.free_side.ensures ∙ c.in_err-free_side.was))
 
-pub overflow_sub-last : goal.overflow_sub-last
-unfolding basis_span
-overflow_sub-last c =
-    let under = c.requires.1 in
-    omega (arith, span_end _ _ _ under)
+pub overflow_sub-result : goal.overflow_sub-result
+overflow_sub-result c = span_end _ _ _ c.requires.1
 
-pub returns-then-free : goal.returns-then-free
+pub constant_value-requires : goal.constant_value-requires
 unfolding basis_span
-returns-then-free c =
-    let under = c.requires.1 in
-    let four = sym c.kind.ensures ∙ c.if-kind-ne4.false in
-    split_right _ _ _ under four
-    (sym c.free_sides-free.ensures.0 ∙ c.if-free.true)
-    c.cut.ensures.0 (c.constant_value-left.ensures
-    ∙ ap (λ (x : List ℕ). value c.args.w [] (decode x)) c.left.ensures)
+constant_value-requires c =
+    (rw c.left.ensures (split_sized _ _ _ c.requires.1 (sym c.kind.ensures ∙ c.if-kind.false)).0, c.requires.0)
 
-pub constant_value-right-requires : goal.constant_value-right-requires
+pub constant_value-requires-in-Right : goal.constant_value-requires-in-Right
 unfolding basis_span
-constant_value-right-requires c =
-    let under = c.requires.1 in
-    let four = sym c.kind.ensures ∙ c.if-kind-ne4.false in
-    (rw c.right.ensures (split_sized _ _ _ under four).1, c.requires.0)
+constant_value-requires-in-Right c =
+    (rw c.right.ensures (split_sized _ _ _ c.requires.1 (sym c.kind.ensures ∙ c.if-kind.false)).1, c.requires.0)
 
-pub returns-then-free-2 : goal.returns-then-free-2
+pub returns-in-Left : goal.returns-in-Left
 unfolding basis_span
-returns-then-free-2 c =
-    let under = c.requires.1 in
-    let four = sym c.kind.ensures ∙ c.if-kind-ne4.false in
-    let sides = c.free_sides-free.ensures in
-    split_left _ _ _ under four
-    (sym sides.0 ∙ c.if-free.false)
-    (sym sides.1 ∙ c.if-free-2.true)
-    c.cut.ensures.0 (c.constant_value-right.ensures
-    ∙ ap (λ (x : List ℕ). value c.args.w [] (decode x)) c.right.ensures)
+returns-in-Left c =
+    split_right _ _ _ c.requires.1 (sym c.kind.ensures ∙ c.if-kind.false)
+    (sym c.free_side.ensures ∙ c.in_ok-free_side.was ∙ ap Some c.in-Left.is) c.cut.ensures.0
+    (c.constant_value.ensures ∙ ap (λ (x : List ℕ). value c.args.w [] (decode x)) c.left.ensures)
 
-pub returns : goal.returns
+pub returns-in-Right : goal.returns-in-Right
 unfolding basis_span
-returns c =
-    let under = c.requires.1 in
-    let four = sym c.kind.ensures ∙ c.if-kind-ne4.false in
-    let sides = c.free_sides-free.ensures in
-    rw c.no_more-2.ensures
-    (split_neither _ _ _ under four
-    (sym sides.0 ∙ c.if-free.false)
-    (sym sides.1 ∙ c.if-free-2.false))
+returns-in-Right c =
+    split_left _ _ _ c.requires.1 (sym c.kind.ensures ∙ c.if-kind.false)
+    (sym c.free_side.ensures ∙ c.in_ok-free_side.was ∙ ap Some c.in-Right.is) c.cut.ensures.0
+    (c.constant_value-in-Right.ensures ∙ ap (λ (x : List ℕ). value c.args.w [] (decode x)) c.right.ensures)

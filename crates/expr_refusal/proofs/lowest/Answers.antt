@@ -1,30 +1,29 @@
--- `lowest` meets its contract: 0 is no refusal.
+-- `lowest` meets its contract: 0 is no refusal, and the lower of two has the lower number.
+use Rattle.std.proofs.Common.{◌≡◌, ℕ, ◌<◌, min, refl, sym, ◌∙◌, arith}
+use borrow.Author.Tests.{ne_eqb}
+use Rattle.base.proofs.RefusalLaws.{number_min, number_pos}
 use Rattle.expr_refusal.specs.Refusal.{lowest}
-use borrow.Author.Tests.{eq-eqb, ne_eqb}
-use native.Mathlib.Nat.{min-eq_left, min-eq_right, le_of_lt}
-use mathlib.Core.Path.{sym}
 use Rattle.expr_refusal.proofs.lowest.Goals as goal
 
-pub returns-then-a-eq0 : goal.returns-then-a-eq0
+zero_left : (b : ℕ) → lowest 0 b ≡ b
 unfolding lowest
-returns-then-a-eq0 c = simp (eq-eqb _ _ c.if-a-eq0.true)
+zero_left b = refl
 
-pub returns-then-b-eq0 : goal.returns-then-b-eq0
+zero_right : (a : ℕ) → 0 < a → lowest a 0 ≡ a
 unfolding lowest
-returns-then-b-eq0 c = simp (ne_eqb _ _ c.if-a-eq0.false, eq-eqb _ _ c.if-b-eq0.true)
+zero_right a p = simp (ne_eqb a 0 (λ e. omega (arith, e)))
 
-pub returns-then-a-b : goal.returns-then-a-b
+both : (a b : ℕ) → 0 < a → 0 < b → lowest a b ≡ min a b
 unfolding lowest
-returns-then-a-b c =
-    simp (
-      ne_eqb _ _ c.if-a-eq0.false,
-      ne_eqb _ _ c.if-b-eq0.false,
-    ) (sym (min-eq_left c.if-a-b.true))
+both a b p q = simp (ne_eqb a 0 (λ e. omega (arith, e)), ne_eqb b 0 (λ e. omega (arith, e)))
+
+pub returns-in_default : goal.returns-in_default
+returns-in_default c = rw c.in_default.is (sym (zero_left _))
+
+pub returns-in_default-b : goal.returns-in_default-b
+returns-in_default-b c = rw (c.in-Err.is, c.in_default-b.is) (sym (zero_right _ (number_pos _)))
 
 pub returns : goal.returns
-unfolding lowest
 returns c =
-    simp (
-      ne_eqb _ _ c.if-a-eq0.false,
-      ne_eqb _ _ c.if-b-eq0.false,
-    ) (sym (min-eq_right (le_of_lt c.if-a-b.false)))
+    rw (c.in-Err.is, c.in-Err-b.is, c.min.ensures)
+    (number_min _ _ ∙ sym (both _ _ (number_pos _) (number_pos _)))

@@ -1,21 +1,17 @@
 -- `flatten_complex_atoms` meets its contract: the front door, and then the form.
+use Rattle.base.proofs.RefusalLaws.{passed_on}
 use Rattle.atom_table.proofs.ReadLaws.{pass_shut, pass_open, pass_zeros, pass_given}
 use Rattle.structure_laws.specs.FlattenComplexAtoms.{flatten_complex_atoms}
 use Rattle.flatten.proofs.flatten_complex_atoms.Goals as goal
 
-pub returns-then-number-ne0 : goal.returns-then-number-ne0
+pub returns-in_err-open_bytes : goal.returns-in_err-open_bytes
 unfolding flatten_complex_atoms
-returns-then-number-ne0 c =
-    pass_shut _ _ _ c.open_bytes-number.ensures c.if-number-ne0.true c.refusal.result
-    c.refusal.ensures
+returns-in_err-open_bytes c = pass_shut _ _ _ c.in_err-open_bytes.ensures (passed_on c.from_residual.ensures)
 
 pub flatten_form-requires : goal.flatten_form-requires
 flatten_form-requires c =
-    let door = c.open_bytes-number.ensures in
-    ((pass_open _ _ door c.if-number-ne0.false).form, pass_zeros _ _ door c.if-number-ne0.false)
+    ((pass_open _ _ c.in_ok-open_bytes.ensures).form, pass_zeros _ _ c.in_ok-open_bytes.ensures)
 
 pub returns : goal.returns
 unfolding flatten_complex_atoms
-returns c =
-    pass_given _ _ _ c.open_bytes-number.ensures c.if-number-ne0.false
-    c.flatten_form.result c.flatten_form.ensures
+returns c = pass_given _ _ c.in_ok-open_bytes.ensures _ _ c.flatten_form.ensures

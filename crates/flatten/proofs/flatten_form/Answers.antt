@@ -1,4 +1,5 @@
 -- `flatten_form` meets its contract: the copied table, its rows flattened, and the end of a pass.
+use mathlib.Core.Path.{refl}
 use Rattle.semilinear.proofs.ValidLaws.{semilinear_parts}
 use Rattle.flatten.proofs.FlatFormLaws.{flatten_begin, flatten_room, flatten_end}
 use Rattle.flatten.proofs.flatten_form.Goals as goal
@@ -11,14 +12,14 @@ literal-constant-requires c = (semilinear_parts _ c.requires.0).0.big
 
 pub flatten_rows-flag-requires : goal.flatten_rows-flag-requires
 flatten_rows-flag-requires c =
-    flatten_begin c.args.s.now (λ i. (c.shared_slice_known-1.given i).fits) c.requires.0
+    flatten_begin c.args.s.now (λ i. (c.type_inv.s i).fits) c.requires.0
     c.width-w.ensures c.body.ensures c.copy_atoms-tab.ensures
 
 pub finish-requires : goal.finish-requires
 finish-requires c =
-    flatten_room c.flatten_rows-flag.ensures c.load.ensures c.copy_atoms-tab.ensures.long
+    flatten_room c.flatten_rows-flag.ensures refl c.copy_atoms-tab.ensures.long
 
 pub returns : goal.returns
 returns c =
     flatten_end _ c.width-w.ensures c.literal-constant.ensures c.body.ensures
-    c.flatten_rows-flag.ensures c.load.ensures c.finish.result c.finish.ensures
+    c.flatten_rows-flag.ensures refl c.finish.result c.finish.ensures

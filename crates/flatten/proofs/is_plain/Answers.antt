@@ -1,16 +1,13 @@
--- `is_plain` meets its contract: the basis that the view has is a variable.
-use borrow.Author.Tests.{not-true, not-false}
+-- `is_plain` meets its contract: the root of the basis is a variable's.
+use mathlib.Core.Path.{sym}
 use Rattle.flatten.proofs.ComplexLaws.{plain_none, plain_some, basis_big}
 use Rattle.flatten.proofs.is_plain.Goals as goal
 
-pub returns-then-not-found : goal.returns-then-not-found
-returns-then-not-found c = plain_none _ _ _ c.decompose_atom-found.ensures (not-true _ c.if-not-found.true)
-
 pub kind-requires : goal.kind-requires
-kind-requires c =
-    basis_big _ _ _ c.decompose_atom-found.ensures (not-false _ c.if-not-found.false)
+kind-requires c = basis_big _ _ _ c.in-Some.ensures
 
-pub returns : goal.returns
-returns c =
-    plain_some _ _ _ c.decompose_atom-found.ensures
-    (not-false _ c.if-not-found.false) c.kind.ensures
+pub returns-in-Some : goal.returns-in-Some
+returns-in-Some c = plain_some _ _ _ c.in-Some.ensures c.kind.ensures
+
+pub returns-in-None : goal.returns-in-None
+returns-in-None c = plain_none _ _ c.in-None.ensures

@@ -2,4 +2,5 @@
 use Rattle.hogzelt.proofs.hogzelt_compute_partitions.Goals as goal
 
 pub returns : goal.returns
-returns c = c.compute_partitions-found.ensures
+returns c =
+    let said = c.report_value.ensures in rw (said.number, said.beside) c.compute_partitions.ensures

@@ -2,4 +2,6 @@
 use Rattle.hogzelt.proofs.hogzelt_flatten_complex_atoms.Goals as goal
 
 pub returns : goal.returns
-returns c = rw c.flag_number.ensures c.flatten_complex_atoms-flat.ensures
+returns c =
+    let said = c.report.ensures in
+    rw (said.number, said.used_is, said.terms_are, c.flag_of.ensures) c.flatten_complex_atoms-flat.ensures

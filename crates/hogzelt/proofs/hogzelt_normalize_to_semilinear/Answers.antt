@@ -3,4 +3,6 @@ use Rattle.semilinear.proofs.OutcomeLaws.{gives_two}
 use Rattle.hogzelt.proofs.hogzelt_normalize_to_semilinear.Goals as goal
 
 pub returns : goal.returns
-returns c = gives_two _ _ _ _ _ _ _ c.normalize_to_semilinear-found.ensures
+returns c =
+    let said = c.report.ensures in
+    rw (said.number, said.used_is, said.terms_are) (gives_two _ _ _ _ _ _ _ c.normalize_to_semilinear-found.ensures)

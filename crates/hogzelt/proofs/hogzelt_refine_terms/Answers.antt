@@ -3,4 +3,6 @@ use Rattle.semilinear.proofs.OutcomeLaws.{gives_two}
 use Rattle.hogzelt.proofs.hogzelt_refine_terms.Goals as goal
 
 pub returns : goal.returns
-returns c = gives_two _ _ _ _ _ _ _ c.refine_terms-refined.ensures
+returns c =
+    let said = c.report.ensures in
+    rw (said.number, said.used_is, said.terms_are) (gives_two _ _ _ _ _ _ _ c.refine_terms.ensures)

@@ -8,7 +8,8 @@ use Rattle.hogzelt.proofs.hogzelt_run_passes.Goals as goal
 pub returns : goal.returns
 returns c =
     let run = c.run_passes-ran in
+    let said = c.report.ensures in
     record {
-      gives = gives_two _ _ _ _ _ _ _ run.ensures;
-      spare_after = c.clear.ensures ∙ ap (λ (n : ℕ). replicate n 0) run.auto.spare;
+      gives = rw (said.number, said.used_is, said.terms_are) (gives_two _ _ _ _ _ _ _ run.ensures);
+      spare_after = c.fill.ensures.after (λ _ e. e) ∙ ap (λ (n : ℕ). replicate n 0) run.auto.spare;
     }

@@ -14,21 +14,21 @@ use lib.ListN.{length}
 use Rattle.judge.proofs.judge_pair.Goals as goal
 
 pub width-w-requires : goal.width-w-requires
-width-w-requires c = side_big c.args.forms c.args.left.now c.requires.0.taken
+width-w-requires c = side_big c.args.kind c.args.left.now c.requires.0.taken
 
 pub width-requires : goal.width-requires
 width-requires c =
-    side_big c.args.forms c.args.right.now c.requires.1.taken
+    side_big c.args.kind c.args.right.now c.requires.1.taken
 
 pub returns-then-w-width : goal.returns-then-w-width
 returns-then-w-width c =
-    let forms = c.args.forms in
+    let kind = c.args.kind in
     let l = c.args.left.now in
     let r = c.args.right.now in
     c.refused.ensures
-    ∙ eleven (side_of forms l) (side_of forms r) c.requires.0.taken c.requires.1.taken
+    ∙ eleven (side_of kind l) (side_of kind r) c.requires.0.taken c.requires.1.taken
     (λ e. c.if-w-width.true
-    (c.width-w.ensures ∙ sym (side_width forms l) ∙ e ∙ side_width forms r
+    (c.width-w.ensures ∙ sym (side_width kind l) ∙ e ∙ side_width kind r
     ∙ sym c.width.ensures))
 
 pub joint_vars-requires : goal.joint_vars-requires
@@ -37,15 +37,15 @@ joint_vars-requires c =
 
 pub returns-then-n-gt-JOINT_VARS : goal.returns-then-n-gt-JOINT_VARS
 returns-then-n-gt-JOINT_VARS c =
-    let forms = c.args.forms in
+    let kind = c.args.kind in
     let l = c.args.left.now in
     let r = c.args.right.now in
-    let a = side_of forms l in
-    let b = side_of forms r in
+    let a = side_of kind l in
+    let b = side_of kind r in
     let words = c.joint_vars.ensures in
     let widths =
-    side_width forms l ∙ sym c.width-w.ensures ∙ c.if-w-width.false ∙ c.width.ensures
-    ∙ sym (side_width forms r) in
+    side_width kind l ∙ sym c.width-w.ensures ∙ c.if-w-width.false ∙ c.width.ensures
+    ∙ sym (side_width kind r) in
     let count = joint_count a b words c.place_of-n.ensures in
     c.refused-then-n-gt-JOINT_VARS.ensures ∙ twelve a b c.requires.0.taken c.requires.1.taken widths
     (omega (arith, count, c.if-n-gt-JOINT_VARS.true))
@@ -55,15 +55,15 @@ side_shifts-requires c = c.requires.0.taken
 
 pub returns-then-side_shifts : goal.returns-then-side_shifts
 returns-then-side_shifts c =
-    let forms = c.args.forms in
+    let kind = c.args.kind in
     let l = c.args.left.now in
     let r = c.args.right.now in
-    let a = side_of forms l in
-    let b = side_of forms r in
+    let a = side_of kind l in
+    let b = side_of kind r in
     let words = c.joint_vars.ensures in
     let widths =
-    side_width forms l ∙ sym c.width-w.ensures ∙ c.if-w-width.false ∙ c.width.ensures
-    ∙ sym (side_width forms r) in
+    side_width kind l ∙ sym c.width-w.ensures ∙ c.if-w-width.false ∙ c.width.ensures
+    ∙ sym (side_width kind r) in
     let count = joint_count a b words c.place_of-n.ensures in
     c.refused-then-side_shifts.ensures
     ∙ thirteen a b c.requires.0.taken c.requires.1.taken widths
@@ -76,15 +76,15 @@ side_shifts-requires-2 c = c.requires.1.taken
 
 pub returns-then-side_shifts-2 : goal.returns-then-side_shifts-2
 returns-then-side_shifts-2 c =
-    let forms = c.args.forms in
+    let kind = c.args.kind in
     let l = c.args.left.now in
     let r = c.args.right.now in
-    let a = side_of forms l in
-    let b = side_of forms r in
+    let a = side_of kind l in
+    let b = side_of kind r in
     let words = c.joint_vars.ensures in
     let widths =
-    side_width forms l ∙ sym c.width-w.ensures ∙ c.if-w-width.false ∙ c.width.ensures
-    ∙ sym (side_width forms r) in
+    side_width kind l ∙ sym c.width-w.ensures ∙ c.if-w-width.false ∙ c.width.ensures
+    ∙ sym (side_width kind r) in
     let count = joint_count a b words c.place_of-n.ensures in
     c.refused-then-side_shifts-2.ensures
     ∙ thirteen a b c.requires.0.taken c.requires.1.taken widths
@@ -94,15 +94,15 @@ returns-then-side_shifts-2 c =
 
 pub slice_bounds-compare_forms-end : goal.slice_bounds-compare_forms-end
 slice_bounds-compare_forms-end c =
-    let forms = c.args.forms in
+    let kind = c.args.kind in
     let l = c.args.left.now in
     let r = c.args.right.now in
-    let a = side_of forms l in
-    let b = side_of forms r in
+    let a = side_of kind l in
+    let b = side_of kind r in
     let words = c.joint_vars.ensures in
     let widths =
-    side_width forms l ∙ sym c.width-w.ensures ∙ c.if-w-width.false ∙ c.width.ensures
-    ∙ sym (side_width forms r) in
+    side_width kind l ∙ sym c.width-w.ensures ∙ c.if-w-width.false ∙ c.width.ensures
+    ∙ sym (side_width kind r) in
     let count = joint_count a b words c.place_of-n.ensures in
     room_take _ _ (omega (
       arith,
@@ -113,15 +113,15 @@ slice_bounds-compare_forms-end c =
 
 pub compare_forms-requires : goal.compare_forms-requires
 compare_forms-requires c =
-    let forms = c.args.forms in
+    let kind = c.args.kind in
     let l = c.args.left.now in
     let r = c.args.right.now in
-    let a = side_of forms l in
-    let b = side_of forms r in
+    let a = side_of kind l in
+    let b = side_of kind r in
     let words = c.joint_vars.ensures in
     let widths =
-    side_width forms l ∙ sym c.width-w.ensures ∙ c.if-w-width.false ∙ c.width.ensures
-    ∙ sym (side_width forms r) in
+    side_width kind l ∙ sym c.width-w.ensures ∙ c.if-w-width.false ∙ c.width.ensures
+    ∙ sym (side_width kind r) in
     let count = joint_count a b words c.place_of-n.ensures in
     let all : c.place_of-n.result ≡ length (joint_vars a b) = omega
     (arith, count, c.if-n-gt-JOINT_VARS.false) in
@@ -131,20 +131,20 @@ compare_forms-requires c =
     (sym c.side_shifts.ensures ∙ c.if-side_shifts.false)
     (sym c.side_shifts-2.ensures ∙ c.if-side_shifts-2.false) in
     pair_comparable a b _ _ c.requires.0 c.requires.1 ok _ _
-    (c.width-w.ensures ∙ sym (side_width forms l))
+    (c.width-w.ensures ∙ sym (side_width kind l))
     (joint_words a b words all (omega (arith, c.if-n-gt-JOINT_VARS.false)))
 
 pub returns : goal.returns
 returns c =
-    let forms = c.args.forms in
+    let kind = c.args.kind in
     let l = c.args.left.now in
     let r = c.args.right.now in
-    let a = side_of forms l in
-    let b = side_of forms r in
+    let a = side_of kind l in
+    let b = side_of kind r in
     let words = c.joint_vars.ensures in
     let widths =
-    side_width forms l ∙ sym c.width-w.ensures ∙ c.if-w-width.false ∙ c.width.ensures
-    ∙ sym (side_width forms r) in
+    side_width kind l ∙ sym c.width-w.ensures ∙ c.if-w-width.false ∙ c.width.ensures
+    ∙ sym (side_width kind r) in
     let count = joint_count a b words c.place_of-n.ensures in
     let all : c.place_of-n.result ≡ length (joint_vars a b) = omega
     (arith, count, c.if-n-gt-JOINT_VARS.false) in
@@ -156,5 +156,5 @@ returns c =
     (sym c.side_shifts-2.ensures ∙ c.if-side_shifts-2.false) in
     c.compare_forms.ensures
     ∙ pair_judged a b _ _ c.requires.0 c.requires.1 ok _ _
-    (c.width-w.ensures ∙ sym (side_width forms l))
+    (c.width-w.ensures ∙ sym (side_width kind l))
     (joint_words a b words all (omega (arith, c.if-n-gt-JOINT_VARS.false)))

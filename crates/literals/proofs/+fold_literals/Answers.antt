@@ -15,7 +15,7 @@ use Rattle.literals.proofs.RootLaws.{folded_literal, folded_leaf, Kept}
 use Rattle.literals.proofs.TwoChildrenLaws.{TwoChildren, number_le, left_falls, left_room}
 use Rattle.literals.proofs.LastChildLaws.{arity_one, last_whole, LastChild, last_one, last_two, last_met}
 use Rattle.literals.proofs.+fold_literals.Goals as goal
-use Rattle.literals.proofs.+fold_literals.Goals.{After-either-deeper, After-left, After-right, then-children-eq2, else-children-eq2}
+use Rattle.literals.proofs.+fold_literals.Goals.{After-is_bitwise, After-left, After-right, then-children-eq2, else-children-eq2}
 
 pub overflow_sub-last : goal.overflow_sub-last
 overflow_sub-last t c = marks_some c.requires
@@ -45,8 +45,8 @@ returns-then-is_literal t c =
 pub root_arity-children-requires : goal.root_arity-children-requires
 root_arity-children-requires t c = span_big c.requires
 
-pub put_bytes-requires : goal.put_bytes-requires
-put_bytes-requires t c =
+pub put-requires : goal.put-requires
+put-requires t c =
     c.requires.room
 
 pub overflow_add-result-then-children-eq0 : goal.overflow_add-result-then-children-eq0
@@ -58,23 +58,22 @@ returns-then-children-eq0 t c =
     let room = c.requires in
     folded_leaf room (λ i. (c.shared_slice_known-1.given i).fits)
     (mark_folded _ _ room.marked c.is_literal.ensures c.if-is_literal.false)
-    (sym c.root_arity-children.ensures ∙ c.if-children-eq0.true) c.put_bytes.ensures
+    (sym c.root_arity-children.ensures ∙ c.if-children-eq0.true) c.put.ensures
 
 pub kind-requires : goal.kind-requires
 kind-requires t c =
     span_big c.requires
 
 -- a root that is no literal
-kept : (t : ℕ) (c : After-either-deeper t)
-    → Kept c.args.w c.args.t.now c.args.marks.now c.args.at c.args.out.now c.args.below c.either-deeper.result
+kept : (t : ℕ) (c : After-is_bitwise t)
+    → Kept c.args.w c.args.t.now c.args.marks.now c.args.at c.args.out.now c.args.below (c.args.below || c.is_bitwise.result)
 kept t c =
     let room = c.requires in
     record {
       room = room;
       off = mark_folded _ _ room.marked c.is_literal.ensures c.if-is_literal.false;
       deeper_is =
-          c.either-deeper.ensures
-          ∙ ap (λ (x : Bool). c.args.below || x) (c.is_bitwise.ensures ∙ ap is_bitwise c.kind.ensures);
+          ap (λ (x : Bool). c.args.below || x) (c.is_bitwise.ensures ∙ ap is_bitwise c.kind.ensures);
     }
 
 pub number_of-number-requires : goal.number_of-number-requires
@@ -85,10 +84,10 @@ number_of-number-requires t c =
 -- one that has two children
 two_children : (t : ℕ) (c : After-left t)
     → TwoChildren c.args.w c.args.t.now c.args.marks.now c.args.at c.args.out.now c.args.below
-    c.either-deeper.result c.left.result.now c.number_of-number.result
+    (c.args.below || c.is_bitwise.result) c.left.result.now c.number_of-number.result
 two_children t c =
     record {
-      kept = kept t (goal.at.After-left t c).After-either-deeper;
+      kept = kept t (goal.at.After-left t c).After-is_bitwise;
       two = sym c.root_arity-children.ensures ∙ c.if-children-eq2.true;
       number_is = c.number_of-number.ensures ∙ c.cut.ensures.0;
       child = c.left.ensures;
@@ -111,7 +110,7 @@ number_of-number-requires-2 t c =
 -- the last child, the left one folded or not there
 last_child_lem : (t : ℕ) (c : After-right t)
     → LastChild c.args.w c.args.t.now c.args.marks.now c.args.at c.args.out.now c.args.below
-    c.either-deeper.result c.right.result.now c.number_of-number-2.result c.if-children-eq2.out
+    (c.args.below || c.is_bitwise.result) c.right.result.now c.number_of-number-2.result c.if-children-eq2.out
     c.if-children-eq2.middle
 last_child_lem t c =
     let arity = c.root_arity-children.ensures in
@@ -120,7 +119,7 @@ last_child_lem t c =
       | then-children-eq2 w ↦ last_met w.out-is w.middle-is
           (last_two
           (record {
-            kept = kept t (goal.at.After-right t c).After-either-deeper;
+            kept = kept t (goal.at.After-right t c).After-is_bitwise;
             two = sym arity ∙ w.if-children-eq2.true;
             number_is = number_is;
             child = w.left.ensures;
@@ -129,7 +128,7 @@ last_child_lem t c =
       | else-children-eq2 w ↦ last_met w.out-is w.middle-is
           (last_one
           (record {
-            kept = kept t (goal.at.After-right t c).After-either-deeper;
+            kept = kept t (goal.at.After-right t c).After-is_bitwise;
             one = arity_one _ (λ e. c.if-children-eq0.false (arity ∙ e)) (λ e. w.if-children-eq2.false (arity ∙ e));
             number_is = number_is;
             child = c.right.ensures;

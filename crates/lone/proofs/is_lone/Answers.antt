@@ -1,4 +1,5 @@
 -- `is_lone` meets its contract: no row before it and none behind it has the basis.
+use mathlib.Core.Path.{sym, ◌∙◌}
 use native.Mathlib.Omega.{arith}
 use Rattle.base.proofs.BoolLaws.{false_true}
 use Rattle.views.proofs.HasBasisLaws.{readable_fewer}
@@ -6,15 +7,12 @@ use Rattle.lone.proofs.LoneLaws.{gathered_lone}
 use Rattle.lone.proofs.is_lone.Goals as goal
 
 pub none_has-requires : goal.none_has-requires
-none_has-requires c =
-    let pre = c.requires in
-    readable_fewer pre.readable _ (omega (arith, pre.within))
+none_has-requires c = readable_fewer c.requires.readable _ (omega (arith, c.requires.within))
 
-pub returns-then-not-none_has : goal.returns-then-not-none_has
-returns-then-not-none_has c = λ e. false_true e
+pub returns-then-none_has : goal.returns-then-none_has
+returns-then-none_has c =
+    λ e. gathered_lone _ _ _ _ _ _ c.requires.within c.requires.has_basis_lem (c.none_has.ensures c.if-none_has.true)
+    (c.none_has-then-none_has.ensures e)
 
-pub returns : goal.returns
-returns c =
-    let pre = c.requires in
-    λ e. gathered_lone _ _ _ _ _ _ pre.within pre.has_basis_lem (c.none_has.ensures c.if-not-none_has.false)
-    (c.none_has-2.ensures e)
+pub returns-else-none_has : goal.returns-else-none_has
+returns-else-none_has c = λ e. false_true (sym c.if-none_has.false ∙ e)

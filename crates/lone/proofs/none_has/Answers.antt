@@ -1,10 +1,10 @@
 -- `none_has` meets its contract: no row before i has the basis.
 use mathlib.Core.Path.{◌≡◌, sym, ◌∙◌}
 use mathlib.Core.Bool.{false}
-use Prim.Native.Nat.{ℕ, ◌-◌}
+use Prim.Native.Nat.{ℕ}
 use native.Mathlib.Omega.{arith}
 use Rattle.base.proofs.BoolLaws.{false_true}
-use Rattle.views.specs.Views.{view_at, has_basis}
+use Rattle.views.specs.Views.{found_at, has_basis}
 use Rattle.views.proofs.HasBasisLaws.{readable_fewer}
 use Rattle.lone.proofs.LoneLaws.{from_more}
 use Rattle.lone.proofs.none_has.Goals as goal
@@ -21,7 +21,7 @@ returns-then-has_basis c = λ e. false_true e
 pub loop-i-preserved : goal.loop-i-preserved
 loop-i-preserved c =
     let a = c.args in
-    from_more (λ (k : ℕ). has_basis a.f.now (view_at a.views.now k) a.hash a.b.now ≡ false) a.a
+    from_more (λ (k : ℕ). has_basis a.f.now (found_at a.views.now k) a.hash a.b.now ≡ false) a.a
     c.loop-i.i c.loop-i.invariant (sym c.has_basis.ensures ∙ c.if-has_basis.false)
 
 pub returns : goal.returns

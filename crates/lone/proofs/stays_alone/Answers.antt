@@ -1,14 +1,13 @@
 -- `stays_alone` meets its contract: both tests.
-use Rattle.base.proofs.BoolLaws.{false_true}
-use Rattle.views.specs.Views.{view_at}
+use Rattle.views.proofs.HasBasisLaws.{basis_grouped}
+use Rattle.views.proofs.ViewsLaws.{view_some}
 use Rattle.lone.proofs.stays_alone.Goals as goal
 
-pub returns-then-not-stays : goal.returns-then-not-stays
-returns-then-not-stays c = λ e. false_true e
+pub unwrap-v-requires : goal.unwrap-v-requires
+unwrap-v-requires c = basis_grouped _ _ _ _ c.requires.1.has_basis_lem
 
-pub returns : goal.returns
-unfolding view_at
-returns c = λ e. record {
-  stays = c.stays.ensures c.if-not-stays.false;
+pub returns-then-stays : goal.returns-then-stays
+returns-then-stays c = λ e. record {
+  stays = rw (view_some c.args.views.now c.args.first c.unwrap-v.ensures) (c.stays.ensures c.if-stays.true);
   lone = c.is_lone.ensures e;
 }

@@ -10,34 +10,26 @@ use Rattle.made.proofs.create_masked.Goals as goal
 pub create_atom-more-requires : goal.create_atom-more-requires
 create_atom-more-requires c =
     let pre = c.requires in
-    (rw c.load-tab.ensures pre.room.placed, basis_sized _ _ _ pre.basis, pre.basis.hashed)
+    (pre.room.placed, basis_sized _ _ _ pre.basis, pre.basis.hashed)
 
 pub returns-then-mask-bitmask : goal.returns-then-mask-bitmask
 returns-then-mask-bitmask c =
     let a = c.args in
     let pre = c.requires in
     let all = c.if-mask-bitmask.true ∙ c.bitmask.ensures ∙ bitmask_ones a.w pre.width in
-    let created =
-    c.create_atom-more.ensures
-    ∙ ap (λ (t : Table). create_atom a.w a.b.now (store_of t a.out.now)) c.load-tab.ensures in
     grew_as (λ l. masked_full a.w a.mask (decode a.b.now) l all)
     (grew_create a.w a.b.now (basis_sized _ _ _ pre.basis) pre.basis.same a.made.now a.out.now
-    pre.room created c.store.ensures)
+    pre.room c.create_atom-more.ensures c.store.ensures)
 
 pub create_joined-more-requires : goal.create_joined-more-requires
 create_joined-more-requires c =
     let pre = c.requires in
-    (rw c.load-tab.ensures pre.room.placed, pre.basis)
+    (pre.room.placed, pre.basis)
 
 pub returns : goal.returns
 returns c =
     let a = c.args in
     let pre = c.requires in
     let mask_is = c.bitmask.ensures ∙ bitmask_ones a.w pre.width in
-    let created =
-    c.create_joined-more.ensures
-    ∙ ap
-    (λ (t : Table). create_atom a.w (masked_bytes a.w a.b.now a.mask) (store_of t a.out.now))
-    c.load-tab.ensures in
     grew_masked a.w a.hash a.b.now pre.basis a.mask (omega arith) a.made.now a.out.now pre.room
-    (λ e. c.if-mask-bitmask.false (e ∙ sym mask_is)) created c.store-2.ensures
+    (λ e. c.if-mask-bitmask.false (e ∙ sym mask_is)) c.create_joined-more.ensures c.store-2.ensures

@@ -7,5 +7,5 @@ returns c =
     let a = c.args in
     let pre = c.requires in
     wrote_masked a.w a.hash a.b.now pre.1 a.m (omega arith) a.out.now a.at a.size pre.0.inside
-    pre.0.size_is c.masked_hash.ensures c.put_record.ensures c.put_bytes.ensures
+    pre.0.size_is c.masked_hash.ensures c.put_record.ensures c.put.ensures
     c.put_record-2.ensures c.put_record-3.ensures

@@ -1,14 +1,14 @@
 -- What is given is what the runner used of the result slice; where a refusal can't be printed, the slice is cleared.
+use Rattle.std.specs.Prelude.{Ok, Err}
+use Rattle.base.proofs.RefusalLaws.{number_not}
+use Rattle.semilinear.specs.Answers.{in_numbers}
 use Rattle.io_form.proofs.AnswerLaws.{refused_clears, on_err}
 use Rattle.passes.proofs.UsedLaws.{run_used}
 use Rattle.passes.proofs.run_or_print.Goals as goal
 
-pub returns-clause-ok : goal.returns-clause-ok
-returns-clause-ok g c =
-    let call = c.run_passes-answer in
-    run_used _ _ _ _ call.result _ call.ensures
+pub returns-in-Ok-clause-ok : goal.returns-in-Ok-clause-ok
+returns-in-Ok-clause-ok g c = run_used _ _ _ _ (in_numbers (Ok c.in-Ok.answer)) _ c.in-Ok.ensures
 
-pub returns-in_err-print_refusal-clause-err : goal.returns-in_err-print_refusal-clause-err
-returns-in_err-print_refusal-clause-err g c =
-    let call = c.run_passes-answer in
-    on_err _ (refused_clears _ _ call.result _ call.ensures c.if-answer-ne0.true)
+pub returns-in_err-print_refusal-in-Err-clause-err : goal.returns-in_err-print_refusal-in-Err-clause-err
+returns-in_err-print_refusal-in-Err-clause-err g c =
+    on_err _ (refused_clears _ _ (in_numbers (Err c.in-Err.refusal)) _ c.in-Err.ensures (number_not _))

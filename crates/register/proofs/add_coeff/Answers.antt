@@ -1,9 +1,8 @@
--- `add_coeff` meets its contract: one word is written.
-use mathlib.Core.Path.{ap}
-use lib.ListN.{set}
-use Prim.Native.Nat.{◌*◌}
+-- `add_coeff` meets its contract: one field of an entry is written.
+use mathlib.Core.Path.{refl}
+use Rattle.register.specs.Index.{grown}
 use Rattle.register.proofs.add_coeff.Goals as goal
 
 pub returns : goal.returns
-returns c =
-    ap (set c.args.index.now (11 * c.args.j)) c.mod_add.ensures
+unfolding grown
+returns c = rw c.mod_add.ensures refl

@@ -1,5 +1,6 @@
--- `append_atom` meets its contract: the atom's bytes and words are appended, or the table would pass a limit.
-use Rattle.register.proofs.EntryLaws.{words_of_entry}
+-- `append_atom` meets its contract: the atom's bytes and entry are appended, or the table would pass a limit.
+use mathlib.Core.Path.{refl}
+use native.Mathlib.Omega.{arith}
 use Rattle.expr_refusal.proofs.RefusalLaws.{sized_accepted}
 use Rattle.register.proofs.AppendedLaws.{registers_past, room_more, registers_more}
 use Rattle.register.proofs.append_atom.Goals as goal
@@ -17,21 +18,21 @@ returns-then-more c =
     c.create_atom-more.ensures
     c.if-more.true
 
-pub put_entry-requires : goal.put_entry-requires
-put_entry-requires c =
+pub bounds-index-n : goal.bounds-index-n
+bounds-index-n c =
     let a = c.args in
     let p = c.requires in
-    room_more a.w a.table a.index.now a.out.now p.0.indexed p.0.room a.c a.t.now
-    (λ i. (c.shared_slice_known-1.given i).fits) p.0.accepted
-    c.create_atom-more.ensures
-    c.if-more.false p.2
+    omega (
+      arith,
+      room_more a.w a.table a.index.now a.out.now p.0.indexed p.0.room a.c a.t.now
+          (λ i. (c.shared_slice_known-1.given i).fits) p.0.accepted c.create_atom-more.ensures c.if-more.false,
+    )
 
 pub returns : goal.returns
-unfolding words_of_entry
 returns c =
     let a = c.args in
     let p = c.requires in
     registers_more a.w a.table a.index.now a.out.now p.0.indexed p.0.room a.c a.t.now
     (λ i. (c.shared_slice_known-1.given i).fits) p.0.accepted
     c.create_atom-more.ensures
-    c.if-more.false p.1 p.2 c.put_entry.ensures
+    c.if-more.false (refl, refl) (refl, p.1, p.2) refl

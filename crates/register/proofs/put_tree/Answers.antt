@@ -6,12 +6,11 @@ use Rattle.register.proofs.BuiltLaws.{built_plain, built_masked}
 use borrow.Author.Rules.{rules}
 use Rattle.register.proofs.put_tree.Goals as goal
 
-pub returns-then-masked-eq0 : goal.returns-then-masked-eq0
-returns-then-masked-eq0 c =
-    built_plain c.args.w c.args.t.now
-    (λ i. (c.shared_slice_known-1.given i).fits)
-    c.requires.accepted c.args.literal c.if-masked-eq0.true (omega (arith, c.requires.room))
-    c.put_bytes.ensures
+pub returns-in_default : goal.returns-in_default
+returns-in_default c =
+    let plain = built_plain c.args.w c.args.t.now (λ i. (c.shared_slice_known-1.given i).fits) c.requires.accepted
+    (omega (arith, c.requires.room)) c.put.ensures in
+    rw c.in_default.is plain
 
 pub size-requires : goal.size-requires
 size-requires c =
@@ -24,8 +23,7 @@ put_record-requires-2 c =
 
 pub returns : goal.returns
 returns c =
-    built_masked c.args.w c.args.t.now
-    (λ i. (c.shared_slice_known-1.given i).fits)
-    c.requires.accepted c.args.literal c.requires.literal_lt c.if-masked-eq0.false
-    c.requires.room c.size.ensures.0 c.put_bytes.ensures c.put_record.ensures
-    c.put_record-2.ensures
+    let masked = built_masked c.args.w c.args.t.now (λ i. (c.shared_slice_known-1.given i).fits) c.requires.accepted
+    c.in-Some.v (rw c.in-Some.is at c.requires.literal_lt) c.requires.room c.size.ensures.0 c.put.ensures
+    c.put_record.ensures c.put_record-2.ensures in
+    rw c.in-Some.is masked

@@ -1,5 +1,4 @@
 -- `register_all` meets its contract: the loop keeps that the table holds the rows of the spots so far.
-use Prim.Native.Nat.{◌-◌}
 use native.Mathlib.Omega.{arith}
 use mathlib.Core.Path.{refl, sym}
 use lib.Seq.{length-take-le}
@@ -22,11 +21,8 @@ pub build_tree-size-requires : goal.build_tree-size-requires
 build_tree-size-requires c =
     let p = c.requires.0 in
     let x = c.loop-i in
-    let spot = p.spots_ok x.i c.loop-i-test.true in
     record {
-      span = spot.0;
-      literal_lt = spot.1;
-      inside = omega (arith, p.inside, c.loop-i-test.true);
+      ok = p.spots_ok x.i c.loop-i-test.true;
       room = omega (arith, p.room, x.invariant.1);
       long = p.long;
     }
@@ -67,10 +63,6 @@ returns-then-table c =
     c.loop-i.invariant.0 c.loop-i-test.true
     (emitted_spot a.w a.file.now a.spots.now c.loop-i.i c.build_tree-size.ensures)
     c.register_atom-table.ensures c.if-table.true
-
-pub loop-i-smaller : goal.loop-i-smaller
-loop-i-smaller c =
-    omega (arith, c.loop-i-test.true)
 
 pub loop-i-preserved : goal.loop-i-preserved
 loop-i-preserved c =

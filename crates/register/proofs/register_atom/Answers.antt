@@ -1,7 +1,9 @@
 -- `register_atom` meets its contract: what the two searches find is the row that the tree shares.
+use mathlib.Core.Path.{sym}
 use native.Mathlib.Omega.{arith}
 use Rattle.expr_refusal.proofs.RefusalLaws.{sized_accepted}
 use Rattle.register.proofs.AppendedLaws.{index_room}
+use Rattle.register.proofs.SharedLaws.{shared_lt, key_lt}
 use Rattle.register.proofs.StepLaws.{searchable_indexed, registers_by_hash, registers_by_key}
 use Rattle.register.proofs.StepLaws.{registers_new}
 use Rattle.register.proofs.register_atom.Goals as goal
@@ -9,46 +11,46 @@ use Rattle.register.proofs.register_atom.Goals as goal
 pub structural_hash-hash-requires : goal.structural_hash-hash-requires
 structural_hash-hash-requires c = sized_accepted _ _ c.requires.accepted
 
-pub row_by_hash-same-requires : goal.row_by_hash-same-requires
-row_by_hash-same-requires c =
+pub row_by_hash-requires : goal.row_by_hash-requires
+row_by_hash-requires c =
     (sized_accepted _ _ c.requires.accepted, searchable_indexed _ _ _ _ c.requires.indexed)
 
 pub add_coeff-requires : goal.add_coeff-requires
 add_coeff-requires c =
-    omega (arith, index_room _ _ _ _ c.requires.indexed, c.if-same-n.true)
+    let low = shared_lt _ _ _ _ _ (sym c.in-Some.ensures) in
+    omega (arith, index_room _ _ _ _ c.requires.indexed, low)
 
-pub returns-then-same-n : goal.returns-then-same-n
-returns-then-same-n c =
+pub returns-in-Some : goal.returns-in-Some
+returns-in-Some c =
     let a = c.args in
     let p = c.requires in
     registers_by_hash a.w a.table a.index.now a.out.now p.indexed a.c a.t.now
-    (λ i. (c.shared_slice_known-1.given i).fits) (λ i. (c.slice_known-2-1.given i).fits)
+    (λ i. (c.shared_slice_known-1.given i).fits) (λ i. (c.slice_known-1.given i).fits)
     p.accepted
-    c.structural_hash-hash.ensures c.row_by_hash-same.ensures c.if-same-n.true
-    c.add_coeff.ensures
+    c.structural_hash-hash.ensures c.in-Some.ensures c.add_coeff.ensures
 
 pub key_of-key-requires : goal.key_of-key-requires
 key_of-key-requires c =
     sized_accepted _ _ c.requires.accepted
 
-pub row_by_key-shared-requires : goal.row_by_key-shared-requires
-row_by_key-shared-requires c =
+pub row_by_key-requires : goal.row_by_key-requires
+row_by_key-requires c =
     index_room _ _ _ _ c.requires.indexed
 
-pub add_coeff-requires-then-shared-n : goal.add_coeff-requires-then-shared-n
-add_coeff-requires-then-shared-n c =
-    omega (arith, index_room _ _ _ _ c.requires.indexed, c.if-shared-n.true)
+pub add_coeff-requires-in-Some-row_by_key : goal.add_coeff-requires-in-Some-row_by_key
+add_coeff-requires-in-Some-row_by_key c =
+    let room = index_room _ _ _ _ c.requires.indexed in
+    omega (arith, room, key_lt _ _ _ room (sym c.in-Some-row_by_key.ensures))
 
-pub returns-then-shared-n : goal.returns-then-shared-n
-returns-then-shared-n c =
+pub returns-in-Some-row_by_key : goal.returns-in-Some-row_by_key
+returns-in-Some-row_by_key c =
     let a = c.args in
     let p = c.requires in
     registers_by_key a.w a.table a.index.now a.out.now p.indexed a.c a.t.now
-    (λ i. (c.shared_slice_known-1.given i).fits) (λ i. (c.slice_known-2-1.given i).fits)
+    (λ i. (c.shared_slice_known-1.given i).fits) (λ i. (c.slice_known-1.given i).fits)
     p.accepted
-    c.structural_hash-hash.ensures c.row_by_hash-same.ensures
-    (omega (arith, c.if-same-n.false)) c.key_of-key.ensures
-    c.row_by_key-shared.ensures c.if-shared-n.true c.add_coeff-then-shared-n.ensures
+    c.structural_hash-hash.ensures c.in_default.ensures c.key_of-key.ensures
+    c.in-Some-row_by_key.ensures c.add_coeff-in-Some-row_by_key.ensures
 
 pub append_atom-requires : goal.append_atom-requires
 append_atom-requires c =
@@ -59,8 +61,7 @@ returns c =
     let a = c.args in
     let p = c.requires in
     registers_new a.w a.table a.index.now a.out.now p.indexed a.c a.t.now
-    (λ i. (c.shared_slice_known-1.given i).fits) (λ i. (c.slice_known-2-1.given i).fits)
+    (λ i. (c.shared_slice_known-1.given i).fits) (λ i. (c.slice_known-1.given i).fits)
     p.accepted
-    c.structural_hash-hash.ensures c.row_by_hash-same.ensures
-    (omega (arith, c.if-same-n.false)) c.key_of-key.ensures
-    c.row_by_key-shared.ensures (omega (arith, c.if-shared-n.false)) c.append_atom.ensures
+    c.structural_hash-hash.ensures c.in_default.ensures c.key_of-key.ensures
+    c.in_default-row_by_key.ensures c.append_atom.ensures

@@ -1,12 +1,9 @@
 -- The words are looked at two by two.
 use mathlib.Core.Path.{◌≡◌}
-use Prim.Native.Nat.{◌-◌, ◌≤◌}
-use lib.ListN.{length, drop}
+use Prim.Native.Nat.{◌*◌}
+use lib.ListN.{drop}
 use Rattle.runner.specs.RunPasses.{is_list}
 use Rattle.runner.proofs.is_list.Given as goal
 
-abbrev pub invariant-loop-i : goal.invariant-loop-i
-invariant-loop-i l = (l.n ≡ length l.calls) × (l.i ≤ length l.calls) × (is_list l.a l.b (drop l.i l.calls) ≡ is_list l.a l.b l.calls)
-
-abbrev pub decreases-loop-i : goal.decreases-loop-i
-decreases-loop-i l = length l.calls - l.i
+abbrev pub invariant-loop-call : goal.invariant-loop-call
+invariant-loop-call l = is_list l.a l.b (drop (l.call-index * 2) l.words) ≡ is_list l.a l.b l.words

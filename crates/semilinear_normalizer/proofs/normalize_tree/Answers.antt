@@ -1,7 +1,6 @@
 -- `normalize_tree` meets its contract: the marks, the descent from the root, and the form of what it collected.
 use mathlib.Core.Path.{refl, sym}
 use native.Mathlib.Omega.{arith}
-use borrow.Author.Tests.{not-true, not-false}
 use lib.Seq.{length-take-le}
 use Rattle.expr_refusal.proofs.RefusalLaws.{accepted_big, sized_accepted}
 use Rattle.semilinear_normalizer.proofs.WholeTreeLaws.{whole_at, whole_ready, gives_eight, gives_collected}
@@ -28,10 +27,10 @@ collect_terms-found-requires c = (
       c.requires.collected c.start.ensures,
 )
 
-pub returns-then-not-found : goal.returns-then-not-found
-returns-then-not-found c =
+pub returns-in_default : goal.returns-in_default
+returns-in_default c =
     gives_eight _ _ (λ i. (c.shared_slice_known-1.given i).fits) c.requires.accepted _
-    c.start.ensures c.collect_terms-found.ensures (not-true _ c.if-not-found.true)
+    c.start.ensures c.in_default.ensures
     c.requires.written c.refuse.result c.refuse.ensures
 
 pub write_form-requires : goal.write_form-requires
@@ -41,15 +40,15 @@ write_form-requires c =
       record {
         spots_ok =
             spots_whole _ _ (λ i. (c.shared_slice_known-1.given i).fits) pre.accepted _ nothing
-            c.collect_terms-found.ensures;
+            c.in-Some.ensures;
         inside =
             count_whole _ _ (λ i. (c.shared_slice_known-1.given i).fits) pre.accepted _ nothing
-            c.collect_terms-found.ensures pre.collected;
+            c.in-Some.ensures pre.collected;
         room = pre.built;
         long = pre.long;
         entries =
             index_whole _ _ (λ i. (c.shared_slice_known-1.given i).fits) pre.accepted _ nothing
-            c.collect_terms-found.ensures pre.entries;
+            c.in-Some.ensures pre.entries;
       },
       pre.written,
     )
@@ -57,5 +56,5 @@ write_form-requires c =
 pub returns : goal.returns
 returns c =
     gives_collected _ _ (λ i. (c.shared_slice_known-1.given i).fits) c.requires.accepted _
-    c.start.ensures c.collect_terms-found.ensures (not-false _ c.if-not-found.false)
+    c.start.ensures c.in-Some.ensures
     c.write_form.result c.write_form.ensures

@@ -1,33 +1,32 @@
 -- `semilinear_value` meets its contract: the value of an accepted form, and 0 beside a refusal.
-use Rattle.record.specs.Fields.{width}
 use Rattle.semilinear_value.proofs.ValueLaws.{form_value_accepted, form_value_refused}
 use Rattle.semilinear.proofs.AcceptLaws.{accepted_semilinear}
 use Rattle.semilinear.proofs.ValidLaws.{semilinear_parts}
+use Rattle.base.proofs.RefusalLaws.{number_not, passed_on}
 use mathlib.Core.Path.{sym, ◌∙◌}
 use Rattle.semilinear_value.proofs.semilinear_value.Goals as goal
 
-pub returns-then-number-ne0 : goal.returns-then-number-ne0
-returns-then-number-ne0 c =
-    record {
-      number = c.semilinear_refusal-number.ensures;
-      result = sym (form_value_refused _ _ (λ e. c.if-number-ne0.true (c.semilinear_refusal-number.ensures ∙ e)));
-    }
+pub returns-in_err-semilinear_refusal : goal.returns-in_err-semilinear_refusal
+returns-in_err-semilinear_refusal c =
+    let is = c.in_err-semilinear_refusal.ensures in
+    rw (passed_on c.from_residual.ensures)
+    (record { number = is; result = sym (form_value_refused _ _ (λ e. number_not _ (is ∙ e))) })
 
 pub width-w-requires : goal.width-w-requires
 width-w-requires c =
-    (semilinear_parts _ (accepted_semilinear _ (sym c.semilinear_refusal-number.ensures ∙ c.if-number-ne0.false))).0.big
+    (semilinear_parts _ (accepted_semilinear _ (sym c.in_ok-semilinear_refusal.ensures))).0.big
 
 pub literal-constant-requires : goal.literal-constant-requires
 literal-constant-requires c =
     (semilinear_parts _
-    (accepted_semilinear _ (sym c.semilinear_refusal-number.ensures ∙ c.if-number-ne0.false))).0.big
+    (accepted_semilinear _ (sym c.in_ok-semilinear_refusal.ensures))).0.big
 
 pub sum_rows-requires : goal.sum_rows-requires
 sum_rows-requires c =
     let p =
     semilinear_parts _
     (accepted_semilinear _
-    (sym c.semilinear_refusal-number.ensures ∙ c.if-number-ne0.false)) in
+    (sym c.in_ok-semilinear_refusal.ensures)) in
     record {
       width = rw c.width-w.ensures p.0.width_le;
       atoms_ok_lem = rw (c.width-w.ensures, c.body-f.ensures) p.1.atoms;
@@ -38,9 +37,9 @@ sum_rows-requires c =
 pub returns : goal.returns
 returns c =
     record {
-      number = sym c.if-number-ne0.false ∙ c.semilinear_refusal-number.ensures;
+      number = c.in_ok-semilinear_refusal.ensures;
       result =
-          form_value_accepted _ _ (sym c.semilinear_refusal-number.ensures ∙ c.if-number-ne0.false)
+          form_value_accepted _ _ (sym c.in_ok-semilinear_refusal.ensures)
           c.width-w.ensures c.literal-constant.ensures c.body-f.ensures
           c.sum_rows.ensures;
     }

@@ -1,49 +1,24 @@
 -- `sum_rows` meets its contract: the loop keeps that the sum so far and the rows left give the whole.
-use Rattle.semilinear_value.proofs.SumLaws.{summed_start, summed_row, summed_end}
-use Rattle.semilinear.specs.Items.{is_atom}
-use mathlib.Core.Path.{ap, sym, ◌∙◌}
-use native.Mathlib.Omega.{arith}
-use Prim.Native.Nat.{◌-◌}
+use Prim.Native.Nat.{ℕ}
+use Rattle.arith.specs.Width.{mod_mul}
+use mathlib.Core.Path.{ap, ◌∙◌}
+use Rattle.semilinear.proofs.WalkLaws.{row_sized}
+use Rattle.semilinear_value.proofs.SumLaws.{summed_end, summed_with, summed_without, sum_step}
 use Rattle.semilinear_value.proofs.sum_rows.Goals as goal
 
-pub loop-x-init : goal.loop-x-init
-loop-x-init c =
-    summed_start _ _ _ c.args.terms c.args.constant c.requires.fits c.requires.atoms_ok_lem
-    c.requires.ends
+pub value_at-atom-requires : goal.value_at-atom-requires
+value_at-atom-requires c =
+    (row_sized c.in-Some.ensures.steps c.args.w c.loop-row.invariant.atoms, c.requires.width)
 
-pub rest_from-requires : goal.rest_from-requires
-rest_from-requires c = c.loop-x.invariant.inside
+pub loop-row-preserved-in-Some-coeff : goal.loop-row-preserved-in-Some-coeff
+loop-row-preserved-in-Some-coeff c =
+    summed_with _ _ _ _ c.loop-row.invariant c.in-Some.ensures.steps c.in-Some-coeff.coeff c.in-Some-coeff.is _
+    (sum_step c.args.w c.requires.width c.loop-row.sum c.in-Some-coeff.coeff _
+    (c.mod_mul.ensures ∙ ap (λ (v : ℕ). mod_mul c.in-Some-coeff.coeff v c.args.w) c.value_at-atom.ensures)
+    c.mod_add-sum.ensures)
 
-pub returns-then-not-is_atom : goal.returns-then-not-is_atom
-returns-then-not-is_atom c =
-    summed_end _ _ _ _ c.loop-x.x c.loop-x.invariant
-    (ap is_atom (sym c.rest_from.ensures)
-    ∙ sym c.is_atom.ensures
-    ∙ c.if-not-is_atom.true)
+pub loop-row-preserved : goal.loop-row-preserved
+loop-row-preserved c = summed_without _ _ _ _ c.loop-row.invariant c.in-Some.ensures.steps c.in_default.is
 
-pub add_row-x-requires : goal.add_row-x-requires
-add_row-x-requires c =
-    let inv = c.loop-x.invariant in
-    record {
-      row = record {
-        width = c.requires.width;
-        inside = inv.inside;
-        terms_inside = inv.terms_inside;
-        atom = ap is_atom (sym c.rest_from.ensures)
-            ∙ sym c.is_atom.ensures
-            ∙ c.if-not-is_atom.false;
-        atoms_ok_lem = inv.atoms;
-      };
-      number_le = inv.number_le;
-      fits = inv.fits;
-    }
-
-pub loop-x-smaller : goal.loop-x-smaller
-loop-x-smaller c = omega (arith, c.add_row-x.ensures.passed.inside, c.add_row-x.ensures.passed.later)
-
-pub loop-x-preserved : goal.loop-x-preserved
-loop-x-preserved c =
-    summed_row _ _ _ _ c.loop-x.x c.add_row-x.result c.loop-x.invariant
-    (ap is_atom (sym c.rest_from.ensures)
-    ∙ sym c.is_atom.ensures
-    ∙ c.if-not-is_atom.false) c.add_row-x.ensures
+pub returns : goal.returns
+returns c = summed_end _ _ _ _ _ c.loop-row.invariant c.in-None.ensures.steps.0

@@ -1,17 +1,12 @@
 -- `refine_all` meets its contract: after k turns k groups are refined.
 use mathlib.Core.List.{[]}
-use Prim.Native.Nat.{◌-◌, ◌≤◌}
 use Rattle.semilinear.specs.Items.{after_atoms}
 use Rattle.semilinear.specs.DecodeForm.{read_rows}
 use Rattle.views.specs.Grouping.{any_basis, bases_of}
 use Rattle.term_refiner.proofs.AllRefinedLaws.{Going}
 use Rattle.term_refiner.proofs.refine_all.Given as goal
 
-abbrev pub invariant-loop-k : goal.invariant-loop-k
-invariant-loop-k l =
-    (l.k ≤ l.count)
-    × Going l.w (read_rows 0 l.f (after_atoms l.f)) (bases_of any_basis l.w (read_rows 0 l.f (after_atoms l.f)) []) l.k l.initial.made l.initial.out l.initial.coeffs
+abbrev pub invariant-loop-first : goal.invariant-loop-first
+invariant-loop-first l =
+    Going l.w (read_rows 0 l.f (after_atoms l.f)) (bases_of any_basis l.w (read_rows 0 l.f (after_atoms l.f)) []) l.first-index l.initial.made l.initial.out l.initial.coeffs
     l.made l.out l.coeffs
-
-abbrev pub decreases-loop-k : goal.decreases-loop-k
-decreases-loop-k l = l.count - l.k

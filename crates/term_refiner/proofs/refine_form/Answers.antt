@@ -1,4 +1,5 @@
 -- `refine_form` meets its contract: the copied table, its rows refined, and the end of a pass.
+use mathlib.Core.Path.{refl}
 use Rattle.base.proofs.PutLaws.{padded_nil}
 use Rattle.semilinear.proofs.ValidLaws.{semilinear_parts}
 use Rattle.group.proofs.PassLaws.{pass_begin}
@@ -18,7 +19,7 @@ refine_table-requires c =
 
 pub finish-requires : goal.finish-requires
 finish-requires c =
-    refine_room c.refine_table.ensures c.load.ensures
+    refine_room c.refine_table.ensures refl
     c.copy_atoms-tab.ensures.long
 
 pub returns : goal.returns
@@ -26,4 +27,4 @@ returns c =
     let finished = c.finish in
     refine_end c.args.s.now (λ i. (c.shared_slice_known-1.given i).fits) c.requires.0
     c.width-w.ensures c.literal-constant.ensures c.body.ensures c.copy_atoms-tab.ensures
-    c.refine_table.ensures c.load.ensures finished.result finished.ensures
+    c.refine_table.ensures refl finished.result finished.ensures

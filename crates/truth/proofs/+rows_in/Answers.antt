@@ -14,7 +14,7 @@ use native.Mathlib.Omega.{arith}
 use borrow.Author.Rules.{rules}
 use Prim.Native.Nat.{ℕ, ◌-◌, ◌<◌}
 use Rattle.truth.proofs.+rows_in.Goals as goal
-use Rattle.truth.proofs.+rows_in.Goals.{After-right-r, Joined-root_arity-eq0, Joined-root_arity-eq0-2, then-root_arity-eq0, else-root_arity-eq0, then-root_arity-eq0-2, else-root_arity-eq0-2, then-k-eq7, else-k-eq7+else-here-source}
+use Rattle.truth.proofs.+rows_in.Goals.{After-right-r, Joined-root_arity-eq0, Joined-root_arity-eq0-2, then-root_arity-eq0, else-root_arity-eq0, then-root_arity-eq0-2, else-root_arity-eq0-2, then-k, else-k+else-here-source}
 
 pub loop-s-init : goal.loop-s-init
 loop-s-init t c = passed_none _ _ _ (omega arith) c.requires
@@ -113,7 +113,7 @@ pub returns-then-here-source : goal.returns-then-here-source
 returns-then-here-source t c =
     c.complement-then-here-source.ensures
     ∙ passed_past c.loop-s.invariant c.root_arity-children.ensures c.if-children-ne1.false
-    (λ e. c.if-k-eq7.false (c.kind-k.ensures ∙ e)) (omega (arith, c.amount-a.ensures.0))
+    (λ e. c.if-k.false (c.kind-k.ensures ∙ e)) (omega (arith, c.amount-a.ensures.0))
 
 pub overflow_add-here : goal.overflow_add-here
 overflow_add-here t c = omega (arith, c.loop-s.invariant.fits)
@@ -137,9 +137,9 @@ loop-s-preserved t c =
     let passed = c.loop-s.invariant in
     let arity_is = c.root_arity-children.ensures in
     let one = c.if-children-ne1.false in
-    elim c.if-k-eq7.branch [
-      | then-k-eq7 w ↦ rw (w.here-is, w.flip-is) (passed_not passed arity_is one (sym c.kind-k.ensures ∙ w.if-k-eq7.true) refl)
-      | else-k-eq7+else-here-source w ↦ rw (w.here-is, w.flip-is)
-          (passed_shift passed arity_is one (λ e. w.if-k-eq7.false (c.kind-k.ensures ∙ e)) _ w.amount-a.ensures.0
+    elim c.if-k.branch [
+      | then-k w ↦ rw (w.here-is, w.flip-is) (passed_not passed arity_is one (sym c.kind-k.ensures ∙ w.if-k.true) refl)
+      | else-k+else-here-source w ↦ rw (w.here-is, w.flip-is)
+          (passed_shift passed arity_is one (λ e. w.if-k.false (c.kind-k.ensures ∙ e)) _ w.amount-a.ensures.0
           (omega (arith, w.if-here-source.false)) refl)
     ]

@@ -2,7 +2,6 @@
 -- root without children and at one with two the law of the rows there. A child's rows are those of a leaf or of a call.
 use Rattle.record.specs.Fields.{size}
 use Rattle.truth.proofs.PassedLaws.{ChainPassed}
-use Prim.Native.Nat.{◌-◌}
 use Rattle.truth.proofs.+rows_in.Given as goal
 
 abbrev pub decreases-rows_in : goal.decreases-rows_in

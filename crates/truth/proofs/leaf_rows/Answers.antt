@@ -8,15 +8,15 @@ use Rattle.truth.proofs.leaf_rows.Goals as goal
 
 pub returns-then-bit-eq0 : goal.returns-then-bit-eq0
 returns-then-bit-eq0 c w =
-    rw (leaf_constant c.args.t.now c.kind.ensures c.if-kind-eq0.true)
+    rw (leaf_constant c.args.t.now c.kind.ensures c.if-kind.true)
     (rows_clear 64 w _ _ _
     (ap (λ (x : ℕ). bit_at x c.args.place) (sym c.literal.ensures)
     ∙ sym c.bit.ensures
     ∙ c.if-bit-eq0.true))
 
-pub returns-then-kind-eq0 : goal.returns-then-kind-eq0
-returns-then-kind-eq0 c w =
-    rw (leaf_constant c.args.t.now c.kind.ensures c.if-kind-eq0.true)
+pub returns-then-kind : goal.returns-then-kind
+returns-then-kind c w =
+    rw (leaf_constant c.args.t.now c.kind.ensures c.if-kind.true)
     (rows_set 64 w _ _ _
     (λ e.
     c.if-bit-eq0.false
@@ -27,7 +27,7 @@ returns-then-kind-eq0 c w =
 pub returns : goal.returns
 returns c w =
     rw (
-      leaf_variable c.args.t.now c.kind.ensures c.if-kind-eq0.false,
+      leaf_variable c.args.t.now c.kind.ensures c.if-kind.false,
       ← c.var_index.ensures.0,
     )
     (c.variable_rows.ensures w c.args.place)

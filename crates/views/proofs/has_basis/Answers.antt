@@ -1,34 +1,24 @@
 -- `has_basis` meets its contract: the hash is compared before the bytes.
-use mathlib.Core.Path.{sym, ◌∙◌}
-use native.Mathlib.Omega.{arith}
-use Rattle.views.specs.Views.{view_at, basis_bytes}
-use Rattle.views.proofs.HasBasisLaws.{basis_other, basis_none, basis_same}
+use mathlib.Core.Path.{ap, sym, ◌∙◌}
+use borrow.Author.Tests.{ne_eqb}
+use Rattle.std.specs.Prelude.{Option}
+use Rattle.views.specs.declared.View.{View}
+use Rattle.views.specs.Views.{basis_bytes, has_basis}
+use Rattle.views.proofs.HasBasisLaws.{basis_other, basis_same, basis_ungrouped}
 use Rattle.views.proofs.has_basis.Goals as goal
 
-pub returns-then-views-v : goal.returns-then-views-v
-unfolding view_at
-returns-then-views-v c = sym (basis_other _ _ _ _ c.if-views-v.true)
+pub returns-then-v-hash : goal.returns-then-v-hash
+unfolding basis_bytes
+returns-then-v-hash c =
+    c.same_bytes.ensures
+    ∙ sym (ap (λ (o : Option View). has_basis c.args.f.now o c.args.hash c.args.b.now) c.in-Some.is
+    ∙ basis_same _ _ _ _ c.if-v-hash.true)
 
-pub returns-then-end-eq0 : goal.returns-then-end-eq0
-unfolding view_at
-returns-then-end-eq0 c = sym (basis_none _ _ _ _ c.if-views-v.false c.if-end-eq0.true)
+pub returns-else-v-hash : goal.returns-else-v-hash
+returns-else-v-hash c =
+    ne_eqb _ _ c.if-v-hash.false
+    ∙ sym (ap (λ (o : Option View). has_basis c.args.f.now o c.args.hash c.args.b.now) c.in-Some.is
+    ∙ basis_other _ _ _ _ c.if-v-hash.false)
 
-pub slice_bounds-basis-count : goal.slice_bounds-basis-count
-unfolding view_at
-slice_bounds-basis-count c =
-    c.requires.start_le c.args.i (omega arith) c.if-end-eq0.false
-
-pub returns : goal.returns
-unfolding view_at basis_bytes
-returns c =
-    c.same_bytes.ensures ∙ sym (basis_same _ _ _ _ c.if-views-v.false c.if-end-eq0.false)
-
-pub slice_bounds-basis-start : goal.slice_bounds-basis-start
-unfolding view_at
-slice_bounds-basis-start c =
-    c.requires.start_le c.args.i (omega arith) c.if-end-eq0.false
-
-pub slice_bounds-basis-end : goal.slice_bounds-basis-end
-unfolding view_at
-slice_bounds-basis-end c =
-    c.requires.end_le c.args.i (omega arith)
+pub returns-in-None : goal.returns-in-None
+returns-in-None c = sym (basis_ungrouped _ _ _ _ c.in-None.is)

@@ -18,7 +18,7 @@ pub put_atoms-requires : goal.put_atoms-requires
 put_atoms-requires c =
     let s = c.args.s.now in
     let short =
-    length_le s (length_accepted s (λ i. (c.shared_slice_known-1.given i).fits) c.requires.0) in (
+    length_le s (length_accepted s (λ i. (c.type_inv.s i).fits) c.requires.0) in (
       rw (c.body.ensures, c.width.ensures) (semilinear_parts s c.requires.0).1.atoms,
       omega (
         arith,
@@ -32,5 +32,5 @@ put_atoms-requires c =
 pub returns : goal.returns
 returns c =
     let put = c.put_atoms in
-    copied c.args.s.now (λ i. (c.shared_slice_known-1.given i).fits) c.requires.0
+    copied c.args.s.now (λ i. (c.type_inv.s i).fits) c.requires.0
     c.body.ensures c.width.ensures put.result put.ensures c.requires.1

@@ -1,56 +1,50 @@
-use mathlib.Core.Path.{refl}
-use Prim.Native.Nat.{◌-◌}
-use native.Mathlib.Omega.{arith}
+use mathlib.Core.Path.{refl, sym, ◌∙◌}
+use Rattle.group.specs.Group.{at}
 use Rattle.group.specs.Collapse.{find_second}
 use Rattle.collapse_search.specs.Links.{lent}
 use Rattle.collapse_search.proofs.FindLaws.{two_dead, two_apart, two_end, two_found, two_next}
 use Rattle.collapse_search.proofs.find.find_second.Goals as goal
+use Rattle.collapse_search.proofs.find.find_second.Goals.{then-not-is_live-via-then-not-is_live}
+use Rattle.collapse_search.proofs.find.find_second.Goals.{then-not-is_live-via-else-not-is_live+then-not-any_apart}
 
-pub returns-then-marks-i-eq-CONSUMED : goal.returns-then-marks-i-eq-CONSUMED
-returns-then-marks-i-eq-CONSUMED c = two_dead _ _ _ c.if-marks-i-eq-CONSUMED.true
-
-pub returns-then-not-any_apart : goal.returns-then-not-any_apart
-returns-then-not-any_apart c =
+pub returns-then-not-is_live : goal.returns-then-not-is_live
+unfolding at
+returns-then-not-is_live c =
     let a = c.args in
-    let g = lent a.coeffs.now a.masks.now a.marks.now a.n in
-    two_apart a.w g a.i c.if-marks-i-eq-CONSUMED.false c.requires.1
-    (c.any_apart.ensures c.if-not-any_apart.true)
-
-pub put_links-requires : goal.put_links-requires
-put_links-requires c = (omega arith, refl, refl)
+    elim c.then-not-is_live.branch [
+      | then-not-is_live-via-then-not-is_live w ↦
+          two_dead a.w (lent a.entries.now) a.i (sym c.is_live.ensures ∙ w.if-not-is_live.true)
+      | then-not-is_live-via-else-not-is_live+then-not-any_apart w ↦
+          two_apart a.w (lent a.entries.now) a.i (sym c.is_live.ensures ∙ w.if-not-is_live.false) c.requires.1
+          (w.any_apart.ensures w.if-not-any_apart.true)
+    ]
 
 pub loop-j-init : goal.loop-j-init
 unfolding find_second
-loop-j-init c = (omega arith, omega arith, refl)
+loop-j-init c = refl
 
-pub third_for-k-requires : goal.third_for-k-requires
-third_for-k-requires c =
-    record {
-      few = omega arith;
-      i_lt = omega arith;
-      j_lt = omega arith;
-      linked = c.put_links.ensures;
-    }
+pub third_for-requires : goal.third_for-requires
+unfolding at
+third_for-requires c =
+    record { few = c.requires.0; i_lt = c.requires.1; j_lt = c.loop-j-test.true; linked = c.put_links.ensures }
 
-pub returns-then-k-n : goal.returns-then-k-n
-returns-then-k-n c =
+pub returns-in-Some : goal.returns-in-Some
+unfolding at
+returns-in-Some c =
     let a = c.args in
-    let g = lent a.coeffs.now a.masks.now a.marks.now a.n in
-    two_found a.w g a.i c.if-marks-i-eq-CONSUMED.false c.loop-j.j c.loop-j.invariant.2 (omega arith)
-    c.third_for-k.ensures c.if-k-n.true
+    two_found a.w (lent a.entries.now) a.i (sym c.is_live.ensures ∙ c.if-not-is_live.false) c.loop-j.j
+    c.loop-j.invariant c.loop-j-test.true c.third_for.ensures c.in-Some.is
 
 pub loop-j-preserved : goal.loop-j-preserved
+unfolding at
 loop-j-preserved c =
     let a = c.args in
-    let g = lent a.coeffs.now a.masks.now a.marks.now a.n in (
-      omega arith,
-      omega arith,
-      two_next a.w g a.i c.if-marks-i-eq-CONSUMED.false c.loop-j.j c.loop-j.invariant.2 (omega arith)
-          c.third_for-k.ensures (omega arith),
-    )
+    two_next a.w (lent a.entries.now) a.i (sym c.is_live.ensures ∙ c.if-not-is_live.false) c.loop-j.j
+    c.loop-j.invariant c.loop-j-test.true c.third_for.ensures c.in_default.is
 
 pub returns : goal.returns
+unfolding at
 returns c =
     let a = c.args in
-    let g = lent a.coeffs.now a.masks.now a.marks.now a.n in
-    two_end a.w g a.i c.if-marks-i-eq-CONSUMED.false c.loop-j.j c.loop-j.invariant.2 (omega arith) (omega arith)
+    two_end a.w (lent a.entries.now) a.i (sym c.is_live.ensures ∙ c.if-not-is_live.false) c.loop-j.j
+    c.loop-j.invariant c.loop-j-test.false

@@ -5,11 +5,11 @@ use Rattle.arith.specs.Width.{mod_neg}
 use Rattle.normalizer_laws.proofs.AndLaws.{and_coeff_xor, and_coeff_or}
 use Rattle.descent.proofs.collect.and_coeff.Goals as goal
 
-pub returns-then-k-eq6 : goal.returns-then-k-eq6
-returns-then-k-eq6 c =
+pub returns-then-k : goal.returns-then-k
+returns-then-k c =
     c.mod_neg.ensures
     ∙ ap (λ (x : ℕ). mod_neg x c.args.w) c.mod_mul.ensures
-    ∙ sym (and_coeff_xor _ _ _ c.if-k-eq6.true)
+    ∙ sym (and_coeff_xor _ _ _ c.if-k.true)
 
 pub returns : goal.returns
-returns c = c.mod_neg-2.ensures ∙ sym (and_coeff_or _ _ _ c.if-k-eq6.false)
+returns c = c.mod_neg-2.ensures ∙ sym (and_coeff_or _ _ _ c.if-k.false)

@@ -1,4 +1,5 @@
 -- `structural_hash` meets its contract: the equation of the hash at a root without, with one and with two children.
+use mathlib.Core.Path.{◌∙◌}
 use Rattle.record.proofs.SizedLaws.{sized_big}
 use Rattle.record.proofs.DecodeLaws.{decode_leaf, decode_one, decode_two, child_body, child_left, child_right}
 use Rattle.std.proofs.Common.{arith}
@@ -59,5 +60,5 @@ returns t c =
     (decode_two c.args.t.now c.requires c.root_arity-children.ensures
     c.if-children-eq0.false c.if-children-eq1.false c.left.ensures
     c.right.ensures)
-    (hash_two _ _ c.kind-k.ensures c.structural_hash-x-2.ensures
+    (hash_two _ _ (c.from.ensures ∙ c.kind-k.ensures) c.structural_hash-x-2.ensures
     c.structural_hash-y.ensures c.mix_hash-2.ensures c.mix_hash-3.ensures)

@@ -1,31 +1,13 @@
--- `binary` meets its contract: a case for each kind.
+-- `binary` meets its contract: the arithmetic kinds; the others are found by the definition.
 use Rattle.expr.specs.Value.{binary}
 use Rattle.std.proofs.Common.{◌∙◌}
 use Rattle.arith.proofs.WidthLaws.{mod_add_lem, mod_mul_lem}
-use Rattle.std.proofs.Common.{arith}
-use Rattle.std.proofs.lemmas.Bool.Decides.{nat_tests}
 use Rattle.expr.proofs.value.binary.Goals as goal
 
-pub returns-in-2 : goal.returns-in-2
+pub returns-then-k : goal.returns-then-k
 unfolding binary
-returns-in-2 c = rw c.in-2.is (c.mod_add.ensures ∙ mod_add_lem _ _ _ c.requires)
+returns-then-k c = rw c.if-k.true (c.mod_add.ensures ∙ mod_add_lem _ _ _ c.requires)
 
-pub returns-in-3 : goal.returns-in-3
+pub returns-then-k-2 : goal.returns-then-k-2
 unfolding binary
-returns-in-3 c = rw c.in-3.is (c.mod_mul.ensures ∙ mod_mul_lem _ _ _ c.requires)
-
-pub returns-in-4 : goal.returns-in-4
-unfolding binary
-returns-in-4 c = rw c.in-4.is
-
-pub returns-in-5 : goal.returns-in-5
-unfolding binary
-returns-in-5 c = rw c.in-5.is
-
-pub returns-in-6 : goal.returns-in-6
-unfolding binary
-returns-in-6 c = rw c.in-6.is
-
-pub returns-in_default : goal.returns-in_default
-unfolding binary
-returns-in_default c = grind (arith, nat_tests)
+returns-then-k-2 c = rw c.if-k-2.true (c.mod_mul.ensures ∙ mod_mul_lem _ _ _ c.requires)

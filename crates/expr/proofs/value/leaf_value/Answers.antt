@@ -6,12 +6,12 @@ use Rattle.arith.proofs.WidthLaws.{and_bitmask}
 use lib.Bits.{bit_and}
 use Rattle.expr.proofs.value.leaf_value.Goals as goal
 
-pub returns-then-kind-eq0 : goal.returns-then-kind-eq0
+pub returns-then-kind : goal.returns-then-kind
 unfolding value leaf
-returns-then-kind-eq0 c =
+returns-then-kind c =
     simp (
       ← c.kind.ensures,
-      eq-eqb _ _ c.if-kind-eq0.true,
+      eq-eqb _ _ c.if-kind.true,
     ) (ap₂ bit_and c.literal.ensures c.bitmask-mask.ensures ∙ and_bitmask _ _ c.requires.1)
 
 pub returns : goal.returns
@@ -19,6 +19,6 @@ unfolding value leaf
 returns c =
     simp (
       ← c.kind.ensures,
-      ne_eqb _ _ c.if-kind-eq0.false,
+      ne_eqb _ _ c.if-kind.false,
       ← c.var_index.ensures.0,
     ) (ap₂ bit_and c.word.ensures c.bitmask-mask.ensures ∙ and_bitmask _ _ c.requires.1)

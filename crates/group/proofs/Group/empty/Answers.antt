@@ -1,4 +1,3 @@
--- `Group::empty` meets its contract.
 use mathlib.Core.Path.{refl}
 use Rattle.group.specs.Group.{empty_group}
 use Rattle.group.proofs.Group.empty.Goals as goal

@@ -1,11 +1,7 @@
 use mathlib.Core.Path.{◌≡◌}
-use Prim.Native.Nat.{◌-◌, ◌≤◌}
 use Rattle.base.specs.Loop.{for_in}
 use Rattle.group.specs.Steps.{minus_one_at}
 use Rattle.group.proofs.Group.to_minus_one.Given as goal
 
 abbrev pub invariant-loop-i : goal.invariant-loop-i
-invariant-loop-i l = (l.i ≤ l.n) × (l.self ≡ for_in (minus_one_at l.w) 0 l.i l.initial.self)
-
-abbrev pub decreases-loop-i : goal.decreases-loop-i
-decreases-loop-i l = l.n - l.i
+invariant-loop-i l = l.self ≡ for_in (minus_one_at l.w) 0 l.i l.initial.self

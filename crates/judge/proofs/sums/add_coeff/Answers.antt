@@ -1,7 +1,7 @@
 -- `add_coeff` meets its contract: the loop keeps that the sums before `i` have the coefficient.
 use Rattle.judge.proofs.SumsLaws.{adding_start, adding_skip, adding_set, adding_done}
 use lib.ListN.{length}
-use Prim.Native.Nat.{◌-◌, ◌<◌}
+use Prim.Native.Nat.{◌<◌}
 use native.Mathlib.Omega.{arith}
 use Rattle.judge.proofs.sums.add_coeff.Goals as goal
 use Rattle.judge.proofs.sums.add_coeff.Goals.{else-left-eq1, then-left-eq1}

@@ -1,11 +1,6 @@
--- `add_coeff` meets its contract: the loop keeps that the sums before `i` have the coefficient.
+-- The loop keeps that the sums before `i` have the coefficient.
 use Rattle.judge.proofs.SumsLaws.{Adding}
-use lib.ListN.{length}
-use Prim.Native.Nat.{◌-◌}
 use Rattle.judge.proofs.sums.add_coeff.Given as goal
 
 abbrev pub invariant-loop-i : goal.invariant-loop-i
 invariant-loop-i l = Adding l.w l.rows l.c l.initial.sums l.sums l.left l.i
-
-abbrev pub decreases-loop-i : goal.decreases-loop-i
-decreases-loop-i l = length l.initial.sums - l.i

@@ -1,4 +1,4 @@
--- `create_xored` meets its contract: the table is loaded, the Xor is appended, and the words are stored.
+-- `create_xored` meets its contract: the Xor is appended.
 use mathlib.Core.Path.{ap, ◌∙◌}
 use native.Mathlib.Omega.{arith}
 use Rattle.atom_table.specs.declared.table.Table.{Table}
@@ -9,14 +9,11 @@ use Rattle.pairing.proofs.xored.create_xored.Goals as goal
 pub join_xored-more-requires : goal.join_xored-more-requires
 join_xored-more-requires c =
     let pre = c.requires in
-    (rw c.load-tab.ensures pre.room.placed, pre.same, pre.encodable)
+    (pre.room.placed, pre.same, pre.encodable)
 
 pub returns : goal.returns
 returns c =
     let a = c.args in
     let pre = c.requires in
     grew_xored a.w a.b.now a.m pre.same pre.encodable (omega arith) a.made.now a.out.now pre.room
-    (c.join_xored-more.ensures
-    ∙ ap (λ (tab : Table). create_atom a.w (xor_bytes a.w a.b.now a.m) (store_of tab a.out.now))
-    c.load-tab.ensures)
-    c.store.ensures
+    c.join_xored-more.ensures c.store.ensures

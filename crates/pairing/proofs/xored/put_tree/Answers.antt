@@ -8,4 +8,4 @@ returns c =
     let pre = c.requires in
     wrote_tree a.w a.b.now a.m pre.same a.out.now a.at a.size pre.inside pre.size_is
     c.put_record.ensures
-    c.put_bytes.ensures c.put_record-2.ensures
+    c.put.ensures c.put_record-2.ensures

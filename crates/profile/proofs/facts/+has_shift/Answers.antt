@@ -59,18 +59,18 @@ returns-then-has_shift t c =
     rw
     (decode_two c.args.t.now c.requires c.root_arity-children.ensures c.if-children-eq0.false
     c.if-children-eq1.false c.left.ensures refl)
-    (shift_left _ _ _ c.has_shift.ensures c.if-has_shift.true)
+    (c.if-has_shift.true ∙ shift_left _ _ _ c.has_shift.ensures c.if-has_shift.true)
 
-pub has_shift-requires-2 : goal.has_shift-requires-2
-has_shift-requires-2 t c =
+pub has_shift-requires-else-has_shift : goal.has_shift-requires-else-has_shift
+has_shift-requires-else-has_shift t c =
     let r =
     child_right c.args.t.now c.requires c.root_arity-children.ensures
     c.if-children-eq0.false c.if-children-eq1.false c.right.ensures in
     (omega (arith, r.falls), r.ok)
 
-pub returns : goal.returns
-returns t c =
+pub returns-else-has_shift : goal.returns-else-has_shift
+returns-else-has_shift t c =
     rw
     (decode_two c.args.t.now c.requires c.root_arity-children.ensures c.if-children-eq0.false
     c.if-children-eq1.false c.left.ensures c.right.ensures)
-    (c.has_shift-2.ensures ∙ shift_right _ _ _ c.has_shift.ensures c.if-has_shift.false)
+    (c.has_shift-else-has_shift.ensures ∙ shift_right _ _ _ c.has_shift.ensures c.if-has_shift.false)

@@ -8,7 +8,6 @@ use Rattle.record.proofs.write.put_record.Goals as goal
 pub returns : goal.returns
 unfolding record_bytes
 returns c =
-    let n =
-    c.args.n in
+    let n = c.args.n in
     let h : n / 256 % 256 ≡ n / 256 = omega arith in
-    cc
+    rw (c.put.ensures, c.copy_from_slice.ensures.after, c.to_le_bytes.ensures, c.to_le_bytes-2.ensures, h)

@@ -10,4 +10,4 @@ unfolding encode variable_bytes
 returns c =
     let v = c.args.v in
     let h : v / 256 % 256 ≡ v / 256 = omega arith in
-    cc
+    rw (c.put.ensures, c.to_le_bytes.ensures, h)

@@ -1,6 +1,4 @@
 -- `recover_entries` meets its contract: after i turns i entries have looked; a full table ends the loop.
-use mathlib.Core.Path.{◌≡◌}
-use Prim.Native.Nat.{◌-◌, ◌≤◌}
 use Rattle.record.specs.Decode.{decode}
 use Rattle.base.specs.Loop.{for_in}
 use Rattle.structure_laws.specs.RecoverStructure.{recover_at}
@@ -9,7 +7,4 @@ use Rattle.recover_pair.proofs.pair.recover_entries.Given as goal
 
 abbrev pub invariant-loop-i : goal.invariant-loop-i
 invariant-loop-i l =
-    (l.i ≤ l.n) × (l.n ≡ l.initial.g.len) × Recovered l.w l.i (for_in (recover_at l.w (decode l.b)) 0 l.i) l.initial.g l.initial.made l.initial.out l.g l.made l.out
-
-abbrev pub decreases-loop-i : goal.decreases-loop-i
-decreases-loop-i l = l.n - l.i
+    Recovered l.w l.i (for_in (recover_at l.w (decode l.b.bytes.now)) 0 l.i) l.initial.g l.initial.made l.initial.out l.g l.made l.out

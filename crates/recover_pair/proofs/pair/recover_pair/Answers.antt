@@ -1,6 +1,7 @@
 -- `recover_pair` meets its contract: each way is one step, or none.
 use mathlib.Core.Path.{sym}
 use Rattle.record.specs.Decode.{decode}
+use Rattle.group.specs.Group.{at}
 use Rattle.recover_pair.proofs.PairingLaws.{pair_xor, pair_xor_back, pair_none, pair_eliminate}
 use Rattle.recover_pair.proofs.TurnedLaws.{xor_makes, turned_as, turned_none}
 use Rattle.recover_pair.proofs.pair.recover_pair.Goals as goal
@@ -17,15 +18,16 @@ recover_xor-requires c =
     }
 
 pub returns-then-fewer_ones : goal.returns-then-fewer_ones
+unfolding at
 returns-then-fewer_ones c =
     let a = c.args in
     turned_as
-    (pair_xor a.w (decode a.b.now) a.i a.j _ c.mod_add.ensures
+    (pair_xor a.w (decode a.b.bytes.now) a.i a.j _ (rw c.from-width.ensures at c.mod_add.ensures)
     c.fewer_ones.ensures c.if-mod_add-eq0.true c.if-fewer_ones.true)
     c.recover_xor.ensures
 
-pub recover_xor-requires-then-mod_add-eq0 : goal.recover_xor-requires-then-mod_add-eq0
-recover_xor-requires-then-mod_add-eq0 c =
+pub recover_xor-requires-else-fewer_ones : goal.recover_xor-requires-else-fewer_ones
+recover_xor-requires-else-fewer_ones c =
     let pre = c.requires in
     record {
       width = pre.makes.width;
@@ -35,30 +37,29 @@ recover_xor-requires-then-mod_add-eq0 c =
       apart = λ e. pre.apart (sym e);
     }
 
-pub returns-then-mod_add-eq0 : goal.returns-then-mod_add-eq0
-returns-then-mod_add-eq0 c =
+pub returns-else-fewer_ones : goal.returns-else-fewer_ones
+unfolding at
+returns-else-fewer_ones c =
     let a = c.args in
     turned_as
-    (pair_xor_back a.w (decode a.b.now) a.i a.j _ c.mod_add.ensures
+    (pair_xor_back a.w (decode a.b.bytes.now) a.i a.j _ (rw c.from-width.ensures at c.mod_add.ensures)
     c.fewer_ones.ensures c.if-mod_add-eq0.true c.if-fewer_ones.false)
-    c.recover_xor-then-mod_add-eq0.ensures
+    c.recover_xor-else-fewer_ones.ensures
 
-pub returns-then-diff-eq0 : goal.returns-then-diff-eq0
-returns-then-diff-eq0 c =
+pub returns-then-diff-ne0 : goal.returns-then-diff-ne0
+unfolding at
+returns-then-diff-ne0 c =
     let a = c.args in
     turned_as
-    (pair_none a.w (decode a.b.now) a.i a.j _ c.mod_add.ensures c.if-mod_add-eq0.false
-    c.mod_sub-diff.ensures
-    c.if-diff-eq0.true)
-    (turned_none c.requires.makes.room)
-
-pub returns : goal.returns
-returns c =
-    let a = c.args in
-    turned_as
-    (pair_eliminate a.w (decode a.b.now) a.i a.j _
-    c.mod_add.ensures
-    c.if-mod_add-eq0.false
-    c.mod_sub-diff.ensures
-    c.if-diff-eq0.false)
+    (pair_eliminate a.w (decode a.b.bytes.now) a.i a.j _ (rw c.from-width.ensures at c.mod_add.ensures) c.if-mod_add-eq0.false
+    (rw c.from-width.ensures at c.mod_sub-diff.ensures) c.if-diff-ne0.true)
     c.eliminate_mask.ensures
+
+pub returns-else-diff-ne0 : goal.returns-else-diff-ne0
+unfolding at
+returns-else-diff-ne0 c =
+    let a = c.args in
+    turned_as
+    (pair_none a.w (decode a.b.bytes.now) a.i a.j _ (rw c.from-width.ensures at c.mod_add.ensures) c.if-mod_add-eq0.false
+    (rw c.from-width.ensures at c.mod_sub-diff.ensures) c.if-diff-ne0.false)
+    (turned_none c.requires.makes.room)

@@ -6,71 +6,47 @@ use Rattle.register.specs.Index.{entry_span}
 use Rattle.register.proofs.SlotLaws.{hash_none, hash_found, hash_differs, newest_lt}
 use Rattle.register.proofs.index.row_by_hash.Goals as goal
 
-pub returns-then-j-n : goal.returns-then-j-n
-returns-then-j-n c = sym (hash_none _ _ _ _ _ _ c.newest_slot-j.ensures c.if-j-n.true)
+pub returns-in_err-j : goal.returns-in_err-j
+returns-in_err-j c = c.from_residual.ensures ∙ sym (hash_none _ _ _ _ _ (sym c.in_err-j.ensures))
 
-pub overflow_mul-at : goal.overflow_mul-at
-overflow_mul-at c =
-    let low = newest_lt _ _ _ _ _ _ c.newest_slot-j.ensures c.if-j-n.false in
+pub bounds-index-j : goal.bounds-index-j
+bounds-index-j c =
+    let low = newest_lt _ _ _ _ _ _ (sym c.in_ok-j.ensures) in
     omega (arith, c.requires.1.room, low)
 
-pub overflow_add-start : goal.overflow_add-start
-overflow_add-start c =
-    let low = newest_lt _ _ _ _ _ _ c.newest_slot-j.ensures c.if-j-n.false in
+pub offset_bounds-index-j : goal.offset_bounds-index-j
+offset_bounds-index-j c =
+    let low = newest_lt _ _ _ _ _ _ (sym c.in_ok-j.ensures) in
     omega (arith, c.requires.1.room, low)
 
-pub offset_bounds-index-at : goal.offset_bounds-index-at
-offset_bounds-index-at c =
-    let low = newest_lt _ _ _ _ _ _ c.newest_slot-j.ensures c.if-j-n.false in
+pub offset_bounds-index-j-2 : goal.offset_bounds-index-j-2
+offset_bounds-index-j-2 c =
+    let low = newest_lt _ _ _ _ _ _ (sym c.in_ok-j.ensures) in
     omega (arith, c.requires.1.room, low)
 
-pub bounds-index-at : goal.bounds-index-at
-bounds-index-at c =
-    let low = newest_lt _ _ _ _ _ _ c.newest_slot-j.ensures c.if-j-n.false in
-    omega (arith, c.requires.1.room, low)
-
-pub overflow_add-end : goal.overflow_add-end
-overflow_add-end c =
-    let low = newest_lt _ _ _ _ _ _ c.newest_slot-j.ensures c.if-j-n.false in
-    omega (arith, c.requires.1.room, low)
-
-pub offset_bounds-index-at-2 : goal.offset_bounds-index-at-2
-offset_bounds-index-at-2 c =
-    let low = newest_lt _ _ _ _ _ _ c.newest_slot-j.ensures c.if-j-n.false in
-    omega (arith, c.requires.1.room, low)
-
-pub bounds-index-at-2 : goal.bounds-index-at-2
-bounds-index-at-2 c =
-    let low = newest_lt _ _ _ _ _ _ c.newest_slot-j.ensures c.if-j-n.false in
+pub bounds-index-j-2 : goal.bounds-index-j-2
+bounds-index-j-2 c =
+    let low = newest_lt _ _ _ _ _ _ (sym c.in_ok-j.ensures) in
     omega (arith, c.requires.1.room, low)
 
 pub slice_bounds-same_bytes-count : goal.slice_bounds-same_bytes-count
 slice_bounds-same_bytes-count c =
-    c.requires.1.rising c.newest_slot-j.result
-    (newest_lt _ _ _ _ _ _ c.newest_slot-j.ensures c.if-j-n.false)
+    (c.requires.1.entries _ (newest_lt _ _ _ _ _ _ (sym c.in_ok-j.ensures))).rising
+
+pub slice_bounds-same_bytes-start : goal.slice_bounds-same_bytes-start
+slice_bounds-same_bytes-start c =
+    (c.requires.1.entries _ (newest_lt _ _ _ _ _ _ (sym c.in_ok-j.ensures))).rising
+
+pub slice_bounds-same_bytes-end : goal.slice_bounds-same_bytes-end
+slice_bounds-same_bytes-end c =
+    (c.requires.1.entries _ (newest_lt _ _ _ _ _ _ (sym c.in_ok-j.ensures))).inside
 
 pub returns-then-same_bytes : goal.returns-then-same_bytes
 unfolding entry_span span_of
 returns-then-same_bytes c =
-    sym
-    (hash_found c.args.n c.args.hash c.args.t.now c.args.index.now
-    c.args.out.now c.newest_slot-j.result c.newest_slot-j.ensures
-    (sym c.same_bytes.ensures ∙ c.if-same_bytes.true))
+    sym (hash_found _ _ _ _ _ _ (sym c.in_ok-j.ensures) (sym c.same_bytes.ensures ∙ c.if-same_bytes.true))
 
 pub returns : goal.returns
 unfolding entry_span span_of
 returns c =
-    sym
-    (hash_differs c.args.n c.args.hash c.args.t.now c.args.index.now
-    c.args.out.now c.newest_slot-j.result c.newest_slot-j.ensures
-    (sym c.same_bytes.ensures ∙ c.if-same_bytes.false))
-
-pub slice_bounds-same_bytes-start : goal.slice_bounds-same_bytes-start
-slice_bounds-same_bytes-start c =
-    c.requires.1.rising c.newest_slot-j.result
-    (newest_lt _ _ _ _ _ _ c.newest_slot-j.ensures c.if-j-n.false)
-
-pub slice_bounds-same_bytes-end : goal.slice_bounds-same_bytes-end
-slice_bounds-same_bytes-end c =
-    c.requires.1.inside c.newest_slot-j.result
-    (newest_lt _ _ _ _ _ _ c.newest_slot-j.ensures c.if-j-n.false)
+    sym (hash_differs _ _ _ _ _ _ (sym c.in_ok-j.ensures) (sym c.same_bytes.ensures ∙ c.if-same_bytes.false))

@@ -1,45 +1,13 @@
--- `row_by_key` meets its contract: the loop keeps that the atoms from `j` on decide.
-use Prim.Native.Nat.{◌-◌}
-use mathlib.Core.Path.{◌≡◌, sym, ◌∙◌}
-use native.Mathlib.Omega.{arith}
-use Rattle.base.proofs.LoopLaws.{first_next, first_here, first_end}
-use Rattle.register.proofs.SlotLaws.{key_at, row_key_none, row_key_search}
+-- `row_by_key` meets its contract: none has the key of a tree that is not pure.
+use mathlib.Core.Path.{sym, ◌∙◌}
+use borrow.Author.Tests.{eq-eqb, ne_eqb}
+use Rattle.register.specs.Index.{row_by_key}
 use Rattle.register.proofs.index.row_by_key.Goals as goal
 
 pub returns-then-key-eq-NOT_PURE : goal.returns-then-key-eq-NOT_PURE
-returns-then-key-eq-NOT_PURE c =
-    sym (row_key_none c.args.n c.args.key.now c.args.index.now c.if-key-eq-NOT_PURE.true)
-
-pub loop-j-init : goal.loop-j-init
-loop-j-init c = (
-  omega arith,
-  row_key_search c.args.n c.args.key.now c.args.index.now c.if-key-eq-NOT_PURE.false,
-)
-
-pub same_key-requires : goal.same_key-requires
-same_key-requires c =
-    (omega arith, omega (arith, c.requires))
-
-pub returns-then-same_key : goal.returns-then-same_key
-returns-then-same_key c =
-    sym
-    (c.loop-j.invariant.1
-    ∙ first_here (key_at c.args.key.now c.args.index.now) c.loop-j.j
-    c.args.n (omega arith) (sym c.same_key.ensures ∙ c.if-same_key.true))
-
-pub loop-j-preserved : goal.loop-j-preserved
-loop-j-preserved c = (
-  omega arith,
-  c.loop-j.invariant.1
-      ∙ first_next (key_at c.args.key.now c.args.index.now) c.loop-j.j
-      c.args.n (omega arith) (sym c.same_key.ensures ∙ c.if-same_key.false),
-)
+unfolding row_by_key
+returns-then-key-eq-NOT_PURE c = sym (simp (eq-eqb _ _ c.if-key-eq-NOT_PURE.true))
 
 pub returns : goal.returns
-returns c =
-    let end : c.loop-j.j ≡ c.args.n = omega arith in
-    sym
-    (c.loop-j.invariant.1
-    ∙ first_end (key_at c.args.key.now c.args.index.now) c.loop-j.j
-    c.args.n (omega arith)
-    ∙ end)
+unfolding row_by_key
+returns c = c.first_by_key.ensures ∙ sym (simp (ne_eqb _ _ c.if-key-eq-NOT_PURE.false))

@@ -7,12 +7,12 @@ pub returns-then-length_refused : goal.returns-then-length_refused
 unfolding semilinear_refusal
 returns-then-length_refused c = simp (sym c.length_refused.ensures ∙ c.if-length_refused.true)
 
-pub returns-then-is_semilinear : goal.returns-then-is_semilinear
+pub returns-then-not-is_semilinear : goal.returns-then-not-is_semilinear
 unfolding semilinear_refusal
-returns-then-is_semilinear c =
+returns-then-not-is_semilinear c =
     simp (
       sym c.length_refused.ensures ∙ c.if-length_refused.false,
-      sym c.is_semilinear.ensures ∙ c.if-is_semilinear.true,
+      sym c.is_semilinear.ensures ∙ c.if-not-is_semilinear.true,
     )
 
 pub returns : goal.returns
@@ -20,5 +20,5 @@ unfolding semilinear_refusal
 returns c =
     simp (
       sym c.length_refused.ensures ∙ c.if-length_refused.false,
-      sym c.is_semilinear.ensures ∙ c.if-is_semilinear.false,
+      sym c.is_semilinear.ensures ∙ c.if-not-is_semilinear.false,
     )

@@ -4,13 +4,13 @@ use Prim.Native.Nat.{ℕ}
 use native.Mathlib.Omega.{arith}
 use lib.ListN.{replicate}
 use Rattle.base.proofs.PutLaws.{padded_nil}
-use Rattle.semilinear_normalizer.proofs.WrittenLaws.{table_placed, index_room, gives_collected}
+use Rattle.semilinear_normalizer.proofs.WrittenLaws.{table_placed, atoms_le, gives_collected}
 use Rattle.semilinear_normalizer.proofs.form.write_form.Goals as goal
 
 pub register_all-table-requires : goal.register_all-table-requires
 register_all-table-requires c = (
   c.requires.0,
-  c.clear.ensures ∙ ap (λ (n : ℕ). replicate n 0) c.requires.1 ∙ padded_nil 57360,
+  c.fill.ensures.after (λ _ e. e) ∙ ap (λ (n : ℕ). replicate n 0) c.requires.1 ∙ padded_nil 57360,
 )
 
 pub finish-requires : goal.finish-requires
@@ -19,7 +19,7 @@ finish-requires c =
     record {
       placed = table_placed _ _ reg;
       long = c.out-2-1.given ∙ c.out-1.given ∙ c.requires.1;
-      coeffs = index_room _ _ reg;
+      coeffs = λ more. omega (arith, atoms_le _ _ reg more, c.put_coeffs.ensures.same_length);
       step_pos = omega arith;
       step_le = omega arith;
     }
@@ -27,4 +27,4 @@ finish-requires c =
 pub returns : goal.returns
 returns c =
     let finished = c.finish in
-    gives_collected _ _ c.register_all-table.ensures _ finished.result finished.ensures
+    gives_collected _ _ c.register_all-table.ensures c.put_coeffs.ensures (omega arith) _ finished.result finished.ensures

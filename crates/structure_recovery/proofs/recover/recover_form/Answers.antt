@@ -19,11 +19,11 @@ recover_table-requires c =
 
 pub finish-requires : goal.finish-requires
 finish-requires c =
-    recover_room c.recover_table.ensures c.load.ensures
+    recover_room c.recover_table.ensures refl
     c.copy_atoms-tab.ensures.long
 
 pub returns : goal.returns
 returns c =
     recover_end c.args.s.now (λ i. (c.shared_slice_known-1.given i).fits) c.requires.0 c.width-w.ensures
     c.literal-constant.ensures c.body.ensures c.copy_atoms-tab.ensures c.recover_table.ensures
-    c.load.ensures refl c.finish.result c.finish.ensures
+    refl refl c.finish.result c.finish.ensures

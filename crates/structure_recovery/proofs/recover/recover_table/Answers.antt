@@ -3,10 +3,10 @@ use native.Mathlib.Omega.{arith}
 use Rattle.group.proofs.PassLaws.{form_fewer}
 use Rattle.structure_recovery.proofs.recover.recover_table.Goals as goal
 
-pub recover_short-requires : goal.recover_short-requires
-recover_short-requires c =
+pub recover_sized-requires : goal.recover_sized-requires
+recover_sized-requires c =
     let pre = c.requires in
-    form_fewer pre.1 (omega (arith, pre.0, c.if-count-le-SHORT_ATOMS_U64.true))
+    (omega arith, form_fewer pre.1 (omega (arith, pre.0, c.if-count-le-SHORT_ATOMS_U64.true)))
 
-pub recover_long-requires : goal.recover_long-requires
-recover_long-requires c = c.requires.1
+pub recover_sized-requires-2 : goal.recover_sized-requires-2
+recover_sized-requires-2 c = (omega arith, c.requires.1)

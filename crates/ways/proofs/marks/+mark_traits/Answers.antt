@@ -1,6 +1,6 @@
 -- `mark_traits` meets its contract: the equation of the fold at a root without, with one and with two children.
 use mathlib.Core.Path.{refl, ap}
-use Prim.Native.Nat.{ℕ, ◌+◌, ◌-◌}
+use Prim.Native.Nat.{ℕ, ◌+◌}
 use native.Mathlib.Omega.{arith}
 use Rattle.record.proofs.SizedLaws.{sized_big}
 use Rattle.record.proofs.DecodeLaws.{child_body, child_left, child_right}

@@ -1,5 +1,4 @@
 -- `mark_traits` meets its contract: the equation of the fold at a root without, with one and with two children.
-use Prim.Native.Nat.{◌-◌}
 use Rattle.record.specs.Fields.{size}
 use Rattle.ways.proofs.marks.+mark_traits.Given as goal
 

@@ -5,10 +5,10 @@ use Rattle.ways.specs.Marks.{mark_number, mark_of}
 use borrow.Author.Tests.{eq-eqb, ne_eqb}
 use Rattle.ways.proofs.marks.leaf_mark.Goals as goal
 
-pub returns-then-kind-eq0 : goal.returns-then-kind-eq0
+pub returns-then-kind : goal.returns-then-kind
 unfolding mark_of mark_number leaf has_kind has_arith
-returns-then-kind-eq0 c = simp (← c.kind.ensures, eq-eqb _ _ c.if-kind-eq0.true)
+returns-then-kind c = simp (← c.kind.ensures, eq-eqb _ _ c.if-kind.true)
 
 pub returns : goal.returns
 unfolding mark_of mark_number leaf has_kind has_arith
-returns c = simp (← c.kind.ensures, ne_eqb _ _ c.if-kind-eq0.false)
+returns c = simp (← c.kind.ensures, ne_eqb _ _ c.if-kind.false)

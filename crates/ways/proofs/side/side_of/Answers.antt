@@ -2,7 +2,6 @@
 use mathlib.Core.Path.{refl, sym, ◌∙◌}
 use native.Mathlib.Omega.{arith}
 use Rattle.ways.specs.Spans.{span_of}
-use Rattle.ways.specs.Sides.{SideOf}
 use Rattle.ways.proofs.SpanOfLaws.{span_end}
 use Rattle.ways.proofs.SideLaws.{left_sized, right_sized, right_number_is, sides_size}
 use Rattle.ways.proofs.SideLaws.{left_value, right_value, left_variable, right_variable}
@@ -40,8 +39,8 @@ unfolding span_of
 constant_value-value-requires c =
     (left_sized c.requires.0 c.requires.2 c.left.ensures, c.requires.1)
 
-pub overflow_sub-stop : goal.overflow_sub-stop
-overflow_sub-stop c =
+pub overflow_sub-result : goal.overflow_sub-result
+overflow_sub-result c =
     omega (arith, span_end c.requires.0.span)
 
 pub returns-then-not-has_variable : goal.returns-then-not-has_variable
@@ -68,10 +67,10 @@ unfolding span_of
 returns-then-has_variable c =
     let spot = c.requires.0 in
     let two = c.requires.2 in
-    let number_is = right_number_is spot two c.cut-cut.ensures.0 c.number_of-number.ensures in
-    SideOf.neither c.no_side.ensures
-    (sym (left_variable spot two number_is c.has_variable.ensures) ∙ c.if-not-has_variable.false)
-    (sym (right_variable spot two c.has_variable-2.ensures) ∙ c.if-has_variable.true)
+    let number_is = right_number_is spot two c.cut-cut.ensures.0 c.number_of-number.ensures in (
+      sym (left_variable spot two number_is c.has_variable.ensures) ∙ c.if-not-has_variable.false,
+      sym (right_variable spot two c.has_variable-2.ensures) ∙ c.if-has_variable.true,
+    )
 
 pub constant_value-value-requires-2 : goal.constant_value-value-requires-2
 unfolding span_of

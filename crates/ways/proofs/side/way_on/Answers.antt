@@ -17,18 +17,18 @@ pub way_neg-requires : goal.way_neg-requires
 way_neg-requires c =
     (omega (arith, span_end c.requires.spot.span), spot_some c.requires.spot)
 
-pub returns-then-k-eq8 : goal.returns-then-k-eq8
+pub returns-then-k : goal.returns-then-k
 unfolding span_of
-returns-then-k-eq8 c =
+returns-then-k c =
     rw c.way_neg.ensures
     (way_neg _ c.requires.spot c.requires.some c.requires.variable
-    (sym c.kind-k.ensures ∙ c.if-k-eq8.true))
+    (sym c.kind-k.ensures ∙ c.if-k.true))
 
-pub overflow_sub-last : goal.overflow_sub-last
-overflow_sub-last c = spot_some c.requires.spot
+pub overflow_sub-marks : goal.overflow_sub-marks
+overflow_sub-marks c = spot_some c.requires.spot
 
-pub bounds-marks-last : goal.bounds-marks-last
-bounds-marks-last c =
+pub bounds-marks-marks : goal.bounds-marks-marks
+bounds-marks-marks c =
     omega (arith, spot_some c.requires.spot)
 
 pub way_neg-requires-then-is_turned : goal.way_neg-requires-then-is_turned
@@ -41,7 +41,7 @@ returns-then-is_turned c =
     let kind_is = c.kind-k.ensures in
     rw c.way_neg-then-is_turned.ensures
     (way_not _ c.requires.spot c.requires.some c.requires.variable
-    (λ e. c.if-k-eq8.false (kind_is ∙ e)) refl c.requires.width_le
+    (λ e. c.if-k.false (kind_is ∙ e)) refl c.requires.width_le
     (turned_read _ _ _ _ c.is_turned.ensures kind_is c.if-is_turned.true))
 
 pub root_arity-requires : goal.root_arity-requires
@@ -53,9 +53,9 @@ unfolding span_of
 returns-then-root_arity-ne2 c =
     let kind_is = c.kind-k.ensures in
     way_end _ c.requires.spot c.requires.some c.requires.variable
-    (λ e. c.if-k-eq8.false (kind_is ∙ e)) refl
+    (λ e. c.if-k.false (kind_is ∙ e)) refl
     (λ e. c.if-root_arity-ne2.true (c.root_arity.ensures ∙ e))
-    (turned_read _ _ _ _ c.is_turned.ensures kind_is c.if-is_turned.false) c.nowhere.ensures
+    (turned_read _ _ _ _ c.is_turned.ensures kind_is c.if-is_turned.false)
 
 pub way_two-requires : goal.way_two-requires
 unfolding span_of

@@ -4,6 +4,10 @@ use native.Mathlib.Omega.{arith}
 use Rattle.record.proofs.SizedLaws.{sized_big, sized_length}
 use Rattle.atom_table.specs.Table.{full_table}
 use Rattle.atom_table.proofs.TableLaws.{create_full, create_past, fits_more_count, fits_more_records, created}
+use native.Mathlib.Nat.{add_assoc}
+use lib.ListN.{length}
+use Rattle.atom_table.proofs.table.Table.create_atom.Goals.{then-self-ge-ATOM_LIMIT_U64-via-then-self-ge-ATOM_LIMIT_U64}
+use Rattle.atom_table.proofs.table.Table.create_atom.Goals.{then-self-ge-ATOM_LIMIT_U64-via-else-self-ge-ATOM_LIMIT_U64+then-self-size-gt-TREE_RECORD_LIMIT_U64}
 use Rattle.atom_table.proofs.table.Table.create_atom.Goals as goal
 
 pub returns-then-self : goal.returns-then-self
@@ -14,22 +18,19 @@ returns-then-self c =
 pub size-size-requires : goal.size-size-requires
 size-size-requires c = sized_big _ c.requires.1
 
-pub returns-then-count-ge-ATOM_LIMIT_U64 : goal.returns-then-count-ge-ATOM_LIMIT_U64
+pub returns-then-self-ge-ATOM_LIMIT_U64 : goal.returns-then-self-ge-ATOM_LIMIT_U64
 unfolding full_table
-returns-then-count-ge-ATOM_LIMIT_U64 c =
+returns-then-self-ge-ATOM_LIMIT_U64 c =
     let a = c.args in
     sym
     (create_past a.w a.t.now a.self a.out.now c.if-self.false
-    (fits_more_count a.self a.t.now c.if-count-ge-ATOM_LIMIT_U64.true))
-
-pub returns-then-records-size-gt-TREE_RECORD_LIMIT_U64 : goal.returns-then-records-size-gt-TREE_RECORD_LIMIT_U64
-unfolding full_table
-returns-then-records-size-gt-TREE_RECORD_LIMIT_U64 c =
-    let a = c.args in
-    sym
-    (create_past a.w a.t.now a.self a.out.now c.if-self.false
-    (fits_more_records a.self a.t.now (omega (arith, c.if-count-ge-ATOM_LIMIT_U64.false))
-    (omega (arith, c.size-size.ensures.0, c.if-records-size-gt-TREE_RECORD_LIMIT_U64.true))))
+    elim c.then-self-ge-ATOM_LIMIT_U64.branch [
+      | then-self-ge-ATOM_LIMIT_U64-via-then-self-ge-ATOM_LIMIT_U64 w ↦
+          fits_more_count a.self a.t.now w.if-self-ge-ATOM_LIMIT_U64.true
+      | then-self-ge-ATOM_LIMIT_U64-via-else-self-ge-ATOM_LIMIT_U64+then-self-size-gt-TREE_RECORD_LIMIT_U64 w ↦
+          fits_more_records a.self a.t.now (omega (arith, w.if-self-ge-ATOM_LIMIT_U64.false))
+          (omega (arith, c.size-size.ensures.0, w.if-self-size-gt-TREE_RECORD_LIMIT_U64.true))
+    ])
 
 pub put_atom-requires : goal.put_atom-requires
 put_atom-requires c =
@@ -41,6 +42,7 @@ put_atom-requires c =
 pub returns : goal.returns
 returns c =
     let a = c.args in
-    created a.w a.t.now a.self a.out.now c.if-self.false
-    (omega (arith, c.if-count-ge-ATOM_LIMIT_U64.false)) c.size-size.ensures.0
-    (omega (arith, c.if-records-size-gt-TREE_RECORD_LIMIT_U64.false)) c.put_atom.ensures
+    rw (← add_assoc a.self.at 16 (length a.t.now))
+    (created a.w a.t.now a.self a.out.now c.if-self.false
+    (omega (arith, c.if-self-ge-ATOM_LIMIT_U64.false)) c.size-size.ensures.0
+    (omega (arith, c.if-self-size-gt-TREE_RECORD_LIMIT_U64.false)) c.put_atom.ensures)

@@ -9,7 +9,7 @@ pub overflow_mul-at : goal.overflow_mul-at
 overflow_mul-at c =
     let pre = c.requires in
     let room =
-    still_room _ _ _ _ _ pre.1 _ _ pre.0.indexed pre.0.some pre.2 pre.0.width_le
+    still_room _ _ _ _ _ _ pre.1 _ _ pre.0.indexed pre.0.some pre.2 pre.0.width_le
     (sym c.bit.ensures ∙ c.if-bit-eq0.true) pre.0.room in
     omega (arith, room)
 
@@ -17,41 +17,41 @@ pub add_place-requires : goal.add_place-requires
 add_place-requires c =
     let pre = c.requires in
     let room =
-    still_room _ _ _ _ _ pre.1 _ _ pre.0.indexed pre.0.some pre.2 pre.0.width_le
+    still_room _ _ _ _ _ _ pre.1 _ _ pre.0.indexed pre.0.some pre.2 pre.0.width_le
     (sym c.bit.ensures ∙ c.if-bit-eq0.true) pre.0.room in
     (room, omega (arith, pre.2, pre.0.width_le))
 
 pub returns-then-bit-eq0 : goal.returns-then-bit-eq0
 returns-then-bit-eq0 c =
     let pre = c.requires in
-    placed_still _ _ _ _ _ pre.1 _ _ pre.0.indexed pre.0.some pre.2 pre.0.width_le
+    placed_still _ _ _ _ _ _ pre.1 _ _ pre.0.indexed pre.0.some pre.2 pre.0.width_le
     (sym c.bit.ensures ∙ c.if-bit-eq0.true) c.add_place.ensures
 
-pub join_class-joined-requires : goal.join_class-joined-requires
-join_class-joined-requires c =
+pub join_class-class-requires : goal.join_class-class-requires
+join_class-class-requires c =
     let pre = c.requires in
-    let room = room_next _ _ _ _ _ pre.1 (omega (arith, pre.2, pre.0.width_le)) pre.0.room in
+    let room = room_next _ _ _ _ _ _ pre.1 (omega (arith, pre.2, pre.0.width_le)) pre.0.room in
     (rw c.move_profile.ensures.long room, omega (arith, pre.2, pre.0.width_le))
 
-pub overflow_add-result-then-joined-k-2 : goal.overflow_add-result-then-joined-k-2
-overflow_add-result-then-joined-k-2 c =
+pub overflow_add-result : goal.overflow_add-result
+overflow_add-result c =
     let pre = c.requires in
-    omega (arith, count_place _ _ _ _ _ pre.1, pre.2, pre.0.width_le)
+    omega (arith, count_place _ _ _ _ _ _ pre.1, pre.2, pre.0.width_le)
 
-pub returns-then-joined-k : goal.returns-then-joined-k
-returns-then-joined-k c =
+pub returns-then-class-k : goal.returns-then-class-k
+returns-then-class-k c =
     let x = c.args.self in
     let pre = c.requires in
-    placed_joined _ _ _ _ _ pre.1 _ pre.0.indexed.readable pre.2 pre.0.width_le
+    placed_joined _ _ _ _ _ _ pre.1 _ pre.0.indexed.readable pre.2 pre.0.width_le
     c.move_profile.ensures
-    c.join_class-joined.ensures
-    (omega (arith, count_new x.count c.join_class-joined.result c.if-joined-k.true))
+    c.join_class-class.ensures
+    (omega (arith, count_new x.count c.join_class-class.result c.if-class-k.true))
 
 pub returns : goal.returns
 returns c =
     let x = c.args.self in
     let pre = c.requires in
-    placed_joined _ _ _ _ _ pre.1 _ pre.0.indexed.readable pre.2 pre.0.width_le
+    placed_joined _ _ _ _ _ _ pre.1 _ pre.0.indexed.readable pre.2 pre.0.width_le
     c.move_profile.ensures
-    c.join_class-joined.ensures
-    (omega (arith, count_same x.count c.join_class-joined.result c.if-joined-k.false))
+    c.join_class-class.ensures
+    (omega (arith, count_same x.count c.join_class-class.result c.if-class-k.false))

@@ -2,7 +2,6 @@
 -- that is collected at the first one; each way on is a smaller spot of the file.
 use mathlib.Core.Path.{refl, ap, ◌∙◌}
 use native.Mathlib.Omega.{arith}
-use borrow.Author.Tests.{not-true, not-false}
 use Rattle.record.specs.Fields.{kind}
 use Rattle.ways.specs.Spans.{span_of}
 use Rattle.ways.proofs.SpanOfLaws.{span_big, kind_read}
@@ -10,204 +9,109 @@ use Rattle.ways.proofs.SideLaws.{spot_places}
 use Rattle.descent.proofs.DescentLaws.{down_spot, down_falls, down_ready}
 use Rattle.descent.proofs.AddLaws.{down_right}
 use Rattle.ways.proofs.TwoSidesLaws.{add_sides}
-use Rattle.descent.proofs.WayDownLaws.{down_ends, down_child, down_stop, down_literal, down_masked}
-use Rattle.descent.proofs.WayDownLaws.{down_ready_literal, going_start, going_child}
-use Rattle.descent.proofs.WayDownLaws.{going_right, ends_as}
+use Rattle.descent.proofs.WayDownLaws.{first_down, first_stop, first_literal, first_masked}
+use Rattle.descent.proofs.WayDownLaws.{going_child, going_right, ends_as}
 use Rattle.descent.proofs.CollectsLaws.{collects_as}
 use Rattle.descent.proofs.collect.Descent.+collect_terms.Goals as goal
 
-pub loop-way-init : goal.loop-way-init
-loop-way-init t c = going_start c.requires.0 c.requires.1
+pub returns-in-End : goal.returns-in-End
+returns-in-End t c =
+    let going = c.loop-spots.invariant in
+    going.rest (collects_as (ends_as _ _ _ _ c.in-End.ensures) c.collect_end.ensures)
 
-pub way_down-way-requires : goal.way_down-way-requires
-way_down-way-requires t c = (c.loop-way.invariant.at, c.loop-way.invariant.ready.width)
+pub loop-spots-smaller-in-Child : goal.loop-spots-smaller-in-Child
+loop-spots-smaller-in-Child t c =
+    let goes = c.in-Child.ensures.2 in
+    down_falls c.loop-spots.invariant.at (record { side = goes.side; smaller = goes.smaller })
+    c.side_spot-here.ensures
 
-pub collect_end-requires : goal.collect_end-requires
-collect_end-requires t c =
-    let going = c.loop-way.invariant in
-    (going.at, going.ready)
-
-pub shape_of-spots-then-not-way : goal.shape_of-spots-then-not-way
-shape_of-spots-then-not-way t c =
-    c.collect_end.ensures.same_length ∙ c.loop-way.invariant.same_length
-
-pub returns-then-not-way : goal.returns-then-not-way
-returns-then-not-way t c =
-    let going = c.loop-way.invariant in
-    let ends = down_ends going.at c.way_down-way.ensures (not-true _ c.if-not-way.true) in
-    going.rest (collects_as (ends_as _ _ _ _ ends) c.collect_end.ensures)
-
-pub slice_bounds-seen-count : goal.slice_bounds-seen-count
-slice_bounds-seen-count t c =
-    let going = c.loop-way.invariant in
-    let found = not-false _ c.if-not-way.false in
-    let side = (down_child going.at c.way_down-way.ensures found).side in
-    side.from_le
-
-pub loop-way-smaller-then-not-way-2 : goal.loop-way-smaller-then-not-way-2
-loop-way-smaller-then-not-way-2 t c =
-    let going = c.loop-way.invariant in
-    let found = not-false _ c.if-not-way.false in
-    down_falls going.at (down_child going.at c.way_down-way.ensures found) c.side_spot-next.ensures
-
-pub loop-way-preserved-then-not-way-2 : goal.loop-way-preserved-then-not-way-2
+pub loop-spots-preserved-in-Child : goal.loop-spots-preserved-in-Child
 unfolding span_of
-loop-way-preserved-then-not-way-2 t c =
-    let going = c.loop-way.invariant in
-    let found = not-false _ c.if-not-way.false in
-    going_child going c.way_down-way.ensures found c.side_spot-next.ensures
-    (not-true _ c.if-not-way-2.true) c.turn-done.ensures refl
+loop-spots-preserved-in-Child t c =
+    going_child c.loop-spots.invariant c.in-Child.ensures.2 c.side_spot-here.ensures c.turn-done.ensures refl
 
 pub slice_bounds-collect_terms-count : goal.slice_bounds-collect_terms-count
 slice_bounds-collect_terms-count t c =
-    let going = c.loop-way.invariant in
-    let found = not-false _ c.if-not-way.false in
-    let side = (down_child going.at c.way_down-way.ensures found).side in
-    side.from_le
+    (first_down c.loop-spots.invariant.at c.in-Both.ensures).side.from_le
 
-pub collect_terms-done-requires : goal.collect_terms-done-requires
+pub slice_bounds-collect_terms-start : goal.slice_bounds-collect_terms-start
+slice_bounds-collect_terms-start t c =
+    (first_down c.loop-spots.invariant.at c.in-Both.ensures).side.from_le
+
+pub slice_bounds-collect_terms-end : goal.slice_bounds-collect_terms-end
+slice_bounds-collect_terms-end t c =
+    (first_down c.loop-spots.invariant.at c.in-Both.ensures).side.to_le
+
+pub collect_terms-requires : goal.collect_terms-requires
 unfolding span_of
-collect_terms-done-requires t c =
-    let going = c.loop-way.invariant in
-    let found = not-false _ c.if-not-way.false in
-    let down = down_child going.at c.way_down-way.ensures found in
+collect_terms-requires t c =
+    let going = c.loop-spots.invariant in
+    let down = first_down going.at c.in-Both.ensures in
     let spot = c.side_spot-next.ensures in (
       omega (arith, down_falls going.at down spot, going.falls),
       (down_spot going.at down spot refl, down_ready going.at down spot going.ready),
     )
 
-pub shape_of-spots-then-not-done : goal.shape_of-spots-then-not-done
-shape_of-spots-then-not-done t c =
-    let going = c.loop-way.invariant in
-    let first = c.collect_terms-done.ensures in
-    first.same_length ∙ going.same_length
-
-pub returns-then-not-done : goal.returns-then-not-done
-returns-then-not-done t c =
-    let going = c.loop-way.invariant in
-    let found = not-false _ c.if-not-way.false in
-    let first = c.collect_terms-done.ensures in
-    let spot = c.side_spot-next.ensures in
-    let more = not-false _ c.if-not-way-2.false in
-    going.rest
-    (down_stop going.at c.way_down-way.ensures found going.ready.width spot first more
-    (not-true _ c.if-not-done.true))
-
-pub span_of-requires : goal.span_of-requires
-span_of-requires t c =
-    let going = c.loop-way.invariant in
-    (going.at.span.rising, going.at.span.inside)
+pub returns-in_err-done : goal.returns-in_err-done
+returns-in_err-done t c =
+    let going = c.loop-spots.invariant in
+    let stops = first_stop going.at c.in-Both.ensures going.ready.width c.side_spot-next.ensures c.in_err-done.ensures in
+    rw c.from_residual.ensures (going.rest stops)
 
 pub kind-k-requires : goal.kind-k-requires
 kind-k-requires t c =
-    let going = c.loop-way.invariant in
+    let going = c.loop-spots.invariant in
     rw c.span_of.ensures (span_big going.at.span)
 
 pub collect_masked-requires : goal.collect_masked-requires
 collect_masked-requires t c =
-    let going = c.loop-way.invariant in
-    let found = not-false _ c.if-not-way.false in
-    let first = c.collect_terms-done.ensures in
-    let spot = c.side_spot-next.ensures in
-    let more = not-false _ c.if-not-way-2.false in
+    let going = c.loop-spots.invariant in
     let kinds = c.kind-k.ensures ∙ ap kind c.span_of.ensures in
-    let way = c.way_down-way.ensures in
-    let hw = going.ready.width in
-    let literal = down_literal going.at way found hw spot first more (λ e. c.if-k-ne2.true (kinds ∙ e)) in
-    record {
-      span = literal.side;
-      ready =
-          down_ready_literal going.at way found hw spot first more (λ e. c.if-k-ne2.true (kinds ∙ e))
-          going.ready (not-false _ c.if-not-done.false);
-      value_lt = literal.value_lt;
-      variable = literal.variable;
-    }
+    first_literal going.at c.in-Both.ensures going.ready.width c.side_spot-next.ensures c.in_ok-done.ensures
+    (λ e. c.if-k.true (kinds ∙ e)) going.ready
 
-pub shape_of-spots-then-k-ne2 : goal.shape_of-spots-then-k-ne2
-shape_of-spots-then-k-ne2 t c =
-    let going = c.loop-way.invariant in
-    let first = c.collect_terms-done.ensures in
-    c.collect_masked.ensures.same_length ∙ first.same_length ∙ going.same_length
-
-pub returns-then-k-ne2 : goal.returns-then-k-ne2
-returns-then-k-ne2 t c =
-    let going = c.loop-way.invariant in
-    let found = not-false _ c.if-not-way.false in
-    let first = c.collect_terms-done.ensures in
-    let spot = c.side_spot-next.ensures in
-    let more = not-false _ c.if-not-way-2.false in
+pub returns-then-k : goal.returns-then-k
+returns-then-k t c =
+    let going = c.loop-spots.invariant in
     let kinds = c.kind-k.ensures ∙ ap kind c.span_of.ensures in
     going.rest
-    (down_masked going.at c.way_down-way.ensures found going.ready.width spot first more
-    (λ e. c.if-k-ne2.true (kinds ∙ e)) kinds c.collect_masked.ensures)
+    (first_masked going.at c.in-Both.ensures going.ready.width c.side_spot-next.ensures c.in_ok-done.ensures
+    (λ e. c.if-k.true (kinds ∙ e)) kinds c.collect_masked.ensures)
 
 pub right_side-right-requires : goal.right_side-right-requires
 right_side-right-requires t c =
-    let going = c.loop-way.invariant in
-    let two = kind_read c.span_of.ensures c.kind-k.ensures c.if-k-ne2.false in
+    let going = c.loop-spots.invariant in
+    let two = kind_read c.span_of.ensures c.kind-k.ensures c.if-k.false in
     (add_sides going.at two, spot_places going.at)
 
-pub slice_bounds-seen-count-in-loop-way : goal.slice_bounds-seen-count-in-loop-way
-slice_bounds-seen-count-in-loop-way t c =
-    let going = c.loop-way.invariant in
-    let two = kind_read c.span_of.ensures c.kind-k.ensures c.if-k-ne2.false in
+pub slice_bounds-seen-count-in-loop-spots : goal.slice_bounds-seen-count-in-loop-spots
+slice_bounds-seen-count-in-loop-spots t c =
+    let going = c.loop-spots.invariant in
+    let two = kind_read c.span_of.ensures c.kind-k.ensures c.if-k.false in
     (down_right going.at two c.right_side-right.ensures.0).side.from_le
 
-pub loop-way-smaller : goal.loop-way-smaller
-loop-way-smaller t c =
-    let going = c.loop-way.invariant in
-    let two = kind_read c.span_of.ensures c.kind-k.ensures c.if-k-ne2.false in
-    let right = down_right going.at two c.right_side-right.ensures.0 in
-    down_falls going.at right c.side_spot-here.ensures
-
-pub loop-way-preserved : goal.loop-way-preserved
-unfolding span_of
-loop-way-preserved t c =
-    let going = c.loop-way.invariant in
-    let found = not-false _ c.if-not-way.false in
-    let first = c.collect_terms-done.ensures in
-    let spot = c.side_spot-next.ensures in
-    let two = kind_read c.span_of.ensures c.kind-k.ensures c.if-k-ne2.false in
-    let more = not-false _ c.if-not-way-2.false in
-    going_right going c.way_down-way.ensures found spot more two first (not-false _ c.if-not-done.false)
-    c.right_side-right.ensures.0 c.side_spot-here.ensures refl
-
-pub slice_bounds-seen-start : goal.slice_bounds-seen-start
-slice_bounds-seen-start t c =
-    let going = c.loop-way.invariant in
-    let found = not-false _ c.if-not-way.false in
-    let side = (down_child going.at c.way_down-way.ensures found).side in
-    side.from_le
-
-pub slice_bounds-seen-end : goal.slice_bounds-seen-end
-slice_bounds-seen-end t c =
-    let going = c.loop-way.invariant in
-    let found = not-false _ c.if-not-way.false in
-    let side = (down_child going.at c.way_down-way.ensures found).side in
-    side.to_le
-
-pub slice_bounds-collect_terms-start : goal.slice_bounds-collect_terms-start
-slice_bounds-collect_terms-start t c =
-    let going = c.loop-way.invariant in
-    let found = not-false _ c.if-not-way.false in
-    let side = (down_child going.at c.way_down-way.ensures found).side in
-    side.from_le
-
-pub slice_bounds-collect_terms-end : goal.slice_bounds-collect_terms-end
-slice_bounds-collect_terms-end t c =
-    let going = c.loop-way.invariant in
-    let found = not-false _ c.if-not-way.false in
-    let side = (down_child going.at c.way_down-way.ensures found).side in
-    side.to_le
-
-pub slice_bounds-seen-start-in-loop-way : goal.slice_bounds-seen-start-in-loop-way
-slice_bounds-seen-start-in-loop-way t c =
-    let going = c.loop-way.invariant in
-    let two = kind_read c.span_of.ensures c.kind-k.ensures c.if-k-ne2.false in
+pub slice_bounds-seen-start-in-loop-spots : goal.slice_bounds-seen-start-in-loop-spots
+slice_bounds-seen-start-in-loop-spots t c =
+    let going = c.loop-spots.invariant in
+    let two = kind_read c.span_of.ensures c.kind-k.ensures c.if-k.false in
     (down_right going.at two c.right_side-right.ensures.0).side.from_le
 
-pub slice_bounds-seen-end-in-loop-way : goal.slice_bounds-seen-end-in-loop-way
-slice_bounds-seen-end-in-loop-way t c =
-    let going = c.loop-way.invariant in
-    let two = kind_read c.span_of.ensures c.kind-k.ensures c.if-k-ne2.false in
+pub slice_bounds-seen-end-in-loop-spots : goal.slice_bounds-seen-end-in-loop-spots
+slice_bounds-seen-end-in-loop-spots t c =
+    let going = c.loop-spots.invariant in
+    let two = kind_read c.span_of.ensures c.kind-k.ensures c.if-k.false in
     (down_right going.at two c.right_side-right.ensures.0).side.to_le
+
+pub loop-spots-smaller : goal.loop-spots-smaller
+loop-spots-smaller t c =
+    let going = c.loop-spots.invariant in
+    let two = kind_read c.span_of.ensures c.kind-k.ensures c.if-k.false in
+    let right = down_right going.at two c.right_side-right.ensures.0 in
+    down_falls going.at right c.side_spot-here-in-loop-spots.ensures
+
+pub loop-spots-preserved : goal.loop-spots-preserved
+unfolding span_of
+loop-spots-preserved t c =
+    let two = kind_read c.span_of.ensures c.kind-k.ensures c.if-k.false in
+    going_right c.loop-spots.invariant c.in-Both.ensures c.side_spot-next.ensures two c.in_ok-done.ensures
+    c.right_side-right.ensures.0 c.side_spot-here-in-loop-spots.ensures refl

@@ -15,15 +15,15 @@ use Rattle.descent.proofs.CollectsLaws.{collects_constant, ready_less}
 use Rattle.descent.proofs.WayDownLaws.{end_zero, end_constant, end_whole}
 use Rattle.descent.proofs.collect.Descent.collect_end.Goals as goal
 
-pub returns-then-coeff-eq0 : goal.returns-then-coeff-eq0
-returns-then-coeff-eq0 c =
-    collects_as (end_zero _ _ _ c.if-coeff-eq0.true) (collects_none _ _ _ _ _ c.requires.1)
+pub returns-then-x-eq0 : goal.returns-then-x-eq0
+returns-then-x-eq0 c =
+    collects_as (end_zero _ _ _ c.if-x-eq0.true) (collects_none _ _ _ _ _ c.requires.1)
 
-pub overflow_sub-last : goal.overflow_sub-last
-overflow_sub-last c = spot_some c.requires.0
+pub overflow_sub-marks : goal.overflow_sub-marks
+overflow_sub-marks c = spot_some c.requires.0
 
-pub bounds-marks-last : goal.bounds-marks-last
-bounds-marks-last c = omega (arith, spot_some c.requires.0)
+pub bounds-marks-marks : goal.bounds-marks-marks
+bounds-marks-marks c = omega (arith, spot_some c.requires.0)
 
 pub constant_value-requires : goal.constant_value-requires
 constant_value-requires c =
@@ -37,7 +37,7 @@ returns-then-not-has_variable c =
     let value_is =
     c.constant_value.ensures ∙ ap (λ (l : List ℕ). value w [] (decode l)) c.span_of-t.ensures in
     collects_as
-    (end_constant _ _ _ (ne_eqb _ 0 c.if-coeff-eq0.false) none
+    (end_constant _ _ _ (ne_eqb _ 0 c.if-x-eq0.false) none
     ∙ ap (λ (v : ℕ). linear (mod_mul c.args.x.coeff v w) []) (sym value_is))
     (collects_constant _ _ _ _ _ c.requires.1 _ _ c.add_constant.ensures)
 
@@ -47,7 +47,7 @@ collect_whole-requires c =
     record {
       spot = at;
       ready = ready_less 1 (omega (arith, spot_some at, spot_marks at)) c.requires.1;
-      some = ne_eqb _ 0 c.if-coeff-eq0.false;
+      some = ne_eqb _ 0 c.if-x-eq0.false;
       variable = spot_variable at c.has_variable.ensures c.if-not-has_variable.false;
     }
 
@@ -56,4 +56,4 @@ returns c =
     let at = c.requires.0 in
     let some = spot_variable at c.has_variable.ensures c.if-not-has_variable.false in
     collects_more _ (omega (arith, spot_some at, spot_marks at))
-    (collects_as (end_whole _ _ _ (ne_eqb _ 0 c.if-coeff-eq0.false) some) c.collect_whole.ensures)
+    (collects_as (end_whole _ _ _ (ne_eqb _ 0 c.if-x-eq0.false) some) c.collect_whole.ensures)

@@ -1,14 +1,10 @@
 -- `collect_not` meets its contract: what `push_spot` does after `add_constant`.
-use mathlib.Core.Path.{refl, ap, ◌∙◌}
-use native.Mathlib.Omega.{arith}
-use Rattle.descent.specs.declared.collect.Descent.{Descent}
+use mathlib.Core.Path.{refl, ◌∙◌}
+use Rattle.descent.specs.Spots.{not_atom}
 use Rattle.descent.proofs.collect.Descent.collect_not.Goals as goal
 
-pub push_spot-requires : goal.push_spot-requires
-push_spot-requires c =
-    omega (arith, ap (λ (d : Descent). d.count) c.add_constant.ensures, c.requires)
-
 pub returns : goal.returns
+unfolding not_atom
 returns c =
     let p = c.push_spot.ensures in
     record {

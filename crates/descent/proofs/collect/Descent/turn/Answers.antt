@@ -1,9 +1,12 @@
 -- `turn` meets its contract: by whether the Not is turned.
-use Rattle.descent.proofs.WayDownLaws.{turn_off, turn_on}
+use mathlib.Core.Path.{sym}
+use Rattle.descent.specs.Spots.{turn_by}
 use Rattle.descent.proofs.collect.Descent.turn.Goals as goal
 
-pub returns-then-not-turned : goal.returns-then-not-turned
-returns-then-not-turned c = turn_off _ _ _ _ c.if-not-turned.true
+pub returns-then-turned : goal.returns-then-turned
+unfolding turn_by
+returns-then-turned c = rw c.mod_add.ensures (sym (simp c.if-turned.true))
 
-pub returns : goal.returns
-returns c = turn_on _ _ _ _ c.if-not-turned.false c.mod_add.ensures
+pub returns-else-turned : goal.returns-else-turned
+unfolding turn_by
+returns-else-turned c = sym (simp c.if-turned.false)

@@ -1,4 +1,0 @@
-use Rattle.expr.proofs.hash.masked_hash.Goals as goal
-
-pub returns : goal.returns
-returns c = cc

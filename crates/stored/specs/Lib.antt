@@ -1,0 +1,2 @@
+-- The types of entries.
+pub mod Kinds
