@@ -1,6 +1,7 @@
 // Arithmetic modulo 2^w on 64-bit words (arith.rs), and the bits of a factor that count beside a
 // coefficient (term_refiner.rs, lines 22 to 60). Every width w is accepted, and one above 64 keeps
 // 64 bits. Left out are the functions that only casts need: sign_bit_mask, zext, sext and trunc.
+// Claims name these functions with their arguments, which stay as they are.
 #![tactic(auto)]
 
 ghost use Rattle.std.specs.Prelude.{◌≡◌};

@@ -12,7 +12,9 @@ use crate::marks;
 use base::limits;
 use record::kinds::Kind;
 
-// A coefficient, and the bytes of the file that hold a subtree.
+// A coefficient, and the bytes of the file that hold a subtree: places and no tree, since the file is lent bytes and a
+// tree of its own would need a heap. It, file, marks and w stay parameters of their own below: a struct of them would
+// stand in each frame of the descent.
 #[derive(Clone, Copy)]
 pub struct Spot {
     pub coeff: u64,
