@@ -1,8 +1,11 @@
 -- The types of entries by number.
 use Rattle.std.specs.Prelude.{◌≡◌, ℕ, ◌≤◌, Result, MatchResult}
 use Rattle.stored.specs.declared.kind.EntryKind.{EntryKind}
-use Rattle.stored.specs.declared.kind.EntryKind.TheVariants.{ExprValue, StructuralHash, ReduceMask, CanChangeMask, CanChangeCoefficient, SemilinearValue, CompactAtomTable, NormalizeToSemilinear, RefineTerms}
-use Rattle.stored.specs.declared.kind.EntryKind.TheVariants.{FlattenComplexAtoms, ComputePartitions, RecoverStructure, CoalesceTerms, RunPasses, NormalizeByRules, Judge, JudgeForms}
+use Rattle.stored.specs.declared.kind.EntryKind.TheVariants.{ExprValue, StructuralHash, ReduceMask}
+use Rattle.stored.specs.declared.kind.EntryKind.TheVariants.{CanChangeMask, CanChangeCoefficient, SemilinearValue}
+use Rattle.stored.specs.declared.kind.EntryKind.TheVariants.{CompactAtomTable, NormalizeToSemilinear, RefineTerms}
+use Rattle.stored.specs.declared.kind.EntryKind.TheVariants.{FlattenComplexAtoms, ComputePartitions, RecoverStructure}
+use Rattle.stored.specs.declared.kind.EntryKind.TheVariants.{CoalesceTerms, RunPasses, NormalizeByRules, Judge, JudgeForms}
 use Rattle.stored.specs.declared.kind.UnknownKind.{UnknownKind}
 
 -- the number of a type

@@ -44,7 +44,8 @@ returns-in-Some c =
     (length c.loop-p.x)) c.body-f.ensures c.body-g.ensures
     ∙ ap (λ (k : ℕ). first_in (test p) 0 k) c.loop-p.auto.x in
     let first : IsFirst (test p) n (Some c.in-Some.i) =
-    first_moved (unlike_rows w vs (form_rows c.body-f.result.now) (form_rows c.body-g.result.now) p) (test p) c.loop-p.auto.x same (Some c.in-Some.i) (rw c.in-Some.is at c.place_unlike.ensures.index) in
+    first_moved (unlike_rows w vs (form_rows c.body-f.result.now) (form_rows c.body-g.result.now) p) (test p)
+    c.loop-p.auto.x same (Some c.in-Some.i) (rw c.in-Some.is at c.place_unlike.ensures.index) in
     turn_found test w n p _ first.1 c.loop-p.invariant (rw c.from.ensures at c.unlike.ensures) (omega arith) first.0
 
 pub loop-p-preserved : goal.loop-p-preserved
@@ -60,7 +61,8 @@ loop-p-preserved c =
     (length c.loop-p.x)) c.body-f.ensures c.body-g.ensures
     ∙ ap (λ (k : ℕ). first_in (test p) 0 k) c.loop-p.auto.x in
     let none : IsFirst (test p) n None =
-    first_moved (unlike_rows w vs (form_rows c.body-f.result.now) (form_rows c.body-g.result.now) p) (test p) c.loop-p.auto.x same None (rw c.in_default.is at c.place_unlike.ensures.index) in
+    first_moved (unlike_rows w vs (form_rows c.body-f.result.now) (form_rows c.body-g.result.now) p) (test p)
+    c.loop-p.auto.x same None (rw c.in_default.is at c.place_unlike.ensures.index) in
     turn_on test w n p (first_in (test p) 0 n) refl c.loop-p.invariant (omega (arith, none))
 
 pub returns : goal.returns

@@ -20,8 +20,12 @@ width-w-requires c =
 
 pub normalize_sized-requires : goal.normalize_sized-requires
 normalize_sized-requires c =
-    let reached = file_reached _ _ (sym c.in_default.ensures) in
-    (rw c.width-w.ensures (accepted_tree _ reached.0), c.if-t-le-SHORT_BYTES.true, reached.1, record { few = omega arith; bytes = omega arith; table = omega arith })
+    let reached = file_reached _ _ (sym c.in_default.ensures) in (
+      rw c.width-w.ensures (accepted_tree _ reached.0),
+      c.if-t-le-SHORT_BYTES.true,
+      reached.1,
+      record { few = omega arith; bytes = omega arith; table = omega arith },
+    )
 
 pub returns-then-t-le-SHORT_BYTES : goal.returns-then-t-le-SHORT_BYTES
 returns-then-t-le-SHORT_BYTES c =
@@ -30,8 +34,12 @@ returns-then-t-le-SHORT_BYTES c =
 
 pub normalize_sized-requires-2 : goal.normalize_sized-requires-2
 normalize_sized-requires-2 c =
-    let reached = file_reached _ _ (sym c.in_default.ensures) in
-    (rw c.width-w.ensures (accepted_tree _ reached.0), accepted_length _ reached.0, reached.1, record { few = omega arith; bytes = omega arith; table = omega arith })
+    let reached = file_reached _ _ (sym c.in_default.ensures) in (
+      rw c.width-w.ensures (accepted_tree _ reached.0),
+      accepted_length _ reached.0,
+      reached.1,
+      record { few = omega arith; bytes = omega arith; table = omega arith },
+    )
 
 pub returns : goal.returns
 returns c =

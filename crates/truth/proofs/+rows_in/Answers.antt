@@ -14,7 +14,9 @@ use native.Mathlib.Omega.{arith}
 use borrow.Author.Rules.{rules}
 use Prim.Native.Nat.{ℕ, ◌-◌, ◌<◌}
 use Rattle.truth.proofs.+rows_in.Goals as goal
-use Rattle.truth.proofs.+rows_in.Goals.{After-right-r, Joined-root_arity-eq0, Joined-root_arity-eq0-2, then-root_arity-eq0, else-root_arity-eq0, then-root_arity-eq0-2, else-root_arity-eq0-2, then-k, else-k+else-here-source}
+use Rattle.truth.proofs.+rows_in.Goals.{After-right-r, Joined-root_arity-eq0, Joined-root_arity-eq0-2}
+use Rattle.truth.proofs.+rows_in.Goals.{then-root_arity-eq0, else-root_arity-eq0, then-root_arity-eq0-2}
+use Rattle.truth.proofs.+rows_in.Goals.{else-root_arity-eq0-2, then-k, else-k+else-here-source}
 
 pub loop-s-init : goal.loop-s-init
 loop-s-init t c = passed_none _ _ _ (omega arith) c.requires
@@ -100,7 +102,9 @@ returns-then-children-ne1 t c =
           c.left-l.ensures c.right-r.ensures,
       ← c.kind-k.ensures,
     )
-    (rows_join 64 _ _ _ _ _ _ (left_rows t (goal.at.returns-then-children-ne1 t c).Joined-root_arity-eq0-2) (right_rows t (goal.at.returns-then-children-ne1 t c).Joined-root_arity-eq0) c.join_rows.result
+    (rows_join 64 _ _ _ _ _ _
+    (left_rows t (goal.at.returns-then-children-ne1 t c).Joined-root_arity-eq0-2)
+    (right_rows t (goal.at.returns-then-children-ne1 t c).Joined-root_arity-eq0) c.join_rows.result
     (search rules) c.join_rows.ensures))
 
 pub amount-a-requires : goal.amount-a-requires
