@@ -1,11 +1,11 @@
 -- From the operations of a machine word to the definitions of specs/Width.antt: what the functions compute.
-use Rattle.std.proofs.Common.{◌≡◌, ℕ, ◌+◌, ◌-◌, ◌*◌, ◌/◌, ◌%◌, ◌^◌, ◌<◌, ◌≤◌, sym, ap, ◌∙◌, lt_of_lt_of_le, le_of_lt, mod-lt, mod-eq_of_lt, arith, lit<, pow_pos, pow_mono, pow-add, shl_exact}
+use Rattle.std.proofs.Common.{◌≡◌, ℕ, ◌+◌, ◌-◌, ◌*◌, ◌/◌, ◌%◌, ◌^◌, ◌<◌, ◌≤◌, sym, ap, ◌∙◌, subst, lt_of_lt_of_le, lt_of_le_of_lt, le_of_lt, mod-lt, mod-eq_of_lt, mul-le-mul_left, mul-lt-mul_of_pos_right, arith, lit<, pow_pos, pow_mono, pow-add, shl_exact}
 use native.Mathlib.Nat.{div-eq_of_lt, zero-mod, min-le_right, min-eq_right, min-eq_left}
 use lib.Bits.{bit_and, and_mask}
 use lib.Pow.{split}
 use Rattle.arith.specs.Congruence.{Eqm}
 use Rattle.arith.specs.Width.{word_bits, bitmask, mod_add, mod_sub, mod_mul, mod_not, mod_shr, wrapping_mul}
-use Rattle.arith.proofs.CongruenceLaws.{eqm_intro}
+use Rattle.arith.proofs.CongruenceLaws.{eqm_intro, eqm_refl, eqm_trans, eqm_mod, eqm_add, eqm_mul_r}
 use Rattle.arith.proofs.CongruenceLaws.{mod_shorter}
 
 -- ---- `bitmask`
@@ -76,3 +76,40 @@ shr_past a k ha hk = div-eq_of_lt (lt_of_lt_of_le ha (pow_mono hk))
 pub mod_shr_past : (a k w : ℕ) → a < 2 ^ 64 → 64 ≤ k → mod_shr a k w ≡ 0
 unfolding mod_shr
 mod_shr_past a k w ha hk = ap (λ (x : ℕ). x % 2 ^ word_bits w) (shr_past a k ha hk) ∙ zero-mod (2 ^ word_bits w)
+
+-- ---- a product by halves: no function computes it so, and the edit wrapping_mul__high_halves_misplaced does, with a wrong
+-- place; with the right one these laws prove it
+
+-- the product of two numbers of k bits has at most k + k
+pub product_lt : (k : ℕ) {a b : ℕ} → a < 2 ^ k → b < 2 ^ k → a * b < 2 ^ (k + k)
+product_lt k {a} {b} ha hb =
+    subst (λ (n : ℕ). a * b < n) (sym (pow-add 2 k k))
+    (lt_of_le_of_lt (mul-le-mul_left a (le_of_lt hb)) (mul-lt-mul_of_pos_right ha (pow_pos k)))
+
+mul_halves : (P a₀ a₁ b₀ b₁ : ℕ)
+    → Eqm (P * P) (a₀ * b₀ + (a₁ * b₀ + a₀ * b₁) % (P * P) * P % (P * P)) ((a₁ * P + a₀) * (b₁ * P + b₀))
+mul_halves P a₀ a₁ b₀ b₁ =
+    let mid = a₁ * b₀ + a₀ * b₁ in
+    eqm_trans
+    (eqm_add (eqm_refl (a₀ * b₀))
+    (eqm_trans (eqm_mod (P * P) (mid % (P * P) * P)) (eqm_mul_r P (eqm_mod (P * P) mid))))
+    (eqm_intro (a₁ * b₁) 0 (omega arith))
+
+-- the product by halves, with `low` for how it takes the low 32 bits of a word
+abbrev crossed : (low : ℕ → ℕ) (a b : ℕ) → ℕ
+crossed low a b = (a / 2 ^ 32 * low b + low a * (b / 2 ^ 32)) % 2 ^ 64
+
+abbrev summed : (low : ℕ → ℕ) (a b mid : ℕ) → ℕ
+summed low a b mid = (low a * low b + mid * 2 ^ 32 % 2 ^ 64) % 2 ^ 64
+
+abbrev masked : ℕ → ℕ
+masked n = bit_and n 0xffff_ffff
+
+pub mul_wraps : (a b : ℕ) {mid r : ℕ} → mid ≡ crossed masked a b → r ≡ summed masked a b mid → r ≡ wrapping_mul a b
+unfolding wrapping_mul
+mul_wraps a b e f =
+    f
+    ∙ ap (summed masked a b) e
+    ∙ (λ i. summed (λ (n : ℕ). and_mask n 32 i) a b (crossed (λ (n : ℕ). and_mask n 32 i) a b))
+    ∙ (mul_halves (2 ^ 32) (a % 2 ^ 32) (a / 2 ^ 32) (b % 2 ^ 32) (b / 2 ^ 32)).eqm
+    ∙ (λ i. split a 32 i * split b 32 i % 2 ^ 64)

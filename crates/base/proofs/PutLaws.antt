@@ -7,7 +7,7 @@ use native.Mathlib.Nat.{add_assoc, suc-sub-suc, sub-zero, zero-sub}
 use mathlib.Core.List.{List, [], ◌++◌, append_assoc}
 use lib.ListN.{length, get_or, take, drop, replicate, length-append, length-take, length-drop, length-replicate}
 use borrow.Rule.Slice.PartMut.{put_mid}
-use lib.Seq.{take_at, drop_at, drop-drop, length-take-le, get_or-take, get_or-append-add}
+use lib.Seq.{paste, take_at, drop_at, drop-drop, take-length, length-take-le, get_or-take, get_or-append-add}
 use Rattle.base.specs.Put.{put, padded}
 use Rattle.base.proofs.PartLaws.{part_take}
 
@@ -90,6 +90,11 @@ put_then_then d at l r x i j h e f =
     let n : length (l ++ r) ≡ length l + length r = length-append l r in
     let g : at + length (l ++ r) ≡ j = omega arith in
     rw (put_then d at l r i (omega arith) e) (put_then d at (l ++ r) x j (omega arith) g)
+
+-- all of a piece is copied
+pub put_all : {A : Type 0} (d : List A) (at : ℕ) (s : List A) → paste d at s (length s) ≡ put d at s
+unfolding put
+put_all d at s = rw take-length
 
 -- a piece written between two places
 pub put_mid_is : {A : Type 0} (d s t : List A) (at : ℕ) → t ≡ s

@@ -1,15 +1,17 @@
 -- Every answer of `normalize_to_semilinear` without a refusal, by its contract alone: the used part of the result slice is
--- a form of the expression.
+-- a form of the expression. First in numbers, then of what the function returns.
 use mathlib.Core.Path.{◌≡◌, refl, ap, sym, ◌∙◌}
 use Prim.Native.Nat.{ℕ}
 use native.Mathlib.Omega.{arith}
 use mathlib.Core.List.{List, [], ◌∷◌}
 use lib.ListN.{length, get_or, take}
+use Rattle.std.specs.Prelude.{Ok}
 use Rattle.record.specs.Tree.{IsBytes}
 use Rattle.base.specs.Put.{padded}
 use Rattle.base.proofs.PutLaws.{take_padded}
 use Rattle.base.specs.Outcome.{Outcome, accepted, refused, numbers_of, written_of}
-use Rattle.semilinear.specs.Answers.{InNumbers, GivesNumbers}
+use Rattle.semilinear.specs.declared.outcome.Answer.{Answer}
+use Rattle.semilinear.specs.Answers.{InNumbers, GivesNumbers, GivesForm, in_numbers}
 use Rattle.normalizer_laws.specs.Normalize.{normalize_to_semilinear}
 use Rattle.normalizer_laws.proofs.NormalizeLaws.{normalize_form, normalize_value}
 use Rattle.normalizer_laws.proofs.UsedLaws.{used_normalize}
@@ -24,9 +26,9 @@ module _ (s : List ℕ) (h : IsBytes s) (len : ℕ) (r : InNumbers) (out : List 
       let all = given.beside ∙ ap (λ (x : Outcome). take 3 (numbers_of 3 x)) e in
       (ap (λ (l : List ℕ). get_or l 0 0) all, ap (λ (l : List ℕ). get_or l 1 0) all)
 
-  pub form_of_answer : FormOf s (take r.used out) r.terms
+  pub form_of_numbers : FormOf s (take r.used out) r.terms
   unfolding numbers_of written_of
-  form_of_answer = go (normalize_to_semilinear s len) refl
+  form_of_numbers = go (normalize_to_semilinear s len) refl
     where
       go : (o : Outcome) → normalize_to_semilinear s len ≡ o → FormOf s (take r.used out) r.terms
       go (refused n) e =
@@ -48,3 +50,7 @@ module _ (s : List ℕ) (h : IsBytes s) (len : ℕ) (r : InNumbers) (out : List 
             counted = (numbers_of_lem e).1 ∙ ap (λ (l : List ℕ). get_or l 1 0) numbers;
             value = λ vars. rw bytes (normalize_value s h len b ns e vars);
           }
+
+pub form_of_answer : (s : List ℕ) → IsBytes s → (len : ℕ) (r : Answer) (out : List ℕ)
+    → GivesForm (normalize_to_semilinear s len) len (Ok r) out → FormOf s (take r.used out) r.terms
+form_of_answer s h len r out given = form_of_numbers s h len (in_numbers (Ok r)) out given refl

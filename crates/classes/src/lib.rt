@@ -3,8 +3,22 @@
 #![tactic(auto)]
 
 ghost use Rattle.std.specs.Prelude.{MatchOption, ◌≡◌, ℕ, ◌+◌, ◌*◌, ◌<◌, ◌≤◌, length};
+ghost use Rattle.base.specs.Lists.{eq_list};
 ghost use Rattle.base.specs.Loop.{first_in};
 ghost use Rattle.partition_laws.specs.Classes.{has_profile, add_place, Joins};
+
+// Whether a and b hold the same words. A loop: by `==` on slices the columns of 64 classes take a sixth longer.
+fn same_words(a: &[u64], b: &[u64]) -> bool
+    requires { length a.now ≡ length b.now }
+    ensures { result ≡ eq_list a.now b.now }
+{
+    for i in 0..a.len() {
+        if a[i] != b[i] {
+            return false;
+        }
+    }
+    true
+}
 
 // The first of k classes with this profile.
 fn find_class(profile: &[u64], k: usize, out: &[u64]) -> Option<usize>
@@ -15,7 +29,7 @@ fn find_class(profile: &[u64], k: usize, out: &[u64]) -> Option<usize>
     let n = profile.len();
     for j in 0..k {
         let from = j * (n + 1) + 1;
-        if &out[from..from + n] == profile {
+        if same_words(&out[from..from + n], profile) {
             return Some(j);
         }
     }

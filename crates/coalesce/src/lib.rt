@@ -48,7 +48,8 @@ fn coalesce_group(
     if made.table.full {
         return;
     }
-    let g = Group::gather(n, hash, b, views, f);
+    let mut g = Group::empty();
+    g.gather_rows(n, hash, b, views, f);
     if g.len < 2 {
         settle::settle(g.used(), coeffs, u32::from(w));
         return;

@@ -9,7 +9,6 @@ ghost use Rattle.io_form.specs.Reads.{HoldsRead};
 ghost use Rattle.io_form.specs.Used.{IsUsed, IsCleared, HoldsNoForm};
 
 use base::limits;
-use base::refusal::Refusal;
 use std::io;
 use std::io::Read;
 
@@ -37,8 +36,7 @@ pub fn read_full<R: Read>(reader: &mut R, buf: &mut [u8]) -> io::Result<usize>
 }
 
 // R and the refusal's number.
-pub fn print_refusal(rt: &impl Print, refusal: Refusal) -> io::Result<()> {
-    let number = refusal.number();
+pub fn print_refusal(rt: &impl Print, number: u64) -> io::Result<()> {
     print!(rt; "R {number}\n")
 }
 
@@ -50,7 +48,7 @@ fn normalize_or_print(rt: &impl Print, t: &[u8], out: &mut [u8]) -> io::Result<u
     match semilinear_normalizer::normalize_to_semilinear(t, out) {
         Ok(answer) => Ok(answer.used as usize),
         Err(refusal) => {
-            print_refusal(rt, refusal)?;
+            print_refusal(rt, refusal.number())?;
             Ok(0)
         }
     }

@@ -102,7 +102,7 @@ fn run_or_print(
     match runner::run_passes(t, calls, sheet, spare) {
         Ok(answer) => Ok(answer.used as usize),
         Err(refusal) => {
-            io_form::print_refusal(rt, refusal)?;
+            io_form::print_refusal(rt, refusal.number())?;
             Ok(0)
         }
     }

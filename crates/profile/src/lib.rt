@@ -17,8 +17,8 @@ fn profile_word(f: &[u8], index: &[AtomFacts], i: usize, p: u32, w: u32) -> u64
     requires { IndexReadable f.now index.now × (i < length (atom_trees f.now)) }
     ensures { result ≡ profile_word w p i (tree_of f.now i) }
 {
-    let known = index[i];
-    match known.table {
+    let known = &index[i];
+    match &known.table {
         None => 0xDEAD_0000_0000_0000 | i as u64,
         Some(table) => {
             let t = items::tree_span(items::rest_from(f, known.at));

@@ -32,7 +32,8 @@ pub fn refine_group(
         made.old out.old coeffs.old
         made.new out.new coeffs.new }
 {
-    let mut g = Group::gather(n, hash, b, views, f);
+    let mut g = Group::empty();
+    g.gather_rows(n, hash, b, views, f);
     let basis = Basis { bytes: b, hash };
     if stages::any_single(g.used(), u32::from(w)) {
         g.cut_and_drop(basis, w, made, out);

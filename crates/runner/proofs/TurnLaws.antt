@@ -3,12 +3,13 @@ use mathlib.Core.Path.{◌≡◌, ap, sym, ◌∙◌}
 use Prim.Native.Nat.{ℕ, ◌≤◌, ◌<◌}
 use native.Mathlib.Omega.{arith}
 use native.Mathlib.Decide.{ℕ_discrete}
-use mathlib.Core.List.{List, ◌++◌}
+use native.Mathlib.Nat.{zero-add}
+use mathlib.Core.List.{List, ◌++◌, append-nil}
 use mathlib.Core.Bool.{Bool, true, false, not}
-use lib.ListN.{length, get_or, take, drop, length-take}
+use lib.ListN.{length, get_or, take, drop, length-take, drop_of_length-le}
 use lib.Seq.{length-take-le, take_at, take-take, take-length}
 use Rattle.base.specs.Choice.{when}
-use Rattle.base.specs.Put.{padded}
+use Rattle.base.specs.Put.{put, padded}
 use Rattle.base.proofs.PutLaws.{take_padded, length_padded}
 use Rattle.semilinear.specs.Form.{Form, term_count, encode_form, valid_form}
 use Rattle.base.specs.Outcome.{Outcome, accepted, refused, refusal_of, numbers_of, written_of}
@@ -30,6 +31,14 @@ module _ {t slice : List ℕ} {used terms : ℕ} (h : Lies t used terms slice) w
 
   pub take_lies : take used slice ≡ t
   take_lies = ap (λ (n : ℕ). take n slice) h.count ∙ ap (take (length t)) h.written ∙ take_padded 57360 t
+
+-- a piece over all of a slice
+pub put_whole : (d s : List ℕ) → length d ≡ length s → put d 0 s ≡ s
+unfolding put
+put_whole d s e =
+    ap (λ (n : ℕ). s ++ drop n d) (zero-add (length s))
+    ∙ ap (λ (l : List ℕ). s ++ l) (drop_of_length-le d {i = length s} (omega (arith, e)))
+    ∙ append-nil s
 
 -- what a call wrote to the first n elements of a slice
 module _ (d last : List ℕ) (n : ℕ) (fits : n ≤ length d) (kept : length last ≡ length (take n d)) where

@@ -124,7 +124,8 @@ fn settle(first: bool, used: usize, terms: u64, sheet: &mut [u8], spare: &[u8])
     if first {
         return;
     }
-    sheet.copy_from_slice(&spare[..sheet.len()]);
+    let n = sheet.len();
+    base::write::put(sheet, 0, &spare[..n]);
 }
 
 // The list run from the form in sheet, which is left there.

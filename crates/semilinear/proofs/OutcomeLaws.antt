@@ -10,7 +10,11 @@ use Rattle.base.specs.Put.{padded}
 use Rattle.semilinear.specs.Form.{Form, term_count, encode_form}
 use Rattle.base.specs.Outcome.{Outcome, accepted, refused, refusal_of, numbers_of, written_of, Gives}
 use Rattle.semilinear.specs.Outcome.{form_outcome}
-use Rattle.semilinear.specs.Answers.{InNumbers, refused_answer, GivesNumbers}
+use Rattle.std.specs.Prelude.{Result}
+use Rattle.base.specs.declared.refusal.Refusal.{Refusal}
+use Rattle.base.specs.Refusal.{refusal_number}
+use Rattle.semilinear.specs.declared.outcome.Answer.{Answer}
+use Rattle.semilinear.specs.Answers.{InNumbers, refused_answer, GivesNumbers, GivesForm, IsRefused}
 
 -- the answer of a form that was written
 abbrev pub form_answer : Form → Bool → InNumbers
@@ -21,6 +25,11 @@ pub gives_refused : (n len : ℕ) (r : InNumbers) (out : List ℕ) → r ≡ ref
     → GivesNumbers (refused n) len r out
 unfolding refusal_of numbers_of written_of
 gives_refused n len r out e z = rw e (record { number = refl; beside = refl; written = z })
+
+-- of a refusal by its variant
+pub refused_gives : {k : Refusal} {len : ℕ} {r : Result Answer Refusal} {out : List ℕ} → IsRefused k len r out
+    → GivesForm (refused (refusal_number k)) len r out
+refused_gives {k} h = rw h.is (h.zeros (refusal_number k))
 
 pub gives_form : (f : Form) (flag : Bool) (len : ℕ) (r : InNumbers) (out : List ℕ) → r ≡ form_answer f flag
     → out ≡ padded len (encode_form f) → GivesNumbers (form_outcome f flag) len r out

@@ -1,8 +1,8 @@
 -- What a writer of a semilinear form hands over: an answer or a refusal, and every byte of the result slice.
-use Rattle.std.specs.Prelude.{ℕ, List, [], ◌∷◌, Bool, false, Result, Ok, Err}
+use Rattle.std.specs.Prelude.{◌≡◌, ℕ, List, [], ◌∷◌, Bool, false, Result, Ok, Err}
 use Rattle.semilinear.specs.declared.outcome.Answer.{Answer}
 use Rattle.base.specs.declared.refusal.Refusal.{Refusal}
-use Rattle.base.specs.Outcome.{Outcome, flag_number, Gives}
+use Rattle.base.specs.Outcome.{Outcome, refused, flag_number, Gives}
 use Rattle.base.specs.Refusal.{refusal_number}
 
 -- the same in numbers, as C is given them: the refusal, 0 where the call is accepted, and those beside it
@@ -31,3 +31,9 @@ GivesNumbers o len r out = Gives o len r.refusal (numbers_in r) out
 -- so are those of the answer
 abbrev pub GivesForm : Outcome → ℕ → Result Answer Refusal → List ℕ → Type 0
 GivesForm o len r out = GivesNumbers o len (in_numbers r) out
+
+-- a refusal is handed over, whatever stands for it: with any number for it, all numbers beside it and the result slice
+-- are as they must be
+pub record IsRefused {R : Type 0} (refusal : R) (len : ℕ) (r : Result Answer R) (out : List ℕ) : Type 0 where
+  pub is : r ≡ Err refusal
+  pub zeros : (n : ℕ) → GivesNumbers (refused n) len (refused_answer n) out

@@ -1,10 +1,6 @@
 // What every writer of a semilinear form hands over, and the answer of a refusal.
 ghost use Rattle.std.specs.Prelude.{length};
-ghost use Rattle.base.specs.Outcome.{refused};
-ghost use Rattle.base.specs.Refusal.{refusal_number};
-ghost use Rattle.semilinear.specs.Answers.{GivesForm};
-
-use base::refusal::Refusal;
+ghost use Rattle.semilinear.specs.Answers.{IsRefused};
 
 // The bytes used of the result slice; the count of terms; and a flag, which says of flattening
 // whether it flattened.
@@ -15,9 +11,9 @@ pub struct Answer {
     pub flag: bool,
 }
 
-// Refuses: all of out is zero.
-pub fn refuse(out: &mut [u8], refusal: Refusal) -> Result<Answer, Refusal>
-    ensures { GivesForm (refused (refusal_number refusal)) (length out.old) result out.new }
+// Refuses, whatever stands for the refusal, a variant of Refusal or any number: all of out is zero.
+pub fn refuse<R>(out: &mut [u8], refusal: R) -> Result<Answer, R>
+    ensures { IsRefused refusal (length out.old) result out.new }
 {
     out.fill(0);
     Err(refusal)

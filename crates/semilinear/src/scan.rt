@@ -128,9 +128,12 @@ fn sum_ok(s: &[u8]) -> bool
 fn front_ok(f: &[u8], w: u8) -> bool
     ensures { result ≡ front_ok w f.now }
 {
+    // First, and by itself: a form whose first atom is wrong is refused without a walk over the others.
+    if !atoms_ok(f, w) {
+        return false;
+    }
     let found = atom_table(f);
-    atoms_ok(f, w)
-        && found.count <= limits::ATOM_LIMIT_U64
+    found.count <= limits::ATOM_LIMIT_U64
         && found.records <= limits::TREE_RECORD_LIMIT_U64
         && terms_ok(items::rest_from(f, found.at), w, found.count)
 }

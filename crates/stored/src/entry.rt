@@ -67,11 +67,11 @@ pub fn read_words(bytes: &[u8], words: &mut [u64], count: usize)
 // The end entry: its value is the number of entries before it, and nothing follows.
 pub fn end<R: Read>(rt: &impl Print, reader: &mut R, at: u64, value: u64) -> io::Result<()> {
     if value != at {
-        return report::malformed(rt, at, "the end entry has another count");
+        return report::malformed(rt, at, b"the end entry has another count");
     }
     let mut rest = [0u8; 1];
     if io_form::read_full(reader, &mut rest)? != 0 {
-        return report::malformed(rt, at, "the file goes on after the end entry");
+        return report::malformed(rt, at, b"the file goes on after the end entry");
     }
     Ok(())
 }

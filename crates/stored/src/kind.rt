@@ -1,4 +1,5 @@
 // The types of entries.
+ghost use Rattle.std.specs.Prelude.{◌≡◌, ◌<◌};
 ghost use Rattle.stored.specs.Kinds.{number_of, IsKindAt};
 
 use std::error::Error;
@@ -26,6 +27,14 @@ pub enum EntryKind {
 }
 
 impl EntryKind {
+    // Its number, which is its place in a tally too.
+    pub fn number(self) -> u8
+        ensures is { result ≡ number_of self }
+        ensures small { result < 18 }
+    {
+        self as u8
+    }
+
     // All of them, by number.
     pub const ALL: [EntryKind; 17] = [
         EntryKind::ExprValue,

@@ -13,13 +13,6 @@ pub struct Tally {
     pub differences: [u64; 18],
 }
 
-// The place of a type in a tally.
-fn place(kind: EntryKind) -> usize
-    ensures { result < 18 }
-{
-    kind as usize
-}
-
 impl Tally {
     pub const NONE: Tally = Tally {
         entries: [0; 18],
@@ -32,13 +25,14 @@ impl Tally {
         &mut self,
         rt: &impl Print,
         at: u64,
-        kind: EntryKind,
+        kind: u8,
         expected: Answer,
         found: Result<Answer, Fault>,
     ) -> io::Result<()>
+        requires { kind < 18 }
         ensures err { OnErr result (self.new.differences ≡ self.old.differences) }
     {
-        let k = place(kind);
+        let k = kind as usize;
         if self.differences[k] < 5 {
             report::difference(rt, at, kind, expected, found)?;
         }
@@ -46,19 +40,20 @@ impl Tally {
         Ok(())
     }
 
-    // Counts the entry with the number at, and compares what was found with what is expected.
-    // An error leaves the entry counted, and no difference.
+    // Counts the entry with the number at, of the type with the number kind, and compares what was
+    // found with what is expected. An error leaves the entry counted, and no difference.
     pub fn compare(
         &mut self,
         rt: &impl Print,
         at: u64,
-        kind: EntryKind,
+        kind: u8,
         expected: Answer,
         found: Result<Answer, Fault>,
     ) -> io::Result<()>
+        requires { kind < 18 }
         ensures err { OnErr result (self.new.differences ≡ self.old.differences) }
     {
-        let k = place(kind);
+        let k = kind as usize;
         self.entries[k] = self.entries[k].wrapping_add(1);
         match found {
             Ok(answer) if answer == expected => Ok(()),
@@ -69,8 +64,8 @@ impl Tally {
     // A line for each type.
     pub fn print(&self, rt: &impl Print) -> io::Result<()> {
         for kind in EntryKind::ALL {
-            let k = place(kind);
-            report::summary(rt, kind, self.entries[k], self.differences[k])?;
+            let k = kind.number() as usize;
+            report::summary(rt, k, self.entries[k], self.differences[k])?;
         }
         Ok(())
     }

@@ -45,7 +45,8 @@ fn recover_group(
         made.old out.old coeffs.old
         made.new out.new coeffs.new }
 {
-    let mut g = Group::gather(n, hash, b, views, f);
+    let mut g = Group::empty();
+    g.gather_rows(n, hash, b, views, f);
     if partner::any_partner(g.used(), arith::bitmask(u32::from(w))) {
         let basis = Basis { bytes: b, hash };
         pair::recover_entries(&mut g, basis, w, made, out);

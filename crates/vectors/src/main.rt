@@ -35,7 +35,7 @@ fn replay<R: Read>(
             return Ok(());
         }
     }
-    report::malformed(rt, MOST_ENTRIES, "too many entries")
+    report::malformed(rt, MOST_ENTRIES, b"too many entries")
 }
 
 // Room for the longest payload and for the longest result slices is lent to every entry.

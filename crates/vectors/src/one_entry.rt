@@ -39,20 +39,20 @@ fn body<R: Read>(
     tally: &mut Tally,
 ) -> io::Result<bool> {
     if head.words as usize > entry::MOST_WORDS {
-        report::malformed(rt, at, "too many words")?;
+        report::malformed(rt, at, b"too many words")?;
         return Ok(false);
     }
     if head.size > MOST_BYTES {
-        report::malformed(rt, at, "too many bytes")?;
+        report::malformed(rt, at, b"too many bytes")?;
         return Ok(false);
     }
     let payload = 8 * (head.words as usize) + head.size as usize;
     if !entry::read_payload(reader, bytes, entry::padded(payload))? {
-        report::malformed(rt, at, "the file ends in an entry")?;
+        report::malformed(rt, at, b"the file ends in an entry")?;
         return Ok(false);
     }
     let found = run(kind, head, bytes, room);
-    tally.compare(rt, at, kind, head.expected, found)?;
+    tally.compare(rt, at, kind.number(), head.expected, found)?;
     Ok(true)
 }
 
@@ -67,7 +67,7 @@ pub fn step<R: Read>(
 ) -> io::Result<bool> {
     let mut front = [0u8; 16];
     if io_form::read_full(reader, &mut front)? != 16 {
-        report::malformed(rt, at, "the file ends without an end entry")?;
+        report::malformed(rt, at, b"the file ends without an end entry")?;
         return Ok(false);
     }
     let head = entry::read_head(&front);
@@ -76,7 +76,7 @@ pub fn step<R: Read>(
         return Ok(false);
     }
     let Ok(kind) = EntryKind::try_from(head.kind) else {
-        report::malformed(rt, at, "unknown type")?;
+        report::malformed(rt, at, b"unknown type")?;
         return Ok(false);
     };
     body(rt, reader, at, kind, head, bytes, room, tally)

@@ -3,17 +3,17 @@ use mathlib.Core.Path.{◌≡◌, refl, sym, ◌∙◌}
 use native.Mathlib.Omega.{arith}
 use Rattle.base.proofs.LoopLaws.{first_next, first_here, first_end}
 use Rattle.partition_laws.specs.Classes.{has_profile}
-use Rattle.classes.proofs.ClassWordsLaws.{profile_read, same_slices}
+use Rattle.classes.proofs.ClassWordsLaws.{profile_read}
 use Rattle.classes.proofs.find_class.Goals as goal
 
-pub returns-then-eq : goal.returns-then-eq
-returns-then-eq c =
+pub returns-then-same_words : goal.returns-then-same_words
+returns-then-same_words c =
     let test = has_profile c.args.out.now c.args.profile.now in (
       sym
           (c.loop-j.invariant
           ∙ first_here test c.loop-j.j c.args.k c.loop-j-test.true
-          (profile_read c.args.profile.now c.args.out.now c.loop-j.j _ refl (c.eq.ensures ∙ same_slices _ _)
-          ∙ c.if-eq.true)),
+          (profile_read c.args.profile.now c.args.out.now c.loop-j.j _ refl c.same_words.ensures
+          ∙ c.if-same_words.true)),
       c.loop-j-test.true,
     )
 
@@ -22,8 +22,8 @@ loop-j-preserved c =
     let test = has_profile c.args.out.now c.args.profile.now in
     c.loop-j.invariant
     ∙ first_next test c.loop-j.j c.args.k c.loop-j-test.true
-    (profile_read c.args.profile.now c.args.out.now c.loop-j.j _ refl (c.eq.ensures ∙ same_slices _ _)
-    ∙ c.if-eq.false)
+    (profile_read c.args.profile.now c.args.out.now c.loop-j.j _ refl c.same_words.ensures
+    ∙ c.if-same_words.false)
 
 pub returns : goal.returns
 returns c =

@@ -22,7 +22,7 @@ use Rattle.refine_group.proofs.refine_group.Goals.{else-any_merge, else-any_sing
 -- the stages so far, taken or not
 joined1 : (c : Joined-any_single)
     → Stepped c.args.w 256 (cut_and_drop c.args.w (decode c.args.b.now))
-    c.gather-g.result c.args.made.now c.args.out.now c.if-any_single.g c.if-any_single.made
+    c.gather_rows.new.self c.args.made.now c.args.out.now c.if-any_single.g c.if-any_single.made
     c.if-any_single.out
 joined1 c =
     let used = c.used.ensures in
@@ -30,13 +30,13 @@ joined1 c =
       | then-any_single w ↦ stepped_met w.made-is w.out-is w.g-is w.cut_and_drop.ensures
       | else-any_single w ↦ stepped_met w.made-is w.out-is w.g-is
           (single_none _
-          (single_at c.gather-g.result c.from.ensures used.0 (c.any_single.ensures w.if-any_single.false))
+          (single_at c.gather_rows.new.self c.from.ensures used.0 (c.any_single.ensures w.if-any_single.false))
           c.requires.makes.room)
     ]
 
 joined2 : (c : Joined-any_merge)
     → Stepped c.args.w 196864 (merged c.args.w (decode c.args.b.now))
-    c.gather-g.result c.args.made.now c.args.out.now c.if-any_merge.g c.if-any_merge.made
+    c.gather_rows.new.self c.args.made.now c.args.out.now c.if-any_merge.g c.if-any_merge.made
     c.if-any_merge.out
 joined2 c =
     let one = joined1 (goal.at.Joined-any_merge c).Joined-any_single in
@@ -51,7 +51,7 @@ joined2 c =
 
 joined3 : (c : Joined-find_three)
     → Stepped c.args.w 196866 (collapsed c.args.w (decode c.args.b.now))
-    c.gather-g.result c.args.made.now c.args.out.now c.match-find_three.g c.match-find_three.made
+    c.gather_rows.new.self c.args.made.now c.args.out.now c.match-find_three.g c.match-find_three.made
     c.match-find_three.out
 joined3 c =
     let two = joined2 (goal.at.Joined-find_three c).Joined-any_merge in
@@ -67,20 +67,20 @@ joined3 c =
     ])
 
 pub used-requires : goal.used-requires
-used-requires c = few_entries _ _ _ _ _ c.gather-g.ensures c.requires.few
+used-requires c = few_entries _ _ _ _ _ c.gather_rows.ensures c.requires.few
 
 pub cut_and_drop-requires : goal.cut_and_drop-requires
 cut_and_drop-requires c =
     let pre = c.requires in
     record {
       makes = makes_fewer pre.makes (omega arith);
-      few = few_entries _ _ _ _ _ c.gather-g.ensures pre.few;
+      few = few_entries _ _ _ _ _ c.gather_rows.ensures pre.few;
     }
 
 pub used-requires-2 : goal.used-requires-2
 used-requires-2 c =
     let one = joined1 (goal.at.used-requires-2 c).Joined-any_single in
-    omega (arith, one.len, few_entries _ _ _ _ _ c.gather-g.ensures c.requires.few)
+    omega (arith, one.len, few_entries _ _ _ _ _ c.gather_rows.ensures c.requires.few)
 
 pub merge_all-requires : goal.merge_all-requires
 merge_all-requires c =
@@ -88,23 +88,23 @@ merge_all-requires c =
     let one = joined1 (goal.at.merge_all-requires c).Joined-any_single in
     record {
       makes = makes_later pre.makes one.room (omega (arith, one.later.rows_le));
-      few = omega (arith, one.len, few_entries _ _ _ _ _ c.gather-g.ensures pre.few);
+      few = omega (arith, one.len, few_entries _ _ _ _ _ c.gather_rows.ensures pre.few);
     }
 
 pub used-requires-3 : goal.used-requires-3
 used-requires-3 c =
     let two = joined2 (goal.at.used-requires-3 c).Joined-any_merge in
-    omega (arith, two.len, few_entries _ _ _ _ _ c.gather-g.ensures c.requires.few)
+    omega (arith, two.len, few_entries _ _ _ _ _ c.gather_rows.ensures c.requires.few)
 
 pub find_three-requires : goal.find_three-requires
 find_three-requires c =
     let two = joined2 (goal.at.find_three-requires c).Joined-any_merge in
-    omega (arith, c.used-3.ensures.1, two.len, few_entries _ _ _ _ _ c.gather-g.ensures c.requires.few)
+    omega (arith, c.used-3.ensures.1, two.len, few_entries _ _ _ _ _ c.gather_rows.ensures c.requires.few)
 
 pub used-requires-4 : goal.used-requires-4
 used-requires-4 c =
     let three = joined3 (goal.at.used-requires-4 c).Joined-find_three in
-    omega (arith, three.len, few_entries _ _ _ _ _ c.gather-g.ensures c.requires.few)
+    omega (arith, three.len, few_entries _ _ _ _ _ c.gather_rows.ensures c.requires.few)
 
 pub collapse-requires : goal.collapse-requires
 collapse-requires c =
@@ -113,7 +113,7 @@ collapse-requires c =
     let used = c.used-3.ensures in
     let found = found_at c.if-any_merge.g c.from-3.ensures used.0 _ c.in-Some.ensures in
     let three = three_collapsible _ _ _ found in
-    let few = few_entries _ _ _ _ _ c.gather-g.ensures pre.few in
+    let few = few_entries _ _ _ _ _ c.gather_rows.ensures pre.few in
     record {
       makes = makes_later pre.makes two.room (omega (arith, two.later.rows_le));
       i_lt = omega (arith, three.i_lt, two.len, few);
@@ -130,4 +130,4 @@ returns c =
     (c.settle.ensures
     ∙ ap (λ (w : ℕ). settle_words w c.used-4.result.now c.args.coeffs.now) c.from-4.ensures
     ∙ ap (λ (es : List Entry). settle_words c.args.w es c.args.coeffs.now) last.0)
-    c.gather-g.ensures
+    c.gather_rows.ensures

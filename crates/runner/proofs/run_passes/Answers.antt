@@ -13,6 +13,7 @@ use Rattle.base.proofs.BoolLaws.{false_true}
 use Rattle.base.proofs.RefusalLaws.{number_not}
 use Rattle.semilinear.specs.Answers.{in_numbers}
 use Rattle.runner.proofs.EntryLaws.{list_is, run_one, run_two, run_bad, run_refused, run_start, run_end}
+use Rattle.semilinear.proofs.OutcomeLaws.{refused_gives}
 use Rattle.runner.proofs.run_passes.Goals as goal
 
 -- a comparison of refusals is one of numbers
@@ -37,7 +38,7 @@ returns-then-not-is_list c =
     (in_numbers (Ok c.in-Ok.start)) normal.new.out c.in-Ok.ensures
     (λ e. omega (arith, e)) (λ e. omega (arith, e))
     (list_is _ _ normal.auto.out c.is_list.ensures c.if-not-is_list.true)
-    _ normal.auto.out (in_numbers c.refuse.result) _ c.refuse.ensures
+    _ normal.auto.out (in_numbers c.refuse.result) _ (refused_gives c.refuse.ensures)
 
 pub run_from-requires : goal.run_from-requires
 run_from-requires c =
@@ -79,7 +80,7 @@ returns-then-not-is_list-2 c =
     (in_numbers (Err c.in-Err.refusal)) normal.new.out c.in-Err.ensures
     (no_of (c.eq.ensures ∙ is_one _) c.if-eq.false) (no_of (c.eq-in-Err.ensures ∙ is_two _) c.if-eq-2.false)
     (list_is _ _ normal.auto.out c.is_list-in-Err.ensures c.if-not-is_list-2.true)
-    _ normal.auto.out (in_numbers refuse.result) _ refuse.ensures
+    _ normal.auto.out (in_numbers refuse.result) _ (refused_gives refuse.ensures)
 
 pub returns-else-not-is_list-2 : goal.returns-else-not-is_list-2
 returns-else-not-is_list-2 c =

@@ -3,6 +3,7 @@ use mathlib.Core.Path.{◌∙◌}
 use Rattle.atom_table.proofs.PassLaws.{gives_same}
 use Rattle.rules_laws.proofs.RulesLaws.{ruled_one, rules_first, rules_second, rules_other}
 use Rattle.semilinear.specs.Answers.{in_numbers}
+use Rattle.semilinear.proofs.OutcomeLaws.{refused_gives}
 use Rattle.semilinear_normalizer.proofs.normalize_by_rules.Goals as goal
 
 pub returns-then-rules-eq1 : goal.returns-then-rules-eq1
@@ -18,4 +19,4 @@ returns-then-rules-eq2 c =
 pub returns : goal.returns
 returns c =
     gives_same (rules_other _ _ _ c.if-rules-eq1.false c.if-rules-eq2.false) _ (in_numbers c.refuse.result) _
-    c.refuse.ensures
+    (refused_gives c.refuse.ensures)

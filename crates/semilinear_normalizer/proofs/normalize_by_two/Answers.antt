@@ -6,12 +6,13 @@ use Rattle.expr_refusal.proofs.RefusalLaws.{accepted_big}
 use Rattle.expr.proofs.ExprValueLaws.{accepted_tree, accepted_length}
 use Rattle.rules_laws.proofs.RulesLaws.{ruled_file}
 use Rattle.semilinear_normalizer.proofs.RulesLaws.{file_reached, gives_refusal, gives_ruled}
+use Rattle.semilinear.proofs.OutcomeLaws.{refused_gives}
 use Rattle.semilinear_normalizer.proofs.normalize_by_two.Goals as goal
 
 pub returns-in-Err : goal.returns-in-Err
 returns-in-Err c =
     gives_refusal _ _ _ (ruled_file _ _ _) c.in-Err.ensures (number_not _)
-    c.refuse.result c.refuse.ensures
+    c.refuse.result (refused_gives c.refuse.ensures)
 
 pub width-w-requires : goal.width-w-requires
 width-w-requires c =

@@ -6,12 +6,13 @@ use Rattle.expr_refusal.proofs.RefusalLaws.{accepted_big}
 use Rattle.expr.proofs.ExprValueLaws.{accepted_tree, accepted_length}
 use Rattle.normalizer_laws.proofs.NormalizeLaws.{normalize_file}
 use Rattle.semilinear_normalizer.proofs.RulesLaws.{file_reached, gives_refusal, gives_plain}
+use Rattle.semilinear.proofs.OutcomeLaws.{refused_gives}
 use Rattle.semilinear_normalizer.proofs.normalize_to_semilinear.Goals as goal
 
 pub returns-in-Err : goal.returns-in-Err
 returns-in-Err c =
     gives_refusal _ _ _ (normalize_file _ _) c.in-Err.ensures (number_not _)
-    c.refuse.result c.refuse.ensures
+    c.refuse.result (refused_gives c.refuse.ensures)
 
 pub width-w-requires : goal.width-w-requires
 width-w-requires c =

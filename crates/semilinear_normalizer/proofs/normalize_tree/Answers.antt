@@ -5,6 +5,7 @@ use lib.Seq.{length-take-le}
 use Rattle.expr_refusal.proofs.RefusalLaws.{accepted_big, sized_accepted}
 use Rattle.semilinear_normalizer.proofs.WholeTreeLaws.{whole_at, whole_ready, gives_eight, gives_collected}
 use Rattle.semilinear_normalizer.proofs.WholeTreeLaws.{spots_whole, count_whole, index_whole}
+use Rattle.semilinear.proofs.OutcomeLaws.{refused_gives}
 use Rattle.semilinear_normalizer.proofs.normalize_tree.Goals as goal
 
 pub mark_traits-requires : goal.mark_traits-requires
@@ -31,7 +32,7 @@ pub returns-in_default : goal.returns-in_default
 returns-in_default c =
     gives_eight _ _ (λ i. (c.shared_slice_known-1.given i).fits) c.requires.accepted _
     c.start.ensures c.in_default.ensures
-    c.requires.written c.refuse.result c.refuse.ensures
+    c.requires.written c.refuse.result (refused_gives c.refuse.ensures)
 
 pub write_form-requires : goal.write_form-requires
 write_form-requires c =

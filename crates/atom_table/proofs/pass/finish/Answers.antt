@@ -3,6 +3,7 @@ use mathlib.Core.List.{[]}
 use mathlib.Core.Bool.{false}
 use native.Mathlib.Omega.{arith}
 use Rattle.atom_table.proofs.FinishLaws.{finished_full, terms_fit, sum_fits, sum_end, finished_form}
+use Rattle.semilinear.proofs.OutcomeLaws.{refused_gives}
 use Rattle.atom_table.proofs.pass.finish.Goals as goal
 
 pub returns-then-tab : goal.returns-then-tab
@@ -10,7 +11,7 @@ returns-then-tab c =
     let pre = c.requires in
     let refuse = c.refuse in
     finished_full _ _ _ _ _ _ _ c.if-tab.true pre.long refuse.result
-    refuse.ensures
+    (refused_gives refuse.ensures)
 
 pub put_terms-written-requires : goal.put_terms-written-requires
 put_terms-written-requires c =
