@@ -85,7 +85,7 @@ fn coalesce_at(
 {
     let v = views[first].unwrap();
     let b = &f[v.start..v.end];
-    if lone::is_lone(first, n, v.hash, b, views, f) {
+    if lone::first_is_lone(first, n, v.hash, b, views, f) {
         settle::add_word(coeffs, first as u64, v.coeff, w as u32);
         return;
     }

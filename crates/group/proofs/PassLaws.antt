@@ -216,6 +216,7 @@ all_at h i lt room more =
       few = h.found.few;
       within = omega (arith, next.below, h.found.number);
       some = next.some;
+      none_before = next.none_before;
       in_group = next.group;
       room = room;
       more = more;

@@ -10,8 +10,8 @@ use Rattle.semilinear.specs.DecodeForm.{read_rows}
 use Rattle.semilinear.specs.Scan.{AtomsEnd}
 use Rattle.made.specs.Made.{Room, Makes}
 use Rattle.views.specs.declared.View.{View}
-use Rattle.views.specs.Views.{found_at, view_at, InGroup, Views, Readable}
-use Rattle.views.specs.Bases.{first_rows, FirstAre}
+use Rattle.views.specs.Views.{found_at, view_at, basis_bytes, InGroup, Views, Readable}
+use Rattle.views.specs.Bases.{first_rows, FirstAre, NoneBefore}
 use Rattle.group.specs.declared.Group.{Group}
 
 -- ---- the form
@@ -44,13 +44,14 @@ pub record AllReady (only : Tree → Bool) (w : ℕ) (f : List ℕ) (views : Lis
   pub room : Room made out
   pub made_few : made.rows ≤ atom_limit
 
--- row x, of n, names a basis, over which k atoms can be made
+-- row x, of n, names a basis, which no row before it has, and over which k atoms can be made
 pub record AtReady (w k : ℕ) (f : List ℕ) (views : List (Option View)) (x n : ℕ) (made : Made) (out : List ℕ) : Type 0 where
   pub width : w ≤ 64
   pub readable : Readable f views n
   pub few : n ≤ atom_limit
   pub within : x < n
   pub some : found_at views x ≡ Some (view_at views x)
+  pub none_before : NoneBefore f views (view_at views x).hash (basis_bytes f (view_at views x)) x
   pub in_group : InGroup w f (view_at views x)
   pub room : Room made out
   pub more : made.rows + k < 2 ^ 64

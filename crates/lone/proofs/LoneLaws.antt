@@ -1,12 +1,12 @@
 -- Laws of specs/Lone.antt: the group of a basis that one row alone has, its entry, what refining and settling make of it.
 use Rattle.made.specs.declared.Made.{Made}
 use mathlib.Core.Path.{◌≡◌, refl, ap, ◌∙◌}
-use Prim.Native.Nat.{ℕ, ◌+◌, ◌-◌, ◌≤◌, ◌<◌}
+use Prim.Native.Nat.{ℕ, ◌+◌, ◌≤◌, ◌<◌}
 use native.Mathlib.Omega.{arith}
 use native.Mathlib.Decide.{dec_lt, ℕ_discrete}
 use mathlib.Core.List.{List}
 use mathlib.Core.Bool.{true, false}
-use lib.ListN.{length, get_or, drop, length-take}
+use lib.ListN.{length, get_or}
 use Rattle.base.specs.Loop.{for_in}
 use Rattle.base.proofs.ListsLaws.{eq_list_self}
 use Rattle.base.proofs.LoopLaws.{for_ind, for_none, for_more}
@@ -22,9 +22,9 @@ use Rattle.entries.specs.Marks.{blank}
 use Rattle.entries.specs.Tests.{cut_of, drops_of, becomes_minus_one, NoSingle, NoMerge}
 use Rattle.group.specs.Collapse.{three_term_collapse}
 use Rattle.std.specs.Prelude.{Option, Some}
-use Rattle.views.specs.Views.{found_at, view_at, basis_bytes, has_basis, InGroup}
+use Rattle.views.specs.Views.{found_at, view_at, basis_bytes, has_basis}
 use Rattle.group.specs.Gathered.{gather_at, gathered, add_word, settle_word, settle_word_at, settle_words}
-use Rattle.lone.specs.Lone.{LoneReady, lone_group, live_entry, Stays}
+use Rattle.lone.specs.Lone.{LoneReady, FirstReady, lone_group, live_entry, Stays}
 use Rattle.views.proofs.HasBasisLaws.{basis_same}
 use Rattle.group.proofs.GatherLaws.{gather_same, gather_push}
 use Rattle.group.proofs.EntryLaws.{sized_empty, at_push, used_at, length_used}
@@ -98,6 +98,10 @@ at_lone {f = f} {views} {x} h =
       within = h.within;
       has_basis_lem = ap (λ (o : Option View). has_basis f o v.hash (basis_bytes f v)) h.some ∙ own_basis f v;
     }
+
+pub at_first : {w k : ℕ} {f : List ℕ} {views : List (Option View)} {x n : ℕ} {made : Made} {out : List ℕ} → AtReady w k f views x n made out
+    → FirstReady f views (view_at views x).hash (basis_bytes f (view_at views x)) x n
+at_first h = record { lone = at_lone h; none_before = h.none_before }
 
 -- ---- its entry
 

@@ -6,6 +6,7 @@ use Rattle.entries.specs.declared.Mark.TheVariants.{Live}
 use Rattle.group.specs.Group.{Entry, empty_group, push_entry}
 use Rattle.entries.specs.Tests.{cut_of, drops_of, becomes_minus_one}
 use Rattle.views.specs.Views.{found_at, view_at, has_basis, Readable}
+use Rattle.views.specs.Bases.{NoneBefore}
 use Rattle.group.specs.Gathered.{gathered}
 
 -- row x, of n, has the basis b with this hash
@@ -13,6 +14,11 @@ pub record LoneReady (f : List ℕ) (views : List (Option View)) (hash : ℕ) (b
   pub readable : Readable f views n
   pub within : x < n
   pub has_basis_lem : has_basis f (found_at views x) hash b ≡ true
+
+-- and no row before it has it
+pub record FirstReady (f : List ℕ) (views : List (Option View)) (hash : ℕ) (b : List ℕ) (x n : ℕ) : Type 0 where
+  pub lone : LoneReady f views hash b x n
+  pub none_before : NoneBefore f views hash b x
 
 -- the group of row i alone
 unfoldable pub lone_group : View → ℕ → Group

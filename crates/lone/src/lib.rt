@@ -4,7 +4,7 @@
 ghost use Rattle.std.specs.Prelude.{◌≡◌, true, false, ℕ, ◌<◌, ◌≤◌};
 ghost use Rattle.views.specs.Views.{found_at, view_at, has_basis, Readable};
 ghost use Rattle.group.specs.Gathered.{gathered};
-ghost use Rattle.lone.specs.Lone.{LoneReady, lone_group, Stays, StaysAlone};
+ghost use Rattle.lone.specs.Lone.{LoneReady, FirstReady, lone_group, Stays, StaysAlone};
 
 use entries::Entry;
 use views::View;
@@ -37,7 +37,24 @@ pub fn is_lone(
         → gathered f.now views.now hash b.now n
         ≡ lone_group (view_at views.now first) first }
 {
-    none_has(0, first, hash, b, views, f) && none_has(first + 1, n, hash, b, views, f)
+    none_has(0, first, hash, b, views, f) && first_is_lone(first, n, hash, b, views, f)
+}
+
+// The same where no row before `first` has the basis: those behind it are looked at.
+pub fn first_is_lone(
+    first: usize,
+    n: usize,
+    hash: u64,
+    b: &[u8],
+    views: &[Option<View>],
+    f: &[u8],
+) -> bool
+    requires { FirstReady f.now views.now hash b.now first n }
+    ensures { result ≡ true
+        → gathered f.now views.now hash b.now n
+        ≡ lone_group (view_at views.now first) first }
+{
+    none_has(first + 1, n, hash, b, views, f)
 }
 
 // Whether refining leaves an entry of the coefficient c and the mask m, which is alone, as it is.
@@ -69,4 +86,22 @@ pub fn stays_alone(
 {
     let v = views[first].unwrap();
     stays(v.coeff, v.mask, w) && is_lone(first, n, hash, b, views, f)
+}
+
+// The same where no row before `first` has the basis.
+pub fn first_stays_alone(
+    first: usize,
+    n: usize,
+    hash: u64,
+    b: &[u8],
+    views: &[Option<View>],
+    f: &[u8],
+    w: u32,
+) -> bool
+    requires { (w ≤ 64) × FirstReady f.now views.now hash b.now first n }
+    ensures { result ≡ true → StaysAlone w f.now views.now hash
+        b.now n first }
+{
+    let v = views[first].unwrap();
+    stays(v.coeff, v.mask, w) && first_is_lone(first, n, hash, b, views, f)
 }

@@ -46,7 +46,7 @@ fn refine_at(
 {
     let v = views[first].unwrap();
     let b = &f[v.start..v.end];
-    if lone::stays_alone(first, n, v.hash, b, views, f, w as u32) {
+    if lone::first_stays_alone(first, n, v.hash, b, views, f, w as u32) {
         settle::add_word(coeffs, first as u64, v.coeff, w as u32);
         return;
     }

@@ -5,6 +5,7 @@ pub mod GroupsLaws
 pub mod HasBasisLaws
 pub mod InsertLaws
 pub mod NextBasisLaws
+pub mod NoneBeforeLaws
 pub mod ReadLaws
 pub mod SplitLaws
 pub mod ViewLaws

@@ -14,9 +14,10 @@ use Rattle.semilinear.specs.Form.{Row}
 use Rattle.views.specs.Grouping.{bases_of}
 use Rattle.views.specs.declared.View.{View}
 use Rattle.views.specs.Views.{found_at, view_at, basis_bytes, InGroup, Views}
-use Rattle.views.specs.Bases.{first_rows, trees_of, FirstAre}
+use Rattle.views.specs.Bases.{first_rows, trees_of, FirstAre, NoneBefore}
 use Rattle.views.proofs.InsertLaws.{each_get_or}
 use Rattle.views.proofs.FirstRowsLaws.{Named, first_rows_lem, first_trees}
+use Rattle.views.proofs.NoneBeforeLaws.{IsFirst, rows_first}
 
 module _ (f : List ℕ) (views : List (Option View)) where
   length_trees : (l : List ℕ) → length (trees_of f views l) ≡ length l
@@ -36,6 +37,7 @@ pub record NextBasis (only : Tree → Bool) (w : ℕ) (f : List ℕ) (views : Li
     : Type 0 where
   pub below : x < length rows
   pub some : found_at views x ≡ Some (view_at views x)
+  pub none_before : NoneBefore f views (view_at views x).hash (basis_bytes f (view_at views x)) x
   pub group : InGroup w f (view_at views x)
   pub next : drop k (bases_of only w rows [])
       ≡ decode (basis_bytes f (view_at views x)) ∷ drop (k + 1) (bases_of only w rows [])
@@ -53,10 +55,14 @@ module _ (only : Tree → Bool) (w : ℕ) (f : List ℕ) (views : List (Option V
       let named : Named views (length rows) (get_or bases k 0) =
       subst (Named views (length rows)) (sym e)
       (each_get_or (Named views (length rows)) first (first_rows_lem f views (length rows)).named k in-first) in
+      let is-first : IsFirst f views (get_or bases k 0) =
+      subst (IsFirst f views) (sym e)
+      (each_get_or (IsFirst f views) first (rows_first f views (length rows)) k in-first) in
       let one : k + 1 ≡ suc k = omega arith in
       record {
         below = named.below;
         some = named.some;
+        none_before = is-first;
         group = (h.each (get_or bases k 0) named.below).in_group _ named.some;
         next = rw (one, e, ← first_trees only w f views rows h) (drop_trees f views first k in-first);
       }

@@ -1,7 +1,7 @@
 -- `coalesce_at` meets its contract: the view of the row names the basis.
 use mathlib.Core.Path.{refl}
 use Rattle.views.specs.Views.{basis_bytes}
-use Rattle.lone.proofs.LoneLaws.{at_lone}
+use Rattle.lone.proofs.LoneLaws.{at_first}
 use Rattle.group.proofs.PassLaws.{at_group}
 use Rattle.coalesce.proofs.CoalesceTurnLaws.{lone_turn}
 use Rattle.views.proofs.ViewsLaws.{view_some}
@@ -10,17 +10,17 @@ use Rattle.coalesce.proofs.coalesce_at.Goals as goal
 pub unwrap-v-requires : goal.unwrap-v-requires
 unwrap-v-requires c = rw c.requires.some refl
 
-pub is_lone-requires : goal.is_lone-requires
+pub first_is_lone-requires : goal.first_is_lone-requires
 unfolding basis_bytes
-is_lone-requires c = rw (← view_some c.args.views.now c.args.first c.unwrap-v.ensures) (at_lone c.requires)
+first_is_lone-requires c = rw (← view_some c.args.views.now c.args.first c.unwrap-v.ensures) (at_first c.requires)
 
-pub returns-then-is_lone : goal.returns-then-is_lone
+pub returns-then-first_is_lone : goal.returns-then-first_is_lone
 unfolding basis_bytes
-returns-then-is_lone c =
+returns-then-first_is_lone c =
     let a = c.args in
     let v = c.unwrap-v.result in
     let e = view_some c.args.views.now c.args.first c.unwrap-v.ensures in
-    let lone = rw e at (c.is_lone.ensures c.if-is_lone.true) in
+    let lone = rw e at (c.first_is_lone.ensures c.if-first_is_lone.true) in
     rw e
     (lone_turn a.f.now a.views.now v.hash (basis_bytes a.f.now v) a.n refl c.requires.few a.w _ v a.first
     c.requires.width c.requires.room lone c.add_word.ensures)

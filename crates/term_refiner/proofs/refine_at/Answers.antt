@@ -1,7 +1,7 @@
 -- `refine_at` meets its contract: the view of the row names the basis.
 use mathlib.Core.Path.{refl}
 use Rattle.views.specs.Views.{basis_bytes}
-use Rattle.lone.proofs.LoneLaws.{at_lone}
+use Rattle.lone.proofs.LoneLaws.{at_first}
 use Rattle.group.proofs.PassLaws.{at_group}
 use Rattle.refine_group.proofs.RefiningLaws.{lone_refined}
 use Rattle.views.proofs.ViewsLaws.{view_some}
@@ -10,16 +10,16 @@ use Rattle.term_refiner.proofs.refine_at.Goals as goal
 pub unwrap-v-requires : goal.unwrap-v-requires
 unwrap-v-requires c = rw c.requires.some refl
 
-pub stays_alone-requires : goal.stays_alone-requires
+pub first_stays_alone-requires : goal.first_stays_alone-requires
 unfolding basis_bytes
-stays_alone-requires c =
-    (c.requires.width, rw (← view_some c.args.views.now c.args.first c.unwrap-v.ensures) (at_lone c.requires))
+first_stays_alone-requires c =
+    (c.requires.width, rw (← view_some c.args.views.now c.args.first c.unwrap-v.ensures) (at_first c.requires))
 
-pub returns-then-stays_alone : goal.returns-then-stays_alone
+pub returns-then-first_stays_alone : goal.returns-then-first_stays_alone
 unfolding basis_bytes
-returns-then-stays_alone c =
+returns-then-first_stays_alone c =
     let e = view_some c.args.views.now c.args.first c.unwrap-v.ensures in
-    let alone = c.stays_alone.ensures c.if-stays_alone.true in
+    let alone = c.first_stays_alone.ensures c.if-first_stays_alone.true in
     rw e
     (lone_refined _ (c.unwrap-v.result) _ c.requires.width c.requires.room
     (rw e at alone.lone) (rw e at alone.stays) c.add_word.ensures)
