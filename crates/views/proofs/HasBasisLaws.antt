@@ -16,7 +16,8 @@ use Rattle.expr.specs.Hash.{structural_hash}
 use Rattle.semilinear.specs.Form.{Row, eq_tree}
 use Rattle.views.specs.declared.View.{View}
 use Rattle.made.specs.Made.{Basis}
-use Rattle.views.specs.Views.{basis_bytes, InGroup, Views, Readable, has_basis}
+use Rattle.views.specs.Views.{found_at, view_at, basis_bytes, InGroup, Views, Readable, has_basis}
+use Rattle.views.proofs.ViewsLaws.{found_case}
 
 -- fewer rows
 pub readable_fewer : {f : List ℕ} {views : List (Option View)} {n : ℕ} → Readable f views n → (m : ℕ) → m ≤ n → Readable f views m
@@ -82,3 +83,10 @@ module _ (f : List ℕ) (v : View) (hash : ℕ) (b : List ℕ) where
         go (yes e) x p = basis_same e ∙ sym bytes_tree
         go (no m) true p = absurd (m (tree_hash p))
         go (no m) false p = basis_other m ∙ sym p
+
+-- a row with another hash has another basis
+pub other_hash : (f : List ℕ) (views : List (Option View)) (x hash : ℕ) (b : List ℕ) → ((view_at views x).hash ≡ hash → ⊥)
+    → has_basis f (found_at views x) hash b ≡ false
+other_hash f views x hash b n =
+    found_case views x (λ z. basis_ungrouped f (found_at views x) hash b z)
+    (λ s. rw s (basis_other f (view_at views x) hash b n))
