@@ -12,7 +12,7 @@ ghost use Rattle.semilinear.specs.PassOutcome.{limit_outcome};
 ghost use Rattle.views.specs.Grouping.{variable_basis, bases_of};
 ghost use Rattle.views.specs.Views.{view_at, basis_bytes};
 ghost use Rattle.group.specs.Gathered.{gathered};
-ghost use Rattle.group.specs.Ready.{FormReady, AllReady, AtReady, GroupReady};
+ghost use Rattle.group.specs.Ready.{FormReady, AllReady, AtFirst, GroupReady};
 ghost use Rattle.structure_laws.specs.CoalesceTerms.{coalesce_group, coalesce_all};
 ghost use Rattle.structure_laws.specs.CoalesceTerms.{coalesce_form, coalesce_terms};
 ghost use Rattle.carried.specs.Coalescing.{Coalesced, RowsCoalesced};
@@ -75,7 +75,7 @@ fn coalesce_at(
     coeffs: &mut [u64],
     out: &mut [u8],
 )
-    requires { AtReady w 64 f.now views.now first n made.old out.old }
+    requires { AtFirst w 64 f.now views.now first n made.old out.old }
     ensures { Coalesced w n 64
         (coalesce_group w (decode (basis_bytes f.now (view_at views.now first)))
         (gathered f.now views.now (view_at views.now first).hash

@@ -34,7 +34,7 @@ use Rattle.views.specs.declared.View.{View}
 use Rattle.views.specs.Views.{view_at, basis_bytes, ViewsReady, ViewsRead, Readable}
 use Rattle.views.specs.Bases.{first_rows, FirstAre}
 use Rattle.group.specs.Gathered.{gathered}
-use Rattle.group.specs.Ready.{FormReady, BasesFound, AllReady, AtReady, GroupReady}
+use Rattle.group.specs.Ready.{FormReady, BasesFound, AllReady, AtReady, AtFirst, GroupReady}
 use Rattle.group.proofs.ExtendsLaws.{ungrouped_length, ungrouped_bare}
 use Rattle.views.proofs.FirstRowsLaws.{first_rows_lem}
 use Rattle.group.proofs.GatherLaws.{gather_group, len_gathered}
@@ -216,11 +216,17 @@ all_at h i lt room more =
       few = h.found.few;
       within = omega (arith, next.below, h.found.number);
       some = next.some;
-      none_before = next.none_before;
       in_group = next.group;
       room = room;
       more = more;
     }
+
+-- which is the first row of its basis
+pub all_first : {only : Tree → Bool} {w : ℕ} {f : List ℕ} {views : List (Option View)} {bases : List ℕ} {n count : ℕ} {made : Made} {out : List ℕ}
+    → AllReady only w f views bases n count made out → (i : ℕ) → i < count
+    → {k : ℕ} {made' : Made} {out' : List ℕ} → Room made' out' → made'.rows + k < 2 ^ 64
+    → AtFirst w k f views (get_or bases i 0) n made' out'
+all_first h i lt room more = record { ready = all_at h i lt room more; none_before = (next_at h.found i lt).none_before }
 
 pub at_group : {w k : ℕ} {f : List ℕ} {views : List (Option View)} {x n : ℕ} {made : Made} {out : List ℕ} → AtReady w k f views x n made out
     → GroupReady w k (view_at views x).hash (basis_bytes f (view_at views x)) f views n made out

@@ -44,17 +44,21 @@ pub record AllReady (only : Tree → Bool) (w : ℕ) (f : List ℕ) (views : Lis
   pub room : Room made out
   pub made_few : made.rows ≤ atom_limit
 
--- row x, of n, names a basis, which no row before it has, and over which k atoms can be made
+-- row x, of n, names a basis, over which k atoms can be made
 pub record AtReady (w k : ℕ) (f : List ℕ) (views : List (Option View)) (x n : ℕ) (made : Made) (out : List ℕ) : Type 0 where
   pub width : w ≤ 64
   pub readable : Readable f views n
   pub few : n ≤ atom_limit
   pub within : x < n
   pub some : found_at views x ≡ Some (view_at views x)
-  pub none_before : NoneBefore f views (view_at views x).hash (basis_bytes f (view_at views x)) x
   pub in_group : InGroup w f (view_at views x)
   pub room : Room made out
   pub more : made.rows + k < 2 ^ 64
+
+-- and no row before it has this basis
+pub record AtFirst (w k : ℕ) (f : List ℕ) (views : List (Option View)) (x n : ℕ) (made : Made) (out : List ℕ) : Type 0 where
+  pub ready : AtReady w k f views x n made out
+  pub none_before : NoneBefore f views (view_at views x).hash (basis_bytes f (view_at views x)) x
 
 -- n rows can be gathered, and k atoms made over the basis b
 pub record GroupReady (w k hash : ℕ) (b f : List ℕ) (views : List (Option View)) (n : ℕ) (made : Made) (out : List ℕ)

@@ -16,7 +16,7 @@ use Rattle.views.specs.declared.View.{View}
 use Rattle.group.specs.Group.{Entry, used, at, is_live, empty_group, push_entry}
 use Rattle.made.specs.Made.{Room}
 use Rattle.group.specs.Made.{Stepped}
-use Rattle.group.specs.Ready.{AtReady}
+use Rattle.group.specs.Ready.{AtReady, AtFirst}
 use Rattle.group.specs.Stages.{cut_and_drop, merge_all}
 use Rattle.entries.specs.Marks.{blank}
 use Rattle.entries.specs.Tests.{cut_of, drops_of, becomes_minus_one, NoSingle, NoMerge}
@@ -99,9 +99,9 @@ at_lone {f = f} {views} {x} h =
       has_basis_lem = ap (λ (o : Option View). has_basis f o v.hash (basis_bytes f v)) h.some ∙ own_basis f v;
     }
 
-pub at_first : {w k : ℕ} {f : List ℕ} {views : List (Option View)} {x n : ℕ} {made : Made} {out : List ℕ} → AtReady w k f views x n made out
+pub at_first : {w k : ℕ} {f : List ℕ} {views : List (Option View)} {x n : ℕ} {made : Made} {out : List ℕ} → AtFirst w k f views x n made out
     → FirstReady f views (view_at views x).hash (basis_bytes f (view_at views x)) x n
-at_first h = record { lone = at_lone h; none_before = h.none_before }
+at_first h = record { lone = at_lone h.ready; none_before = h.none_before }
 
 -- ---- its entry
 

@@ -10,7 +10,7 @@ ghost use Rattle.semilinear.specs.PassOutcome.{limit_outcome};
 ghost use Rattle.views.specs.Grouping.{any_basis, bases_of};
 ghost use Rattle.views.specs.Views.{view_at, basis_bytes};
 ghost use Rattle.group.specs.Gathered.{gathered};
-ghost use Rattle.group.specs.Ready.{FormReady, AllReady, AtReady, GroupReady};
+ghost use Rattle.group.specs.Ready.{FormReady, AllReady, AtFirst, GroupReady};
 ghost use Rattle.structure_laws.specs.RecoverStructure.{recover_form, recover_structure};
 ghost use Rattle.pairing.specs.Recovering.{GroupRecovered, AllRecovered, RowsRecovered};
 ghost use Rattle.base.specs.Limits.{atom_limit, form_bytes};
@@ -68,7 +68,7 @@ fn recover_at(
     coeffs: &mut [u64],
     out: &mut [u8],
 )
-    requires { AtReady w atom_limit f.now views.now first n made.old out.old }
+    requires { AtFirst w atom_limit f.now views.now first n made.old out.old }
     ensures { GroupRecovered w atom_limit
         (decode (basis_bytes f.now (view_at views.now first)))
         (gathered f.now views.now (view_at views.now first).hash

@@ -12,7 +12,7 @@ ghost use Rattle.semilinear.specs.PassOutcome.{limit_outcome};
 ghost use Rattle.views.specs.Grouping.{any_basis, bases_of};
 ghost use Rattle.views.specs.Views.{view_at, basis_bytes};
 ghost use Rattle.group.specs.Gathered.{gathered};
-ghost use Rattle.group.specs.Ready.{FormReady, AllReady, AtReady};
+ghost use Rattle.group.specs.Ready.{FormReady, AllReady, AtFirst};
 ghost use Rattle.refiner_laws.specs.RefineTerms.{refine_form, refine_terms};
 ghost use Rattle.refiner_laws.specs.Refining.{GroupRefined, AllRefined, RowsRefined};
 ghost use Rattle.base.specs.Limits.{atom_limit, form_bytes};
@@ -36,7 +36,7 @@ fn refine_at(
     coeffs: &mut [u64],
     out: &mut [u8],
 )
-    requires { AtReady w 262144 f.now views.now first n made.old out.old }
+    requires { AtFirst w 262144 f.now views.now first n made.old out.old }
     ensures { GroupRefined w 262144
         (decode (basis_bytes f.now (view_at views.now first)))
         (gathered f.now views.now (view_at views.now first).hash

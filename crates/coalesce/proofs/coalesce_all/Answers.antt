@@ -4,7 +4,7 @@ use native.Mathlib.Omega.{arith}
 use Rattle.semilinear.specs.Items.{after_atoms}
 use Rattle.semilinear.specs.DecodeForm.{read_rows}
 use Rattle.views.specs.Grouping.{variable_basis, bases_of}
-use Rattle.group.proofs.PassLaws.{count_few, count_taken, taken_at, next_at, end_at, group_at, all_at}
+use Rattle.group.proofs.PassLaws.{count_few, count_taken, taken_at, next_at, end_at, group_at, all_first}
 use Rattle.coalesce.proofs.CoalesceTurnLaws.{all_none, all_next, all_done}
 use Rattle.coalesce.proofs.coalesce_all.Goals as goal
 
@@ -20,7 +20,7 @@ coalesce_at-requires c =
     let less = rw (count_taken pre.found) at c.loop-first-test.true in
     let few = count_few pre.found in
     rw (taken_at pre.found c.loop-first.first-index less)
-    (all_at pre c.loop-first.first-index less going.room
+    (all_first pre c.loop-first.first-index less going.room
     (omega (arith, going.rows_le, pre.made_few, less, few, pre.found.few)))
 
 pub loop-first-preserved : goal.loop-first-preserved

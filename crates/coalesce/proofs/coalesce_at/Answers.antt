@@ -8,7 +8,7 @@ use Rattle.views.proofs.ViewsLaws.{view_some}
 use Rattle.coalesce.proofs.coalesce_at.Goals as goal
 
 pub unwrap-v-requires : goal.unwrap-v-requires
-unwrap-v-requires c = rw c.requires.some refl
+unwrap-v-requires c = rw c.requires.ready.some refl
 
 pub first_is_lone-requires : goal.first_is_lone-requires
 unfolding basis_bytes
@@ -22,12 +22,12 @@ returns-then-first_is_lone c =
     let e = view_some c.args.views.now c.args.first c.unwrap-v.ensures in
     let lone = rw e at (c.first_is_lone.ensures c.if-first_is_lone.true) in
     rw e
-    (lone_turn a.f.now a.views.now v.hash (basis_bytes a.f.now v) a.n refl c.requires.few a.w _ v a.first
-    c.requires.width c.requires.room lone c.add_word.ensures)
+    (lone_turn a.f.now a.views.now v.hash (basis_bytes a.f.now v) a.n refl c.requires.ready.few a.w _ v a.first
+    c.requires.ready.width c.requires.ready.room lone c.add_word.ensures)
 
 pub coalesce_group-requires : goal.coalesce_group-requires
 unfolding basis_bytes
-coalesce_group-requires c = rw (← view_some c.args.views.now c.args.first c.unwrap-v.ensures) (at_group c.requires)
+coalesce_group-requires c = rw (← view_some c.args.views.now c.args.first c.unwrap-v.ensures) (at_group c.requires.ready)
 
 pub returns : goal.returns
 unfolding basis_bytes

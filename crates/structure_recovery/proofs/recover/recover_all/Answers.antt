@@ -1,7 +1,7 @@
 -- `recover_all` meets its contract: after k turns k groups are recovered; a full table ends the loop.
 use mathlib.Core.Path.{sym, ◌∙◌}
 use native.Mathlib.Omega.{arith}
-use Rattle.group.proofs.PassLaws.{count_few, count_taken, taken_at, next_at, end_at, group_at, all_at}
+use Rattle.group.proofs.PassLaws.{count_few, count_taken, taken_at, next_at, end_at, group_at, all_first}
 use Rattle.structure_recovery.proofs.AllRecoveredLaws.{going_start, going_next, going_stop, going_done}
 use Rattle.structure_recovery.proofs.recover.recover_all.Goals as goal
 
@@ -24,7 +24,7 @@ recover_at-requires c =
     let less = rw (count_taken pre.found) at c.loop-first-test.true in
     let few = count_few pre.found in
     rw (taken_at pre.found c.loop-first.first-index less)
-    (all_at pre c.loop-first.first-index less going.room
+    (all_first pre c.loop-first.first-index less going.room
     (omega (arith, going.rows_le, pre.made_few, less, few, pre.found.few)))
 
 pub loop-first-preserved : goal.loop-first-preserved
